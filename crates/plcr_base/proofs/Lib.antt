@@ -1,0 +1,4 @@
+pub mod Appended
+pub mod Chained
+pub mod Gained
+pub mod Risen

@@ -1,0 +1,11 @@
+pub mod Smaller
+pub mod Scans
+pub mod Listed
+pub mod Again
+pub mod Bounded
+pub mod AgainLeaves
+pub mod AgainNodes
+pub mod AgainReport
+pub mod Bounds
+pub mod Lines
+pub mod Ends

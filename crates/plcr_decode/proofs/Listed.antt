@@ -1,0 +1,62 @@
+-- One field of a message at a time.
+use Rattle.std.proofs.Common.{◌≡◌, ℕ, zero, suc, ◌≤◌, ◌==◌, List, [], ◌∷◌, ◌++◌, length, Result, Ok, Err, Bool, cond, true, false, refl, sym, ap, ◌∙◌, append-nil, arith}
+use Rattle.plcr_wire.specs.Message.{Field, value_bytes}
+use Rattle.plcr_wire.specs.Reading.{field_at, number_at}
+use Rattle.plcr_wire.specs.declared.fields.WireFault.{WireFault}
+use Rattle.plcr_decode.specs.Fields.{front_of, fields_within, fields_of, messages_in, together, joined}
+use Rattle.plcr_decode.proofs.Smaller.{field_smaller}
+
+-- what follows a field may be listed by any number of steps that is enough
+front_same : (r : Result (Field × List ℕ) WireFault) (f g : List ℕ → List Field) → ((x : Field × List ℕ) → r ≡ Ok x → f x.1 ≡ g x.1) → front_of f r ≡ front_of g r
+front_same (Ok x) f g h = ap (λ l. x.0 ∷ l) (h x refl)
+front_same (Err e) f g h = refl
+
+none_at : (end : ℕ) (more : List ℕ → List Field) → front_of more (field_at end []) ≡ []
+unfolding field_at number_at
+none_at end more = refl
+
+fields_enough : (j k : ℕ) (bytes : List ℕ) → length bytes ≤ j → length bytes ≤ k → fields_within j bytes ≡ fields_within k bytes
+fields_enough zero zero bytes p q = refl
+fields_enough zero (suc k) [] p q = sym (none_at 0 (fields_within k))
+fields_enough zero (suc k) (b ∷ bs) p q = absurd (omega arith)
+fields_enough (suc j) zero [] p q = none_at 0 (fields_within j)
+fields_enough (suc j) zero (b ∷ bs) p q = absurd (omega arith)
+fields_enough (suc j) (suc k) bytes p q =
+    front_same (field_at (length bytes) bytes) (fields_within j) (fields_within k) (λ x h.
+    let small = field_smaller (length bytes) bytes x h in
+    fields_enough j k x.1 (omega arith) (omega arith))
+
+pub fields_none : fields_of [] ≡ []
+unfolding fields_of
+fields_none = refl
+
+pub fields_front : (bytes : List ℕ) → fields_of bytes ≡ front_of fields_of (field_at (length bytes) bytes)
+unfolding fields_of
+fields_front [] = sym (none_at 0 (λ bytes. fields_within (length bytes) bytes))
+fields_front (b ∷ bs) =
+    front_same (field_at (length (b ∷ bs)) (b ∷ bs)) (fields_within (length bs)) (λ bytes. fields_within (length bytes) bytes) (λ x h.
+    let small = field_smaller (length (b ∷ bs)) (b ∷ bs) x h in
+    fields_enough (length bs) (length x.1) x.1 (omega arith) (omega arith))
+
+pub fields_step : (bytes : List ℕ) (x : Field × List ℕ) → field_at (length bytes) bytes ≡ Ok x → fields_of bytes ≡ x.0 ∷ fields_of x.1
+fields_step bytes x h = fields_front bytes ∙ ap (front_of fields_of) h
+
+pub fields_fault : (bytes : List ℕ) (e : WireFault) → field_at (length bytes) bytes ≡ Err e → fields_of bytes ≡ []
+fields_fault bytes e h = fields_front bytes ∙ ap (front_of fields_of) h
+
+pub fields_alone : (bytes : List ℕ) → fields_of bytes ++ joined 0 (fields_of []) ≡ fields_of bytes
+fields_alone bytes = rw fields_none (append-nil (fields_of bytes))
+
+together_step : (b : Bool) (bytes : List ℕ) (others : List (List Field)) → together (cond b (fields_of bytes ∷ others) others) ≡ fields_of (cond b bytes []) ++ together others
+together_step true bytes others = refl
+together_step false bytes others = rw fields_none refl
+
+-- the parts after those of one field
+pub joined_step : (n : ℕ) (f : Field) (fs : List Field) → joined n (f ∷ fs) ≡ fields_of (cond (f.number == n) (value_bytes f.value) []) ++ joined n fs
+joined_step n f fs = together_step (f.number == n) (value_bytes f.value) (messages_in n fs)
+
+-- the fields left, once a part is done and the next begins
+pub next_part : (n : ℕ) (f : Field) (part outer rest new : List ℕ) → fields_of part ≡ [] → fields_of outer ≡ f ∷ fields_of rest → new ≡ cond (f.number == n) (value_bytes f.value) []
+    → fields_of new ++ joined n (fields_of rest) ≡ fields_of part ++ joined n (fields_of outer)
+next_part n f part outer rest new done begins e =
+    rw (done, begins) (ap (λ l. fields_of l ++ joined n (fields_of rest)) e ∙ sym (joined_step n f (fields_of rest)))

@@ -1,0 +1,9 @@
+pub mod Fields
+pub mod Scan
+pub mod Views
+pub mod Required
+pub mod Values
+pub mod Reads
+pub mod Fits
+pub mod Text
+pub mod Words

@@ -1,0 +1,174 @@
+//! The fields of a message, whose parts may stand in several places.
+ghost use Rattle.std.specs.Prelude.{◌≡◌, ◌∷◌, [], ◌+◌, ◌<◌, ◌≤◌, ◌==◌, length, IfSome, MatchOption, if◌then◌else◌};
+ghost use Rattle.plcr_wire.specs.Message.{value_bytes};
+ghost use Rattle.plcr_wire.specs.Reading.{piece, content, content_len};
+ghost use Rattle.plcr_decode.specs.Fields.{fields_of, messages_in, joined, last_or, last_value, has, number_in, text_in, or_zero, or_empty, shown};
+ghost use Rattle.plcr_decode.specs.Views.{told};
+ghost use Rattle.plcr_decode.specs.Fields as spec;
+ghost use Rattle.plcr_decode.specs.Views.{left, size};
+
+use crate::scanning::text_of;
+use plcr_wire::{Content, Piece, field_of};
+
+/// The fields that are left of a message: those of its present part, and those of the parts that stand in the
+/// fields of one number of the message around it.
+#[derive(Clone, Copy)]
+pub(crate) struct Fields<'a> {
+    part: &'a [u8],
+    outer: &'a [u8],
+    number: u32,
+}
+
+/// The field that these bytes begin with; none at a fault.
+#[tactic(auto, using(crate::proofs::Listed::fields_step))]
+fn first(bytes: &[u8]) -> Option<Piece<'_>>
+    ensures first { MatchOption result (fields_of bytes.now ≡ []) (λ p. fields_of bytes.now ≡ (piece p).0 ∷ fields_of p.rest.now) }
+    ensures shorter { IfSome result (λ p. content_len p.value + length p.rest.now < length bytes.now) }
+{
+    match field_of(bytes, bytes.len()) {
+        Ok(piece) => Some(piece),
+        Err(_) => None,
+    }
+}
+
+/// What stands in a field, if it is of this number.
+fn part_of<'a>(piece: Piece<'a>, number: u32) -> &'a [u8]
+    ensures part { result.now ≡ (if piece.entry.number == number then value_bytes (content piece.entry.value) else []) }
+    ensures within { length result.now ≤ content_len piece.entry.value }
+{
+    if piece.number == number {
+        text_of(piece.value)
+    } else {
+        &[]
+    }
+}
+
+/// The later of two values: that of this field, if it is of this number.
+fn later<'a>(before: Option<Content<'a>>, piece: Piece<'a>, number: u32) -> Option<Content<'a>>
+    ensures { shown result ≡ (if piece.entry.number == number then Some (content piece.entry.value) else shown before.entry) }
+{
+    if piece.number == number {
+        Some(piece.value)
+    } else {
+        before
+    }
+}
+
+impl<'a> Fields<'a> {
+    /// The fields of a message that stands in one place.
+    #[tactic(auto, using(crate::proofs::Listed::fields_alone))]
+    pub(crate) fn of(bytes: &'a [u8]) -> Fields<'a>
+        ensures { left result ≡ fields_of bytes.now }
+    {
+        Fields {
+            part: bytes,
+            outer: &[],
+            number: 0,
+        }
+    }
+
+    /// The fields of the one message whose parts stand in these fields of the message around it.
+    #[tactic(auto, using(crate::proofs::Listed::fields_none))]
+    pub(crate) fn joined(outer: &'a [u8], number: u32) -> Fields<'a>
+        ensures { left result ≡ joined number (fields_of outer.now) }
+    {
+        Fields {
+            part: &[],
+            outer,
+            number,
+        }
+    }
+
+    /// The next field.
+    pub(crate) fn next(&mut self) -> Option<Piece<'a>>
+        ensures next { MatchOption result (left self.old ≡ []) (λ p. left self.old ≡ (piece p).0 ∷ left self.new) }
+        ensures smaller { IfSome result (λ p. size self.new < size self.old) }
+    {
+        loop {
+            match first(self.part) {
+                Some(piece) => {
+                    self.part = piece.rest;
+                    return Some(piece);
+                }
+                None => {
+                    let piece = first(self.outer)?;
+                    self.outer = piece.rest;
+                    self.part = part_of(piece, self.number);
+                }
+            }
+        }
+    }
+
+    /// The value of the last field of this number.
+    fn last(self, number: u32) -> Option<Content<'a>>
+        ensures { shown result ≡ last_value number (left self.entry) }
+    {
+        let mut left = self;
+        let mut last = None;
+        while let Some(piece) = left.next() {
+            last = later(last, piece, number);
+        }
+        last
+    }
+
+    /// Whether a field of this number stands there.
+    pub(crate) fn has(self, number: u32) -> bool
+        ensures { result ≡ has number (left self.entry) }
+    {
+        self.last(number).is_some()
+    }
+
+    /// The number that stands in the last field of this number.
+    pub(crate) fn number(self, number: u32) -> Option<u64>
+        ensures { result ≡ number_in number (left self.entry) }
+    {
+        match self.last(number) {
+            None => None,
+            Some(Content::Number(value)) => Some(value),
+            Some(_) => Some(0),
+        }
+    }
+
+    /// The number that stands in the last field of this number, 0 where there is none.
+    pub(crate) fn number_or_zero(self, number: u32) -> u64
+        ensures { result ≡ or_zero (number_in number (left self.entry)) }
+    {
+        match self.number(number) {
+            None => 0,
+            Some(value) => value,
+        }
+    }
+
+    /// The text or bytes that stand in the last field of this number.
+    pub(crate) fn text(self, number: u32) -> Option<&'a [u8]>
+        ensures { told result ≡ text_in number (left self.entry) }
+    {
+        match self.last(number) {
+            None => None,
+            Some(value) => Some(text_of(value)),
+        }
+    }
+
+    /// The same, empty where there is none.
+    pub(crate) fn text_or_empty(self, number: u32) -> &'a [u8]
+        ensures { result.now ≡ or_empty (text_in number (left self.entry)) }
+    {
+        match self.text(number) {
+            None => &[],
+            Some(text) => text,
+        }
+    }
+
+    /// The bytes of the next message that stands in a field of this number.
+    pub(crate) fn next_message(&mut self, number: u32) -> Option<&'a [u8]>
+        ensures next { MatchOption result (messages_in number (left self.old) ≡ []) (λ m. messages_in number (left self.old) ≡ fields_of m.now ∷ messages_in number (left self.new)) }
+        ensures smaller { IfSome result (λ m. size self.new < size self.old) }
+    {
+        while let Some(piece) = self.next() {
+            if piece.number == number {
+                return Some(text_of(piece.value));
+            }
+        }
+        None
+    }
+}

@@ -1,0 +1,173 @@
+//! The messages that hold no other message.
+ghost use Rattle.plcr_decode.specs.Required.{symbol_whole, register_whole, system_whole, application_whole, processor_whole, signal_whole, process_whole, info_whole};
+ghost use Rattle.plcr_decode.specs.Values.{symbol_of, register_of, system_of, application_of, processor_of, signal_of, process_of, info_of};
+
+use crate::faults::DecodeFault;
+use crate::fields::Fields;
+use crate::messages::{Part, Row, needs};
+use crate::numbers::{low, owned, owned_where};
+use plcr_report::{Application, Info, Kind, Process, Processor, Register, Signal, Symbol, System};
+use std::alloc::{AllocError, Global};
+
+impl Part for Symbol {
+    ghost whole = { symbol_whole };
+
+    ghost value = { symbol_of };
+
+    #[tactic(auto, unfolding(crate::specs::Required::symbol_whole))]
+    fn judge(fields: Fields<'_>) -> Result<(), DecodeFault> {
+        needs(Kind::Symbol, &[1, 2], fields)
+    }
+
+    #[tactic(auto, unfolding(crate::specs::Values::symbol_of))]
+    fn build(alloc: Global, fields: Fields<'_>) -> Result<Symbol, AllocError> {
+        Ok(Symbol {
+            name: owned(alloc, fields.text_or_empty(Symbol::NAME))?,
+            start_address: fields.number_or_zero(Symbol::START_ADDRESS),
+            end_address: fields.number(Symbol::END_ADDRESS),
+        })
+    }
+}
+
+impl Row for Register {
+    ghost whole = { register_whole };
+
+    ghost value = { register_of };
+
+    #[tactic(auto, unfolding(crate::specs::Required::register_whole))]
+    fn judge(bytes: &[u8]) -> Result<(), DecodeFault> {
+        needs(Kind::Register, &[1, 2], Fields::of(bytes))
+    }
+
+    #[tactic(auto, unfolding(crate::specs::Values::register_of))]
+    fn build(alloc: Global, bytes: &[u8]) -> Result<Register, AllocError> {
+        let fields = Fields::of(bytes);
+        Ok(Register {
+            name: owned(alloc, fields.text_or_empty(Register::NAME))?,
+            value: fields.number_or_zero(Register::VALUE),
+        })
+    }
+}
+
+impl Part for System {
+    ghost whole = { system_whole };
+
+    ghost value = { system_of };
+
+    #[tactic(auto, unfolding(crate::specs::Required::system_whole))]
+    fn judge(fields: Fields<'_>) -> Result<(), DecodeFault> {
+        needs(Kind::System, &[1, 2, 3, 4], fields)
+    }
+
+    #[tactic(auto, unfolding(crate::specs::Values::system_of))]
+    fn build(alloc: Global, fields: Fields<'_>) -> Result<System, AllocError> {
+        Ok(System {
+            operating_system: low(fields.number_or_zero(System::OPERATING_SYSTEM)),
+            os_version: owned(alloc, fields.text_or_empty(System::OS_VERSION))?,
+            architecture: low(fields.number_or_zero(System::ARCHITECTURE)),
+            timestamp: fields.number_or_zero(System::TIMESTAMP).cast_signed(),
+            os_build: owned_where(alloc, fields.text(System::OS_BUILD))?,
+        })
+    }
+}
+
+impl Part for Application {
+    ghost whole = { application_whole };
+
+    ghost value = { application_of };
+
+    #[tactic(auto, unfolding(crate::specs::Required::application_whole))]
+    fn judge(fields: Fields<'_>) -> Result<(), DecodeFault> {
+        needs(Kind::Application, &[1, 2], fields)
+    }
+
+    #[tactic(auto, unfolding(crate::specs::Values::application_of))]
+    fn build(alloc: Global, fields: Fields<'_>) -> Result<Application, AllocError> {
+        Ok(Application {
+            identifier: owned(alloc, fields.text_or_empty(Application::IDENTIFIER))?,
+            version: owned(alloc, fields.text_or_empty(Application::VERSION))?,
+        })
+    }
+}
+
+impl Part for Processor {
+    ghost whole = { processor_whole };
+
+    ghost value = { processor_of };
+
+    #[tactic(auto, unfolding(crate::specs::Required::processor_whole))]
+    fn judge(fields: Fields<'_>) -> Result<(), DecodeFault> {
+        needs(Kind::Processor, &[1, 2, 3], fields)
+    }
+
+    #[tactic(auto, unfolding(crate::specs::Values::processor_of))]
+    fn build(_alloc: Global, fields: Fields<'_>) -> Result<Processor, AllocError> {
+        Ok(Processor {
+            encoding: low(fields.number_or_zero(Processor::ENCODING)),
+            cpu: fields.number_or_zero(Processor::CPU),
+            subtype: fields.number_or_zero(Processor::SUBTYPE),
+        })
+    }
+}
+
+impl Part for Signal {
+    ghost whole = { signal_whole };
+
+    ghost value = { signal_of };
+
+    #[tactic(auto, unfolding(crate::specs::Required::signal_whole))]
+    fn judge(fields: Fields<'_>) -> Result<(), DecodeFault> {
+        needs(Kind::Signal, &[1, 2, 3], fields)
+    }
+
+    #[tactic(auto, unfolding(crate::specs::Values::signal_of))]
+    fn build(alloc: Global, fields: Fields<'_>) -> Result<Signal, AllocError> {
+        Ok(Signal {
+            name: owned(alloc, fields.text_or_empty(Signal::NAME))?,
+            code: owned(alloc, fields.text_or_empty(Signal::CODE))?,
+            address: fields.number_or_zero(Signal::ADDRESS),
+        })
+    }
+}
+
+impl Part for Process {
+    ghost whole = { process_whole };
+
+    ghost value = { process_of };
+
+    #[tactic(auto, unfolding(crate::specs::Required::process_whole))]
+    fn judge(fields: Fields<'_>) -> Result<(), DecodeFault> {
+        needs(Kind::Process, &[2, 5, 6], fields)
+    }
+
+    #[tactic(auto, unfolding(crate::specs::Values::process_of))]
+    fn build(alloc: Global, fields: Fields<'_>) -> Result<Process, AllocError> {
+        Ok(Process {
+            name: owned_where(alloc, fields.text(Process::NAME))?,
+            id: low(fields.number_or_zero(Process::ID)),
+            path: owned_where(alloc, fields.text(Process::PATH))?,
+            parent_name: owned_where(alloc, fields.text(Process::PARENT_NAME))?,
+            parent_id: low(fields.number_or_zero(Process::PARENT_ID)),
+            native: fields.number_or_zero(Process::NATIVE) != 0,
+        })
+    }
+}
+
+impl Part for Info {
+    ghost whole = { info_whole };
+
+    ghost value = { info_of };
+
+    #[tactic(auto, unfolding(crate::specs::Required::info_whole))]
+    fn judge(fields: Fields<'_>) -> Result<(), DecodeFault> {
+        needs(Kind::Info, &[1], fields)
+    }
+
+    #[tactic(auto, unfolding(crate::specs::Values::info_of))]
+    fn build(alloc: Global, fields: Fields<'_>) -> Result<Info, AllocError> {
+        Ok(Info {
+            user_requested: fields.number_or_zero(Info::USER_REQUESTED) != 0,
+            uuid: owned_where(alloc, fields.text(Info::UUID))?,
+        })
+    }
+}

@@ -1,0 +1,23 @@
+//! Reads the file of a crash report: the report that its bytes spell, or their first fault with its place.
+#![tactic(auto)]
+
+mod faults;
+mod fields;
+mod ink;
+mod laws;
+mod leaves;
+mod messages;
+mod nodes;
+mod numbers;
+mod reader;
+mod scanning;
+mod table;
+mod text;
+
+pub use faults::DecodeFault;
+pub use laws::reads_again;
+pub use reader::decode;
+pub use text::write_text;
+
+#[cfg(test)]
+mod tests;

@@ -1,0 +1,117 @@
+//! The messages that hold other messages.
+ghost use Rattle.std.specs.Prelude.{◌≡◌, ◌≢◌, IfOk, IfErr};
+ghost use Rattle.plcr_decode.specs.Fields.{fields_of};
+ghost use Rattle.plcr_decode.specs.Required.{frame_whole, thread_whole, image_whole, report_whole};
+ghost use Rattle.plcr_decode.specs.Values.{frame_of, thread_of, image_of, report_of};
+
+use crate::faults::DecodeFault;
+use crate::fields::Fields;
+use crate::messages::{Part, Row, build_one, build_rows, judge_one, judge_rows, needs};
+use crate::numbers::{low, owned, owned_where};
+use plcr_report::{
+    Application, Frame, Image, Info, Kind, Process, Processor, Register, Report, Signal, Symbol,
+    System, Thread,
+};
+use std::alloc::{AllocError, Global};
+
+impl Row for Frame {
+    ghost whole = { frame_whole };
+
+    ghost value = { frame_of };
+
+    #[tactic(auto, unfolding(crate::specs::Required::frame_whole))]
+    fn judge(bytes: &[u8]) -> Result<(), DecodeFault> {
+        needs(Kind::Frame, &[3], Fields::of(bytes))?;
+        judge_one::<Symbol>(bytes, Frame::SYMBOL)
+    }
+
+    #[tactic(auto, unfolding(crate::specs::Values::frame_of))]
+    fn build(alloc: Global, bytes: &[u8]) -> Result<Frame, AllocError> {
+        Ok(Frame {
+            pc: Fields::of(bytes).number_or_zero(Frame::PC),
+            symbol: build_one::<Symbol>(alloc, bytes, Frame::SYMBOL)?,
+        })
+    }
+}
+
+impl Row for Thread {
+    ghost whole = { thread_whole };
+
+    ghost value = { thread_of };
+
+    #[tactic(auto, unfolding(crate::specs::Required::thread_whole))]
+    fn judge(bytes: &[u8]) -> Result<(), DecodeFault> {
+        needs(Kind::Thread, &[1, 3], Fields::of(bytes))?;
+        judge_rows::<Frame>(bytes, Thread::FRAMES)?;
+        judge_rows::<Register>(bytes, Thread::REGISTERS)
+    }
+
+    #[tactic(auto, unfolding(crate::specs::Values::thread_of))]
+    fn build(alloc: Global, bytes: &[u8]) -> Result<Thread, AllocError> {
+        let fields = Fields::of(bytes);
+        Ok(Thread {
+            thread_number: low(fields.number_or_zero(Thread::THREAD_NUMBER)),
+            frames: build_rows::<Frame>(alloc, bytes, Thread::FRAMES)?,
+            crashed: fields.number_or_zero(Thread::CRASHED) != 0,
+            registers: build_rows::<Register>(alloc, bytes, Thread::REGISTERS)?,
+        })
+    }
+}
+
+impl Row for Image {
+    ghost whole = { image_whole };
+
+    ghost value = { image_of };
+
+    #[tactic(auto, unfolding(crate::specs::Required::image_whole))]
+    fn judge(bytes: &[u8]) -> Result<(), DecodeFault> {
+        needs(Kind::Image, &[1, 2, 3], Fields::of(bytes))?;
+        judge_one::<Processor>(bytes, Image::CODE_TYPE)
+    }
+
+    #[tactic(auto, unfolding(crate::specs::Values::image_of))]
+    fn build(alloc: Global, bytes: &[u8]) -> Result<Image, AllocError> {
+        let fields = Fields::of(bytes);
+        Ok(Image {
+            base_address: fields.number_or_zero(Image::BASE_ADDRESS),
+            size: fields.number_or_zero(Image::SIZE),
+            name: owned(alloc, fields.text_or_empty(Image::NAME))?,
+            uuid: owned_where(alloc, fields.text(Image::UUID))?,
+            code_type: build_one::<Processor>(alloc, bytes, Image::CODE_TYPE)?,
+        })
+    }
+}
+
+impl Row for Report {
+    ghost whole = { report_whole };
+
+    ghost value = { report_of };
+
+    #[tactic(auto, unfolding(crate::specs::Required::report_whole))]
+    fn judge(bytes: &[u8]) -> Result<(), DecodeFault> {
+        needs(Kind::Root, &[1, 2, 6], Fields::of(bytes))?;
+        judge_one::<System>(bytes, Report::SYSTEM_INFO)?;
+        judge_one::<Application>(bytes, Report::APPLICATION_INFO)?;
+        judge_rows::<Thread>(bytes, Report::THREADS)?;
+        judge_rows::<Image>(bytes, Report::BINARY_IMAGES)?;
+        judge_one::<Signal>(bytes, Report::SIGNAL)?;
+        judge_one::<Process>(bytes, Report::PROCESS_INFO)?;
+        judge_one::<Info>(bytes, Report::REPORT_INFO)
+    }
+
+    #[tactic(auto, unfolding(crate::specs::Values::report_of))]
+    fn build(alloc: Global, bytes: &[u8]) -> Result<Report, AllocError> {
+        let system = Fields::joined(bytes, Report::SYSTEM_INFO);
+        let application = Fields::joined(bytes, Report::APPLICATION_INFO);
+        let signal = Fields::joined(bytes, Report::SIGNAL);
+        Ok(Report {
+            system_info: System::build(alloc, system)?,
+            application_info: Application::build(alloc, application)?,
+            threads: build_rows::<Thread>(alloc, bytes, Report::THREADS)?,
+            binary_images: build_rows::<Image>(alloc, bytes, Report::BINARY_IMAGES)?,
+            signal: Signal::build(alloc, signal)?,
+            process_info: build_one::<Process>(alloc, bytes, Report::PROCESS_INFO)?,
+            report_info: build_one::<Info>(alloc, bytes, Report::REPORT_INFO)?,
+        })
+    }
+}

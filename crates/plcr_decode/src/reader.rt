@@ -1,0 +1,82 @@
+//! Reads the file of a report.
+ghost use Rattle.std.specs.Prelude.{◌≡◌, ◌≢◌, ◌≤◌, [], length, IfOk, IfErr, IsOk, Ok, Err};
+ghost use Rattle.plcr_wire.specs.Reading.{Reads};
+ghost use Rattle.plcr_decode.specs.Reads as spec;
+ghost use Rattle.plcr_decode.specs.Reads.{reads};
+
+use crate::faults::DecodeFault;
+use crate::messages::Row;
+use crate::scanning::scan;
+use plcr_report::{Kind, Report};
+use std::alloc::Global;
+
+/// What a report file begins with; its version follows.
+const MAGIC: [u8; 7] = *b"plcrash";
+
+/// The version of the files that are read.
+const VERSION: u8 = 1;
+
+/// What stands behind this text and the version.
+fn behind<'a>(text: &[u8], bytes: &'a [u8], at: usize) -> Result<&'a [u8], DecodeFault>
+    ensures reads { Reads (λ rest. rest.now) result (spec.behind text.now at bytes.now) }
+    ensures shorter { IfOk result (λ rest. length rest.now ≤ length bytes.now) }
+    ensures real { IfErr result (λ e. e ≢ DecodeFault.Memory) }
+{
+    let Some((first, text)) = text.split_first() else {
+        return versioned(bytes, at);
+    };
+    let Some((byte, rest)) = bytes.split_first() else {
+        return Err(DecodeFault::Magic);
+    };
+    if *byte != *first {
+        return Err(DecodeFault::Magic);
+    }
+    behind(text, rest, at)
+}
+
+/// What stands behind the version.
+fn versioned(bytes: &[u8], at: usize) -> Result<&[u8], DecodeFault>
+    ensures reads { Reads (λ rest. rest.now) result (spec.behind [] at bytes.now) }
+    ensures shorter { IfOk result (λ rest. length rest.now ≤ length bytes.now) }
+    ensures real { IfErr result (λ e. e ≢ DecodeFault.Memory) }
+{
+    let Some((version, rest)) = bytes.split_first() else {
+        return Err(DecodeFault::Truncated { at });
+    };
+    if *version != VERSION {
+        return Err(DecodeFault::Version { found: *version });
+    }
+    Ok(rest)
+}
+
+/// The root message of a file.
+#[tactic(auto, unfolding(crate::specs::Reads::root_of))]
+fn root_of(bytes: &[u8]) -> Result<&[u8], DecodeFault>
+    ensures reads { Reads (λ rest. rest.now) result (spec.root_of bytes.now) }
+    ensures shorter { IfOk result (λ rest. length rest.now ≤ length bytes.now) }
+    ensures real { IfErr result (λ e. e ≢ DecodeFault.Memory) }
+{
+    behind(&MAGIC, bytes, bytes.len())
+}
+
+/// The report that a file spells. Its bytes are read once for faults and required fields, and then once for
+/// its values; a report takes about as much memory as its file is long, and what is refused takes none.
+///
+/// # Errors
+///
+/// The first fault of the file, in reading order: its beginning, then its fields, each submessage where it
+/// stands, and then the fields that a message has to have. `Memory` comes only where the file spells a report.
+#[tactic(auto, unfolding(crate::specs::Reads::reads))]
+pub fn decode(alloc: Global, bytes: &[u8]) -> Result<Report, DecodeFault>
+    ensures report { IfOk result (λ report. reads bytes.now ≡ Ok report) }
+    ensures fault { IfErr result (λ e. e ≢ DecodeFault.Memory → reads bytes.now ≡ Err e) }
+    ensures memory { IfErr result (λ e. e ≡ DecodeFault.Memory → IsOk (reads bytes.now)) }
+{
+    let root = root_of(bytes)?;
+    scan(Kind::Root, root, bytes.len())?;
+    Report::judge(root)?;
+    match Report::build(alloc, root) {
+        Ok(report) => Ok(report),
+        Err(_) => Err(DecodeFault::Memory),
+    }
+}

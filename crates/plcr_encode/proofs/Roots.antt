@@ -1,0 +1,23 @@
+-- The fields of a whole report without images, part by part.
+use Rattle.std.proofs.Common.{◌≡◌, ℕ, ◌+◌, List, [], ◌++◌, length, refl, append-nil, length-append, arith}
+use Rattle.plcr_wire.specs.Message.{field_spelling, message_field, spelling}
+use Rattle.plcr_regs.specs.declared.registers.Registers.{Registers}
+use Rattle.plcr_report.specs.Messages.{system_message, application_message, thread_message, signal_message, process_message, info_message, report_message}
+use Rattle.plcr_encode.specs.declared.context.Context.{Context}
+use Rattle.plcr_encode.specs.Rows.{message_fields}
+use Rattle.plcr_encode.specs.Values.{system_of, application_of, signal_of, process_of, info_of, threads_of, report_of}
+use Rattle.plcr_encode.proofs.Rows.{fields-each, spelling-append}
+
+pub spelling-report : (context : Context) (threads : List Registers) → spelling (report_message (report_of context threads [])) ≡
+    field_spelling (message_field 1 (system_message (system_of context)))
+    ++ (field_spelling (message_field 2 (application_message (application_of context)))
+    ++ (spelling (message_fields 3 thread_message (threads_of context.crashed threads))
+    ++ (field_spelling (message_field 6 (signal_message (signal_of context)))
+    ++ (field_spelling (message_field 7 (process_message (process_of context)))
+    ++ field_spelling (message_field 9 (info_message (info_of context)))))))
+unfolding report_message report_of
+spelling-report context threads = simp (fields-each, append-nil, spelling-append) refl
+
+-- the length of six pieces
+pub length-six : (a b c d e f : List ℕ) → length (a ++ (b ++ (c ++ (d ++ (e ++ f))))) ≡ length a + length b + length c + length d + length e + length f
+length-six a b c d e f = rw (length-append a (b ++ (c ++ (d ++ (e ++ f)))), length-append b (c ++ (d ++ (e ++ f))), length-append c (d ++ (e ++ f)), length-append d (e ++ f), length-append e f) (omega arith)

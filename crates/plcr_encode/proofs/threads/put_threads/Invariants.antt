@@ -1,0 +1,19 @@
+use Rattle.std.proofs.Common.{◌≡◌, ◌+◌, ◌*◌, ◌≤◌, length, map, drop}
+use Rattle.std.specs.List.{enumerate_from}
+use Rattle.plcr_wire.specs.Message.{spelling}
+use Rattle.plcr_report.specs.Messages.{thread_message}
+use Rattle.plcr_encode.specs.Rows.{message_fields}
+use Rattle.plcr_encode.specs.Values.{thread_of, threads_of}
+use Rattle.plcr_encode.proofs.Rows.{WroteUpTo}
+use Rattle.plcr_encode.proofs.threads.put_threads.Given as goal
+
+-- the threads before this number are written, those from it on are left, and length is that of what is written
+abbrev pub invariant-loop-number : goal.invariant-loop-number
+invariant-loop-number g l =
+    let left = spelling (message_fields 3 thread_message (map (thread_of l.crashed) (enumerate_from l.number (drop l.number l.states)))) in
+    let all = spelling (message_fields 3 thread_message (threads_of l.crashed l.states)) in
+    record {
+      wrote : WroteUpTo (g.W.Put.pen l.initial.ink) (g.W.Put.pen l.ink) all left (4116 * l.number);
+      size : l.length + length left ≡ length all;
+      short : l.length ≤ 4116 * l.number;
+    }

@@ -1,0 +1,22 @@
+-- What can be written as a report.
+use Rattle.std.specs.Prelude.{◌≡◌, ◌^◌, ◌<◌, ◌≤◌, List, length, All}
+use Rattle.plcr_regs.specs.declared.arch.Arch.{Arch}
+use Rattle.plcr_regs.specs.declared.registers.Registers.{Registers}
+use Rattle.plcr_regs.specs.States.{IsWhole}
+use Rattle.plcr_encode.specs.declared.context.Context.{Context}
+
+-- whole states of one architecture, fewer than 2^32
+pub record AreWhole (arch : Arch) (states : List Registers) : Type 0 where
+  pub each : All (IsWhole arch) states
+  pub few : length states < 2 ^ 32
+
+-- a context whose system is known, whose time is no negative number, and whose texts have fewer than 2^32 bytes
+pub record IsWritable (context : Context) : Type 0 where
+  pub os : context.os ≤ 2
+  pub timestamp : context.timestamp < 2 ^ 63
+  pub os_version : length context.os_version.now < 2 ^ 32
+  pub identifier : length context.identifier.now < 2 ^ 32
+  pub version : length context.version.now < 2 ^ 32
+  pub signal : length context.signal.now < 2 ^ 32
+  pub code : length context.code.now < 2 ^ 32
+  pub process : length context.process.now < 2 ^ 32

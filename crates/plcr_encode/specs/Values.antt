@@ -1,0 +1,97 @@
+-- The value of the report of a stopped process: what is handed in, its threads and its images.
+use Rattle.std.specs.Prelude.{ℕ, pos, true, ◌==◌, List, [], ◌∷◌, map, Some, None, unwrap_or, slice_index_or}
+use Rattle.std.specs.List.{enumerate_from, range_with_len}
+use Rattle.plcr_regs.specs.declared.arch.Arch.{Arch}
+use Rattle.plcr_regs.specs.declared.arch.Arch.TheVariants.{X86_64, Arm64}
+use Rattle.plcr_regs.specs.declared.registers.Registers.{Registers}
+use Rattle.plcr_regs.specs.Names.{register_count, register_names}
+use Rattle.plcr_report.specs.declared.messages.Report.{Report}
+use Rattle.plcr_report.specs.declared.messages.System.{System}
+use Rattle.plcr_report.specs.declared.messages.Application.{Application}
+use Rattle.plcr_report.specs.declared.messages.Thread.{Thread}
+use Rattle.plcr_report.specs.declared.messages.Frame.{Frame}
+use Rattle.plcr_report.specs.declared.messages.Register.{Register}
+use Rattle.plcr_report.specs.declared.messages.Image.{Image}
+use Rattle.plcr_report.specs.declared.messages.Signal.{Signal}
+use Rattle.plcr_report.specs.declared.messages.Process.{Process}
+use Rattle.plcr_report.specs.declared.messages.Info.{Info}
+use Rattle.plcr_encode.specs.declared.context.Context.{Context}
+
+-- the number by which crash_report.proto names an architecture; it has none for arm64, which is written as 6
+abbrev pub architecture_number : Arch → ℕ
+architecture_number X86_64 = 1
+architecture_number Arm64 = 6
+
+-- the place of the program counter, rip or pc, among the registers of a thread state
+abbrev pub pc_place : Arch → ℕ
+pc_place X86_64 = 16
+pc_place Arm64 = 32
+
+-- the value of register i of a state, in which it is known
+abbrev pub value_at : Registers → ℕ → ℕ
+value_at state i = unwrap_or (slice_index_or state.value i None) 0
+
+-- register i of a state, with its name
+abbrev pub register_at : Registers → ℕ → Register
+register_at state i = record { name = slice_index_or (register_names state.arch) i []; value = value_at state i }
+
+-- the registers of a state, in the order of the thread state
+abbrev pub registers_of : Registers → List Register
+registers_of state = map (register_at state) (range_with_len 0 (register_count state.arch))
+
+-- the frames of a thread that was stopped in this state: today the one that it was stopped in, with no symbol
+abbrev pub frames_of : Registers → List Frame
+frames_of state = record { pc = value_at state (pc_place state.arch); symbol = None } ∷ []
+
+-- a thread by its number and its state, where `crashed` is the number of the thread that crashed
+abbrev pub thread_of : ℕ → ℕ × Registers → Thread
+thread_of crashed thread = record {
+  thread_number = thread.0;
+  frames = frames_of thread.1;
+  crashed = thread.0 == crashed;
+  registers = registers_of thread.1;
+}
+
+-- the threads in these states, numbered from 0
+abbrev pub threads_of : ℕ → List Registers → List Thread
+threads_of crashed states = map (thread_of crashed) (enumerate_from 0 states)
+
+abbrev pub system_of : Context → System
+system_of context = record {
+  operating_system = context.os;
+  os_version = context.os_version.now;
+  architecture = architecture_number context.arch;
+  timestamp = pos context.timestamp;
+  os_build = None;
+}
+
+abbrev pub application_of : Context → Application
+application_of context = record { identifier = context.identifier.now; version = context.version.now }
+
+abbrev pub signal_of : Context → Signal
+signal_of context = record { name = context.signal.now; code = context.code.now; address = context.address }
+
+abbrev pub process_of : Context → Process
+process_of context = record {
+  name = Some context.process.now;
+  id = context.pid;
+  path = None;
+  parent_name = None;
+  parent_id = context.ppid;
+  native = true;
+}
+
+abbrev pub info_of : Context → Info
+info_of context = record { user_requested = context.user; uuid = None }
+
+-- the report of a process with these threads and images
+unfoldable pub report_of : Context → List Registers → List Image → Report
+report_of context threads images = record {
+  system_info = system_of context;
+  application_info = application_of context;
+  threads = threads_of context.crashed threads;
+  binary_images = images;
+  signal = signal_of context;
+  process_info = Some (process_of context);
+  report_info = Some (info_of context);
+}

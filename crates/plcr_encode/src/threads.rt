@@ -1,0 +1,158 @@
+//! The threads of a report: their frames and registers.
+ghost use Rattle.std.specs.Prelude.{◌≡◌, ◌*◌, ◌^◌, ◌<◌, ◌≤◌, length};
+ghost use Rattle.plcr_wire.specs.Pen.{Wrote};
+ghost use Rattle.plcr_wire.specs.Message.{spelling};
+ghost use Rattle.plcr_report.specs.Messages.{frame_message, register_message, thread_message};
+ghost use Rattle.plcr_encode.specs.Rows.{message_fields};
+ghost use Rattle.plcr_encode.specs.Values.{pc_place, value_at, frames_of, registers_of, threads_of};
+
+use crate::fields::{Message, put_flag, put_message, put_number, put_text};
+use plcr_regs::{Arch, Registers, count, name};
+use plcr_report::{Frame, Register, Report, Thread};
+use plcr_wire::Ink;
+
+/// A register and its value.
+#[derive(Drop)]
+struct RegisterPart {
+    name: &'static str,
+    value: u64,
+}
+
+impl Message for RegisterPart {
+    ghost use Rattle.std.specs.Prelude.{◌≤◌, length};
+    ghost use Rattle.std.proofs.Common.{lit<};
+    ghost use Rattle.plcr_report.specs.Messages.{register_message};
+
+    ghost fields = { λ part. register_message (record { name = part.name.now; value = part.value }) };
+
+    ghost fits = { λ part. length part.name.now ≤ 6 };
+
+    ghost most = { 46 };
+
+    #[tactic(auto, using(plcr_wire::proofs::Writing::wrote_twice, plcr_wire::proofs::Writing::wrote_none), unfolding(plcr_report::specs::Messages::register_message))]
+    fn put<W: Ink>(&self, ink: &mut W) {
+        put_text(ink, Register::NAME, self.name.as_bytes());
+        put_number(ink, Register::VALUE, self.value);
+    }
+
+    ghost moderate = { lit< tt };
+}
+
+/// A frame with no symbol.
+#[derive(Drop)]
+struct FramePart {
+    pc: u64,
+}
+
+impl Message for FramePart {
+    ghost use Rattle.std.specs.Prelude.{None};
+    ghost use Rattle.std.proofs.Common.{lit<};
+    ghost use Rattle.plcr_report.specs.Messages.{frame_message};
+
+    ghost fields = { λ part. frame_message (record { pc = part.pc; symbol = None }) };
+
+    ghost fits = { λ part. Unit {0} };
+
+    ghost most = { 20 };
+
+    #[tactic(auto, using(plcr_wire::proofs::Writing::wrote_twice, plcr_wire::proofs::Writing::wrote_none), unfolding(plcr_report::specs::Messages::frame_message))]
+    fn put<W: Ink>(&self, ink: &mut W) {
+        put_number(ink, Frame::PC, self.pc);
+    }
+
+    ghost moderate = { lit< tt };
+}
+
+/// A register's value. In the states that are written each register is known.
+fn value(state: &Registers, i: usize) -> u64
+    requires { i < 34 }
+    ensures { result ≡ value_at state.now i }
+{
+    state.value[i].unwrap_or(0)
+}
+
+/// The place of the program counter among the registers.
+fn pc(arch: Arch) -> usize
+    ensures place { result ≡ pc_place arch }
+    ensures within { result < 34 }
+{
+    match arch {
+        Arch::X86_64 => 16,
+        Arch::Arm64 => 32,
+    }
+}
+
+/// Writes a thread's frames: the one that it was stopped in.
+fn put_frames<W: Ink>(ink: &mut W, state: &Registers)
+    ensures wrote { Wrote (W.pen ink.old) (W.pen ink.new) (spelling (message_fields 2 frame_message (frames_of state.now))) }
+    ensures short { length (spelling (message_fields 2 frame_message (frames_of state.now))) ≤ 40 }
+{
+    let part = FramePart {
+        pc: value(state, pc(state.arch)),
+    };
+    put_message(ink, Thread::FRAMES, &part);
+}
+
+/// Writes a thread's registers, in the order of its state.
+fn put_registers<W: Ink>(ink: &mut W, state: &Registers)
+    ensures wrote { Wrote (W.pen ink.old) (W.pen ink.new) (spelling (message_fields 4 register_message (registers_of state.now))) }
+    ensures short { length (spelling (message_fields 4 register_message (registers_of state.now))) ≤ 66 * 34 }
+{
+    for i in 0..count(state.arch) {
+        let part = RegisterPart {
+            name: name(state.arch, i),
+            value: value(state, i),
+        };
+        put_message(ink, Thread::REGISTERS, &part);
+    }
+}
+
+/// A thread: its number, that of the thread that crashed, and its state.
+#[derive(Drop)]
+struct ThreadPart<'a> {
+    number: u32,
+    crashed: u32,
+    state: &'a Registers,
+}
+
+impl Message for ThreadPart<'_> {
+    ghost use Rattle.std.specs.Prelude.{◌^◌};
+    ghost use Rattle.std.proofs.Common.{lit<};
+    ghost use Rattle.plcr_report.specs.Messages.{thread_message};
+    ghost use Rattle.plcr_encode.specs.Values.{thread_of};
+
+    ghost fields = { λ part. thread_message (thread_of part.crashed (part.number, part.state.now)) };
+
+    ghost fits = { λ part. Unit {0} };
+
+    ghost most = { 2 ^ 12 };
+
+    #[tactic(auto, using(plcr_wire::proofs::Writing::wrote_twice, plcr_wire::proofs::Writing::wrote_none))]
+    fn put<W: Ink>(&self, ink: &mut W) {
+        put_number(ink, Thread::THREAD_NUMBER, self.number as u64);
+        put_frames(ink, self.state);
+        put_flag(ink, Thread::CRASHED, self.number == self.crashed);
+        put_registers(ink, self.state);
+    }
+
+    ghost moderate = { lit< tt };
+}
+
+/// Writes the threads in these states, numbered from 0, and gives the length of what was written.
+pub(crate) fn put_threads<W: Ink>(ink: &mut W, states: &[Registers], crashed: u32) -> u64
+    requires { length states.now < 2 ^ 32 }
+    ensures wrote { Wrote (W.pen ink.old) (W.pen ink.new) (spelling (message_fields 3 thread_message (threads_of crashed states.now))) }
+    ensures size { result ≡ length (spelling (message_fields 3 thread_message (threads_of crashed states.now))) }
+    ensures short { result < 2 ^ 50 }
+{
+    let mut length = 0;
+    for (number, state) in states.iter().enumerate() {
+        let part = ThreadPart {
+            number: number as u32,
+            crashed,
+            state,
+        };
+        length += put_message(ink, Report::THREADS, &part);
+    }
+    length
+}

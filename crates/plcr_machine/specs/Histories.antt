@@ -1,0 +1,28 @@
+-- Which histories are legal, for a number of nodes and a number of passes. The newest entry stands first.
+use Rattle.std.specs.Prelude.{◌≡◌, ℕ, suc, ◌<◌, ◌≤◌, List, [], ◌∷◌, length, IsTrue, IsFalse}
+use Rattle.plcr_machine.specs.declared.entry.Entry.{Entry}
+use Rattle.plcr_machine.specs.declared.entry.Entry.TheVariants.{Enter, Leave, Load, Unload, Count, Look}
+use Rattle.plcr_machine.specs.Lists.{has, live, loads}
+use Rattle.plcr_machine.specs.Passes.{is_inside, readers}
+use Rattle.plcr_machine.specs.Nodes.{is_free}
+
+-- the entry may come next
+abbrev pub MayFollow : ℕ → ℕ → List Entry → Entry → Type 0
+MayFollow nodes passes past (Enter pass) = (pass < passes) × IsFalse (is_inside pass past)
+MayFollow nodes passes past (Leave pass) = IsTrue (is_inside pass past)
+MayFollow nodes passes past (Load node load _) = (0 < node) × (node ≤ nodes) × IsTrue (is_free node past) × (load ≡ suc (loads past))
+MayFollow nodes passes past (Unload node) = IsTrue (has node (live past))
+MayFollow nodes passes past (Count found) = found ≡ readers passes past
+MayFollow nodes passes past (Look found) = found ≡ readers passes past
+
+-- each entry might follow what came before it
+abbrev pub IsLegal : ℕ → ℕ → List Entry → Type 0
+IsLegal nodes passes [] = Unit {0}
+IsLegal nodes passes (entry ∷ past) = MayFollow nodes passes past entry × IsLegal nodes passes past
+
+-- a legal history within the sizes of a table, with a name for each load, newest first
+pub record IsHistory (nodes passes : ℕ) (history : List Entry) (names : List (List ℕ)) : Type 0 where
+  pub few_nodes : nodes ≤ 4096
+  pub few_passes : passes ≤ 1024
+  pub legal : IsLegal nodes passes history
+  pub named : length names ≡ loads history

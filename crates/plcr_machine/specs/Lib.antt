@@ -1,0 +1,10 @@
+pub mod Lists
+pub mod Walks
+pub mod Passes
+pub mod Nodes
+pub mod Histories
+pub mod Parts
+pub mod Holds
+pub mod Links
+pub mod Laws
+pub mod Examples

@@ -1,0 +1,26 @@
+-- The parts of a history that are made by one pass, or by the one writer, or that change the list. The newest entry stands first.
+use Rattle.std.specs.Prelude.{ℕ, List, [], ◌∷◌, ◌==◌, if◌then◌else◌}
+use Rattle.plcr_machine.specs.declared.entry.Entry.{Entry}
+use Rattle.plcr_machine.specs.declared.entry.Entry.TheVariants.{Enter, Leave, Load, Unload}
+
+-- the entries of one pass: where it went in and came out
+abbrev pub own_entries : ℕ → List Entry → List Entry
+own_entries pass [] = []
+own_entries pass (Enter p ∷ past) = if p == pass then Enter p ∷ own_entries pass past else own_entries pass past
+own_entries pass (Leave p ∷ past) = if p == pass then Leave p ∷ own_entries pass past else own_entries pass past
+own_entries pass (_ ∷ past) = own_entries pass past
+
+-- the entries that only the writer makes: loads, unloads, counts and looks
+abbrev pub owner_entries : List Entry → List Entry
+owner_entries [] = []
+owner_entries (Enter _ ∷ past) = owner_entries past
+owner_entries (Leave _ ∷ past) = owner_entries past
+owner_entries (entry ∷ past) = entry ∷ owner_entries past
+
+-- the changes of the list: its loads and unloads. An unload names a node; to unload by a header, which takes the first
+-- image with that header, belongs to the writer, which chooses the node
+abbrev pub change_entries : List Entry → List Entry
+change_entries [] = []
+change_entries (Load node load header ∷ past) = Load node load header ∷ change_entries past
+change_entries (Unload node ∷ past) = Unload node ∷ change_entries past
+change_entries (_ ∷ past) = change_entries past

@@ -1,0 +1,6 @@
+pub mod Shares
+pub mod Passes
+pub mod Halves
+pub mod Orders
+pub mod Searches
+pub mod Ranges

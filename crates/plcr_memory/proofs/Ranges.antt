@@ -1,0 +1,100 @@
+-- Ranges of addresses, byte by byte.
+use Rattle.std.proofs.Common.{◌≡◌, ◌≤◌, ◌<◌, ℕ, zero, suc, ◌+◌, ◌-◌, inl, inr, true, Option, Some, None, is_some, List, [], ◌∷◌, ◌++◌, length, take, slice_index, refl, sym, ap, subst, ◌∙◌, arith}
+use Rattle.std.specs.Prelude.{IsSome}
+use Rattle.std.proofs.lemmas.Bool.{cases_lt}
+use Rattle.std.proofs.lemmas.List.{get_or_append_left, get_or-append_right, get_or-take, length-take-le, length-append}
+use borrow.Rule.Slice.PartMut.{put_mid, post_of}
+use Rattle.plcr_memory.specs.declared.region.Region.{Region}
+use Rattle.plcr_memory.specs.Regions.{Contents, byte_in, byte_at, bytes_at, cons_known}
+use Rattle.plcr_memory.specs.Order.{IsHolder}
+use Rattle.plcr_memory.proofs.Shares.{covers_is, is_covered}
+
+-- each of the first n bytes from an address on is mapped
+abbrev pub AreMapped : Contents → ℕ → ℕ → Type 0
+AreMapped m a n = (k : ℕ) → k < n → IsSome (byte_at m (a + k))
+
+-- the bytes of the list stand from an address on
+abbrev pub Stand : Contents → ℕ → ℕ → List ℕ → Type 0
+Stand m a n xs = (k : ℕ) → k < n → byte_at m (a + k) ≡ Some (slice_index xs k)
+
+cons_some : (o : Option ℕ) (r : Option (List ℕ)) → IsSome o → is_some r ≡ true → is_some (cons_known o r) ≡ true
+cons_some (Some b) (Some bs) h k = refl
+cons_some (Some b) None h k = k
+cons_some None r h k = h
+
+cons_none : (o : Option ℕ) → cons_known o None ≡ None
+cons_none (Some b) = refl
+cons_none None = refl
+
+-- a range is mapped where each of its bytes is
+pub all_mapped : (m : Contents) (a n : ℕ) → AreMapped m a n → is_some (bytes_at m a n) ≡ true
+all_mapped m a zero h = refl
+all_mapped m a (suc n) h =
+    let here : IsSome (byte_at m a) = subst (λ (x : ℕ). IsSome (byte_at m x)) (omega arith) (h 0 (omega arith)) in
+    cons_some (byte_at m a) (bytes_at m (a + 1) n) here
+    (all_mapped m (a + 1) n (λ k lt. subst (λ (x : ℕ). IsSome (byte_at m x)) (omega arith) (h (k + 1) (omega (arith, lt)))))
+
+-- a range is missing where one of its bytes is
+pub one_missing : (m : Contents) (a n k : ℕ) → k < n → byte_at m (a + k) ≡ None → bytes_at m a n ≡ None
+one_missing m a zero k lt h = absurd (omega (arith, lt))
+one_missing m a (suc n) zero lt h =
+    let here : byte_at m a ≡ None = subst (λ (x : ℕ). byte_at m x ≡ None) (omega arith) h in
+    rw here refl
+one_missing m a (suc n) (suc k) lt h =
+    let there : byte_at m ((a + 1) + k) ≡ None = subst (λ (x : ℕ). byte_at m x ≡ None) (omega arith) h in
+    rw (one_missing m (a + 1) n k (omega (arith, lt)) there) (cons_none (byte_at m a))
+
+-- bytes that stand from an address on are those of the range
+pub all_stand : (m : Contents) (a : ℕ) (xs : List ℕ) → Stand m a (length xs) xs → bytes_at m a (length xs) ≡ Some xs
+all_stand m a [] h = refl
+all_stand m a (x ∷ xs) h =
+    let here : byte_at m a ≡ Some x = subst (λ (y : ℕ). byte_at m y ≡ Some x) (omega arith) (h 0 (omega arith)) in
+    let rest : bytes_at m (a + 1) (length xs) ≡ Some xs =
+    all_stand m (a + 1) xs (λ k lt. subst (λ (y : ℕ). byte_at m y ≡ Some (slice_index xs k)) (omega arith) (h (suc k) (omega (arith, lt)))) in
+    rw (here, rest) refl
+
+-- how many bytes from an address on lie within the region
+abbrev pub left_in : Region → ℕ → ℕ
+left_in r a = r.size - (a - r.start)
+
+-- an address within the run of a region
+run_covers : (m : Contents) (a done k : ℕ) (r : Region) → IsHolder m (a + done) r → done ≤ k → k < done + left_in r (a + done) → byte_at m (a + k) ≡ Some (byte_in m.file r (a + k))
+run_covers m a done k r h from to =
+    let c = is_covered r (a + done) h.covered in
+    h.each (a + k) (covers_is r (a + k) (omega (arith, c, from)) (omega (arith, c, from, to)))
+
+-- one region more
+pub mapped_run : (m : Contents) (a done until : ℕ) (r : Region) → IsHolder m (a + done) r → AreMapped m a done → until ≤ done + left_in r (a + done) → AreMapped m a until
+mapped_run m a done until r h before short k lt =
+    elim (cases_lt k done) [
+      | inl l ↦ before k l
+      | inr ge ↦ rw (run_covers m a done k r h ge (omega (arith, lt, short))) refl
+    ]
+
+cell_of_front : (a k : ℕ) (xs ys : List ℕ) (i : ℕ) → i < a → a ≤ length xs → slice_index (put_mid a k xs ys) i ≡ slice_index xs i
+cell_of_front a k xs ys i lt le =
+    let inside : i < length (take a xs) = rw (length-take-le a xs le) lt in
+    get_or_append_left (take a xs) (ys ++ post_of a k xs) 0 i inside ∙ get_or-take a xs i 0 lt
+
+cell_of_piece : (a k : ℕ) (xs ys : List ℕ) (i : ℕ) → a ≤ i → i < a + length ys → a ≤ length xs → slice_index (put_mid a k xs ys) i ≡ slice_index ys (i - a)
+cell_of_piece a k xs ys i from to le =
+    let inside : i - a < length ys = omega arith in
+    get_or-append_right (take a xs) (ys ++ post_of a k xs) a i 0 (length-take-le a xs le) from ∙ get_or_append_left ys (post_of a k xs) 0 (i - a) inside
+
+-- one region more, copied behind what stands
+pub stand_run : (m : Contents) (a done until size : ℕ) (r : Region) (xs ys : List ℕ) → IsHolder m (a + done) r → done ≤ length xs → until ≤ done + length ys → length ys ≤ left_in r (a + done)
+    → Stand m a done xs → ((k : ℕ) → k < length ys → slice_index ys k ≡ byte_in m.file r ((a + done) + k)) → Stand m a until (put_mid done size xs ys)
+stand_run m a done until size r xs ys h inside within short before piece k lt =
+    elim (cases_lt k done) [
+      | inl l ↦ before k l ∙ ap Some (sym (cell_of_front done size xs ys k l inside))
+      | inr ge ↦
+          let there : byte_at m (a + k) ≡ Some (byte_in m.file r (a + k)) = run_covers m a done k r h ge (omega (arith, lt, within, short)) in
+          let cell : slice_index (put_mid done size xs ys) k ≡ slice_index ys (k - done) = cell_of_piece done size xs ys k ge (omega (arith, lt, within)) inside in
+          let place : (a + done) + (k - done) ≡ a + k = omega arith in
+          let is : slice_index ys (k - done) ≡ byte_in m.file r (a + k) = piece (k - done) (omega (arith, lt, within)) ∙ ap (byte_in m.file r) place in
+          there ∙ ap Some (sym (cell ∙ is))
+    ]
+
+-- what was written is within the list
+pub length_covered : (a k : ℕ) (xs ys : List ℕ) → a ≤ length xs → a + length ys ≤ length (put_mid a k xs ys)
+length_covered a k xs ys le = simp (length-append, length-take-le a xs le) (omega arith)

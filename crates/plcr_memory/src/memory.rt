@@ -1,0 +1,163 @@
+ghost use Rattle.std.specs.Prelude.{◌≡◌, All, IfOk, IfErr, OnOk, IfSome, IfNone, ◌+◌, ◌≤◌, ◌^◌, is_some, length};
+ghost use Rattle.std.specs.Bool.{OnTrue, OnFalse};
+ghost use Rattle.plcr_memory.specs.Regions.{IsBacked, Ends, AreApart, byte_at, bytes_at, number_at};
+ghost use Rattle.plcr_memory.specs.Order.{IsHolder};
+ghost use Rattle.plcr_memory.specs.Faults.{IsFault};
+
+use crate::checks::lawful_order;
+use crate::fault::MemoryFault;
+use crate::order::Placed;
+use crate::region::Region;
+use crate::run::copy_run;
+use crate::search::{byte_of, region_holding};
+use byteorder::{ByteOrder, LittleEndian};
+use std::alloc::Global;
+use std::marker::Model;
+
+/// The memory of a stopped process. Contracts see the file's bytes and the regions, as they were given.
+#[derive(Drop)]
+pub struct Memory {
+    file: Vec<u8>,
+    regions: Vec<Region>,
+    order: Vec<Placed>,
+}
+
+impl Model for Memory {
+    ghost use Rattle.plcr_memory.specs.Regions.{Contents};
+    ghost use Rattle.plcr_memory.specs.Order.{IsHeld};
+
+    ghost Value = { Contents };
+
+    ghost view = { λ m. record { file = m.file.items; regions = m.regions.items } };
+
+    ghost invariant = { λ m. IsHeld m.file.items m.regions.items m.order.items };
+}
+
+impl Memory {
+    /// The memory of the regions over the file's bytes. The first region that wraps is refused, then the first that
+    /// shares an address with an earlier one.
+    pub fn new(alloc: Global, bytes: Vec<u8>, regions: Vec<Region>) -> Result<Memory, MemoryFault>
+        requires { All (IsBacked bytes.items) regions.items }
+        ensures ok { IfOk result (λ m. m ≡ record { file = bytes.items; regions = regions.items }) }
+        ensures lawful { OnOk result (All Ends regions.items × AreApart regions.items) }
+        ensures fault { IfErr result (IsFault regions.items) }
+    {
+        let order = lawful_order(alloc, regions.as_slice())?;
+        Ok(Memory {
+            file: bytes,
+            regions,
+            order,
+        })
+    }
+
+    // The region that covers the address `by` places past another.
+    fn holder(&self, at: u64, by: u64) -> Option<Region>
+        ensures found { IfSome result (IsHolder self.now (at + by)) }
+        ensures none { IfNone result (byte_at self.now (at + by) ≡ None) }
+    {
+        match at.checked_add(by) {
+            Some(at) => region_holding(self.regions.as_slice(), self.order.as_slice(), at),
+            None => {
+                let _regions = &self.regions;
+                None
+            }
+        }
+    }
+
+    /// The byte at an address, where a region covers it.
+    pub fn read_u8(&self, at: u64) -> Option<u8>
+        ensures { result ≡ byte_at self.now at }
+    {
+        match self.holder(at, 0) {
+            Some(region) => Some(byte_of(self.file.as_slice(), &region, at)),
+            None => None,
+        }
+    }
+
+    /// Whether each byte of a range is mapped. An empty range is. A mapped range ends within the addresses of 64 bits.
+    #[tactic(auto, using(crate::proofs::Ranges::all_mapped, crate::proofs::Ranges::one_missing, crate::proofs::Ranges::mapped_run))]
+    pub fn is_mapped(&self, at: u64, size: u64) -> bool
+        ensures mapped { result ≡ is_some (bytes_at self.now at size) }
+        ensures within { OnTrue result (at + size ≤ 2 ^ 64) }
+    {
+        let mut done = 0;
+        while done < size {
+            let Some(region) = self.holder(at, done) else {
+                return false;
+            };
+            let left = region.size - (at + done - region.start);
+            if size - done <= left {
+                return true;
+            }
+            done += left;
+        }
+        true
+    }
+
+    /// Copies the bytes of a range, where each of them is mapped, and else leaves `into` as it was.
+    pub fn copy(&self, at: u64, into: &mut [u8]) -> bool
+        ensures mapped { result ≡ is_some (bytes_at self.now at (length into.old)) }
+        ensures within { OnTrue result (at + length into.old ≤ 2 ^ 64) }
+        ensures copied { OnTrue result (bytes_at self.now at (length into.old) ≡ Some into.new) }
+        ensures unchanged { OnFalse result (into.new ≡ into.old) }
+    {
+        if !self.is_mapped(at, into.len() as u64) {
+            return false;
+        }
+        let mut done = 0;
+        while done < into.len() {
+            let Some(region) = self.holder(at, done as u64) else {
+                unreachable!()
+            };
+            let from = at + done as u64;
+            let left = region.size - (from - region.start);
+            let until = if left < (into.len() - done) as u64 {
+                done + left as usize
+            } else {
+                into.len()
+            };
+            copy_run(self.file.as_slice(), &region, from, &mut into[done..until]);
+            done = until;
+        }
+        true
+    }
+
+    /// The little-endian number of 2 bytes at an address, where both are mapped.
+    #[tactic(auto, unfolding(crate::specs::Regions::number_at))]
+    pub fn read_u16(&self, at: u64) -> Option<u16>
+        ensures { result ≡ number_at 2 self.now at }
+    {
+        let mut bytes = [0; 2];
+        if self.copy(at, &mut bytes) {
+            Some(LittleEndian::read_u16(&bytes))
+        } else {
+            None
+        }
+    }
+
+    /// The little-endian number of 4 bytes at an address, where all are mapped.
+    #[tactic(auto, unfolding(crate::specs::Regions::number_at))]
+    pub fn read_u32(&self, at: u64) -> Option<u32>
+        ensures { result ≡ number_at 4 self.now at }
+    {
+        let mut bytes = [0; 4];
+        if self.copy(at, &mut bytes) {
+            Some(LittleEndian::read_u32(&bytes))
+        } else {
+            None
+        }
+    }
+
+    /// The little-endian number of 8 bytes at an address, where all are mapped.
+    #[tactic(auto, unfolding(crate::specs::Regions::number_at))]
+    pub fn read_u64(&self, at: u64) -> Option<u64>
+        ensures { result ≡ number_at 8 self.now at }
+    {
+        let mut bytes = [0; 8];
+        if self.copy(at, &mut bytes) {
+            Some(LittleEndian::read_u64(&bytes))
+        } else {
+            None
+        }
+    }
+}

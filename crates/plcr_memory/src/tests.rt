@@ -1,0 +1,145 @@
+ghost use Rattle.std.specs.Prelude.{IsTrue, All};
+ghost use Rattle.plcr_memory.specs.Regions.{IsBacked};
+
+use super::*;
+use std::alloc::Global;
+use std::test::Fail;
+
+// Eight bytes from 1 to 8, and sixteen of 0xff.
+const FILE: [u8; 24] = [
+    1, 2, 3, 4, 5, 6, 7, 8, 255, 255, 255, 255, 255, 255, 255, 255, 255, 255, 255, 255, 255, 255,
+    255, 255,
+];
+
+fn all_backed(file: &[u8], regions: &[Region]) -> bool
+    ensures { IsTrue result → All (IsBacked file.now) regions.now }
+{
+    for region in regions {
+        let Region {
+            size,
+            from,
+            len,
+            ..
+        } = *region;
+        let held = from <= file.len() && len <= file.len() - from;
+        if !held || size == 0 || size < len as u64 {
+            return false;
+        }
+    }
+    true
+}
+
+fn memory_of(alloc: Global, regions: &[Region]) -> Result<Memory, MemoryFault> {
+    let regions = regions.to_vec(alloc)?;
+    let file = FILE.to_vec(alloc)?;
+    if all_backed(file.as_slice(), regions.as_slice()) {
+        Memory::new(alloc, file, regions)
+    } else {
+        Err(MemoryFault::Memory)
+    }
+}
+
+const fn zeros(start: u64, size: u64) -> Region {
+    Region {
+        start,
+        size,
+        from: 0,
+        len: 0,
+    }
+}
+
+// The second region stands before the first in memory, and they adjoin.
+fn adjoining(alloc: Global) -> Result<Memory, MemoryFault> {
+    let high = Region {
+        start: 0x1010,
+        size: 16,
+        from: 8,
+        len: 16,
+    };
+    let low = Region {
+        start: 0x1000,
+        size: 16,
+        from: 0,
+        len: 8,
+    };
+    memory_of(alloc, &[high, low])
+}
+
+#[test]
+fn bytes_and_numbers(rt: HostRuntime) -> Result<(), Fail> {
+    let memory = adjoining(rt.alloc())?;
+    let bytes = [
+        (0xfff, None),
+        (0x1000, Some(1)),
+        (0x1007, Some(8)),
+        (0x1008, Some(0)),
+        (0x100f, Some(0)),
+        (0x1010, Some(0xff)),
+        (0x101f, Some(0xff)),
+        (0x1020, None),
+        (u64::MAX, None),
+    ];
+    for (at, want) in bytes {
+        assert_eq!(rt; memory.read_u8(at), want, "at {at}");
+    }
+    let numbers = [
+        (0x1000, Some(0x0807_0605_0403_0201)),
+        (0x1008, Some(0)),
+        (0x100c, Some(0xffff_ffff_0000_0000)),
+        (0x1019, None),
+        (0xffff_ffff_ffff_fffc, None),
+    ];
+    for (at, want) in numbers {
+        assert_eq!(rt; memory.read_u64(at), want, "at {at}");
+    }
+    assert_eq!(rt; memory.read_u32(0x100e), Some(0xffff_0000));
+    assert_eq!(rt; memory.read_u32(0x101e), None);
+    assert_eq!(rt; memory.read_u16(0x1006), Some(0x0807));
+    Ok(())
+}
+
+#[test]
+fn copies(rt: HostRuntime) -> Result<(), Fail> {
+    let memory = adjoining(rt.alloc())?;
+    let mut into = [9; 4];
+    assert!(rt; !memory.copy(0x101d, &mut into));
+    assert_eq!(rt; into.as_slice(), [9, 9, 9, 9].as_slice());
+    assert!(rt; memory.copy(0x100e, &mut into));
+    assert_eq!(rt; into.as_slice(), [0, 0, 255, 255].as_slice());
+    assert!(rt; memory.is_mapped(0x1000, 32));
+    assert!(rt; !memory.is_mapped(0x1000, 33));
+    assert!(rt; memory.is_mapped(0, 0));
+    Ok(())
+}
+
+#[test]
+fn refusals(rt: HostRuntime) {
+    let wrapping = [zeros(0xffff_ffff_ffff_fff0, 32)];
+    let last = [zeros(0xffff_ffff_ffff_fff0, 16)];
+    // The fourth is the first that shares an address with an earlier one, and the second is the first such.
+    let clashing = [
+        zeros(0x5000, 16),
+        zeros(0x3000, 0x100),
+        zeros(0x1000, 16),
+        zeros(0x2fff, 0x1000),
+        zeros(0x1008, 16),
+    ];
+    let alloc = rt.alloc();
+    assert!(rt;
+        matches!(
+            memory_of(alloc, &wrapping),
+            Err(MemoryFault::Wraps { index: 0 })
+        )
+    );
+    assert!(rt; memory_of(alloc, &last).is_ok());
+    assert!(rt;
+        matches!(
+            memory_of(alloc, &clashing),
+            Err(MemoryFault::Overlap {
+                first: 1,
+                second: 3
+            })
+        )
+    );
+    assert!(rt; memory_of(alloc, &clashing[..3]).is_ok());
+}

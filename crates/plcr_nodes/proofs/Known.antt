@@ -1,0 +1,181 @@
+-- What a seat knows of the history from its own entries, and from the owner's.
+use Rattle.std.proofs.Common.{◌≡◌, ◌⊎◌, ⊎_elim, inl, inr, ℕ, suc, ◌<◌, ◌≤◌, List, [], ◌∷◌, ◌++◌, true, false, cond, ◌||◌, ◌&&◌, eqb, refl, sym, ap, ◌∙◌, subst, arith, length, le_refl}
+use Rattle.std.proofs.lemmas.Bool.{cases_eq, and_parts, and_from, or_right, or_cases, cond_both}
+use Rattle.plcr_machine.specs.declared.image.Image.{Image}
+use Rattle.plcr_machine.specs.declared.entry.Entry.{Entry}
+use Rattle.plcr_machine.specs.declared.entry.Entry.TheVariants.{Enter, Leave, Load, Unload, Count, Look}
+use Rattle.plcr_machine.specs.Lists.{has, without, live, loads, loaded}
+use Rattle.plcr_machine.specs.Nodes.{is_new, is_removed, is_cleared, is_free}
+use Rattle.plcr_machine.specs.Passes.{is_inside}
+use Rattle.plcr_machine.specs.Histories.{IsLegal}
+use Rattle.plcr_machine.specs.Holds.{may_reach}
+use Rattle.plcr_machine.specs.Links.{after, link_of}
+use Rattle.plcr_machine.specs.Parts.{own_entries, owner_entries}
+use Rattle.plcr_machine.proofs.Cases.{by_cases, at_or_else, not_both}
+use Rattle.plcr_machine.proofs.Freedom.{live_bound}
+use Rattle.plcr_machine.proofs.Followers.{after_listed}
+use Rattle.plcr_machine.proofs.Leads.{link_here, link_before}
+use Rattle.plcr_machine.proofs.Reach.{reach_inside, reach_busy}
+
+-- whether a pass is inside is told by its own entries
+pub inside-own : (p : ℕ) (h : List Entry) → is_inside p (own_entries p h) ≡ is_inside p h
+inside-own p [] = refl
+inside-own p (Enter q ∷ past) = by_cases (eqb q p) (λ e. rw e (rw e refl)) (λ e. rw e (inside-own p past))
+inside-own p (Leave q ∷ past) = by_cases (eqb q p) (λ e. rw e (rw e refl)) (λ e. rw e (inside-own p past))
+inside-own p (Load n i a ∷ past) = inside-own p past
+inside-own p (Unload n ∷ past) = inside-own p past
+inside-own p (Count k ∷ past) = inside-own p past
+inside-own p (Look k ∷ past) = inside-own p past
+
+pub inside_same : (p : ℕ) (g h : List Entry) → own_entries p g ≡ own_entries p h → is_inside p g ≡ is_inside p h
+inside_same p g h e = sym (inside-own p g) ∙ ap (is_inside p) e ∙ inside-own p h
+
+own_cons : (p : ℕ) (e : Entry) (past : List Entry) → (own_entries p (e ∷ past) ≡ own_entries p past) ⊎ (length (own_entries p (e ∷ past)) ≡ suc (length (own_entries p past)))
+own_cons p (Enter q) past = by_cases (eqb q p) (λ e. rw e (inr refl)) (λ e. rw e (inl refl))
+own_cons p (Leave q) past = by_cases (eqb q p) (λ e. rw e (inr refl)) (λ e. rw e (inl refl))
+own_cons p (Load n i a) past = inl refl
+own_cons p (Unload n) past = inl refl
+own_cons p (Count k) past = inl refl
+own_cons p (Look k) past = inl refl
+
+none_of : (xs : List Entry) → length xs ≤ 0 → xs ≡ []
+none_of [] h = refl
+none_of (x ∷ xs) h = absurd (omega arith)
+
+pub own_longer : (p : ℕ) (added past : List Entry) → length (own_entries p past) ≤ length (own_entries p (added ++ past))
+own_longer p [] past = le_refl (length (own_entries p past))
+own_longer p (e ∷ added) past =
+    let m = own_longer p added past in
+    ⊎_elim (λ s. let z = ap length s in omega arith) (λ s. omega arith) (own_cons p e (added ++ past))
+
+-- an entry that is no own one of the pass leaves whether it is inside
+own_step : (p : ℕ) (e : Entry) (past : List Entry) → own_entries p (e ∷ past) ≡ own_entries p past → is_inside p (e ∷ past) ≡ is_inside p past
+own_step p e past s = inside_same p (e ∷ past) past s
+
+-- entries that were added to those that are known, and none of which is the pass's own: neither is any of the older ones
+own_apart : (p : ℕ) (e : Entry) (added past : List Entry) → own_entries p (e ∷ added ++ past) ≡ own_entries p past
+    → (own_entries p (e ∷ added ++ past) ≡ own_entries p (added ++ past)) × (own_entries p (added ++ past) ≡ own_entries p past)
+own_apart p e added past s =
+    ⊎_elim (λ t. (t, sym t ∙ s)) (λ t. let m = own_longer p added past in let z = ap length s in absurd (omega arith)) (own_cons p e (added ++ past))
+
+-- what a pass may reach, it may still reach after entries that are none of its own
+pub reach_grows : (p n : ℕ) (added past : List Entry) → own_entries p (added ++ past) ≡ own_entries p past → may_reach p n past ≡ true
+    → may_reach p n (added ++ past) ≡ true
+reach_grows p n [] past s r = r
+reach_grows p n (e ∷ added) past s r =
+    let t = own_apart p e added past s in
+    let m = reach_grows p n added past t.1 r in
+    and_from (is_inside p (e ∷ added ++ past)) (has n (live (e ∷ added ++ past)) || may_reach p n (added ++ past))
+    (own_step p e (added ++ past) t.0 ∙ reach_inside p n (added ++ past) m) (or_right (has n (live (e ∷ added ++ past))) (may_reach p n (added ++ past)) m)
+
+pub no_own : (p : ℕ) (added past : List Entry) → own_entries p (added ++ past) ≡ [] → own_entries p past ≡ []
+no_own p added past e = let m = own_longer p added past in let z = ap length e in none_of (own_entries p past) (omega arith)
+
+module _ (nodes passes : ℕ) where
+  pub legal_older : (added past : List Entry) → IsLegal nodes passes (added ++ past) → IsLegal nodes passes past
+  legal_older [] past l = l
+  legal_older (e ∷ added) past l = legal_older added past l.1
+
+  -- a node that a pass may reach is one of the table's
+  pub reach_bound : (p n : ℕ) (h : List Entry) → IsLegal nodes passes h → may_reach p n h ≡ true → (0 < n) × (n ≤ nodes)
+  reach_bound p n [] l r = not_both false r refl
+  reach_bound p n (e ∷ past) l r =
+      ⊎_elim (λ here. live_bound nodes passes n (e ∷ past) l here) (λ m. reach_bound p n past l.1 m)
+      (or_cases (has n (live (e ∷ past))) (may_reach p n past) (and_parts (is_inside p (e ∷ past)) (has n (live (e ∷ past)) || may_reach p n past) r).1)
+
+  -- a link leads to a node of the table, or is the end
+  pub link_bound : (n : ℕ) (h : List Entry) → IsLegal nodes passes h → link_of n h ≤ nodes
+  link_bound n [] l = omega arith
+  link_bound n (e ∷ past) l =
+      by_cases (eqb n 0 || has n (live (e ∷ past)))
+      (λ t. ⊎_elim (λ z. omega (arith, link_here n (e ∷ past) t))
+      (λ some. let b = live_bound nodes passes (after 0 n (live (e ∷ past))) (e ∷ past) l (after_listed 0 n (live (e ∷ past)) some) in omega (arith, link_here n (e ∷ past) t))
+      (cases_eq (after 0 n (live (e ∷ past))) 0))
+      (λ t. omega (arith, link_before n e past t, link_bound n past l.1))
+
+  loaded_step : (p n : ℕ) (e : Entry) (past : List Entry) → IsLegal nodes passes (e ∷ past) → may_reach p n past ≡ true → loaded n (e ∷ past) ≡ loaded n past
+  loaded_step p n (Enter q) past l r = refl
+  loaded_step p n (Leave q) past l r = refl
+  loaded_step p n (Load k i a) past l r =
+      at_or_else k n (λ e. not_both (is_free n past) (subst (λ m. is_free m past ≡ true) e l.0.2) (reach_busy nodes passes p n past l.1 r)) (λ e. rw e refl)
+  loaded_step p n (Unload k) past l r = refl
+  loaded_step p n (Count k) past l r = refl
+  loaded_step p n (Look k) past l r = refl
+
+  -- the image on a node that a pass may reach stays
+  pub loaded_grows : (p n : ℕ) (added past : List Entry) → IsLegal nodes passes (added ++ past) → own_entries p (added ++ past) ≡ own_entries p past
+      → may_reach p n past ≡ true → loaded n (added ++ past) ≡ loaded n past
+  loaded_grows p n [] past l s r = refl
+  loaded_grows p n (e ∷ added) past l s r =
+      let t = own_apart p e added past s in
+      loaded_step p n e (added ++ past) l (reach_grows p n added past t.1 r) ∙ loaded_grows p n added past l.1 t.1 r
+
+  -- a node's last load is one of the loads
+  pub loaded_most : (n : ℕ) (h : List Entry) → IsLegal nodes passes h → (loaded n h).load ≤ loads h
+  loaded_most n [] l = omega arith
+  loaded_most n (Enter q ∷ past) l = loaded_most n past l.1
+  loaded_most n (Leave q ∷ past) l = loaded_most n past l.1
+  loaded_most n (Load k i a ∷ past) l =
+      let m = loaded_most n past l.1 in let s = l.0.3 in
+      cond_both (eqb k n) (record { node = k; load = i; header = a }) (loaded n past) (λ (x : Image). x.load ≤ suc (loads past)) (λ _. omega arith) (λ _. omega arith)
+  loaded_most n (Unload k ∷ past) l = loaded_most n past l.1
+  loaded_most n (Count k ∷ past) l = loaded_most n past l.1
+  loaded_most n (Look k ∷ past) l = loaded_most n past l.1
+
+-- the list, the free nodes and the number of loads are told by the owner's entries
+pub live-owner : (h : List Entry) → live (owner_entries h) ≡ live h
+live-owner [] = refl
+live-owner (Enter q ∷ past) = live-owner past
+live-owner (Leave q ∷ past) = live-owner past
+live-owner (Load n i a ∷ past) = ap (λ (xs : List Image). xs ++ record { node = n; load = i; header = a } ∷ []) (live-owner past)
+live-owner (Unload n ∷ past) = ap (without n) (live-owner past)
+live-owner (Count k ∷ past) = live-owner past
+live-owner (Look k ∷ past) = live-owner past
+
+loads-owner : (h : List Entry) → loads (owner_entries h) ≡ loads h
+loads-owner [] = refl
+loads-owner (Enter q ∷ past) = loads-owner past
+loads-owner (Leave q ∷ past) = loads-owner past
+loads-owner (Load n i a ∷ past) = ap suc (loads-owner past)
+loads-owner (Unload n ∷ past) = loads-owner past
+loads-owner (Count k ∷ past) = loads-owner past
+loads-owner (Look k ∷ past) = loads-owner past
+
+new-owner : (n : ℕ) (h : List Entry) → is_new n (owner_entries h) ≡ is_new n h
+new-owner n [] = refl
+new-owner n (Enter q ∷ past) = new-owner n past
+new-owner n (Leave q ∷ past) = new-owner n past
+new-owner n (Load k i a ∷ past) = ap (cond (eqb k n) false) (new-owner n past)
+new-owner n (Unload k ∷ past) = new-owner n past
+new-owner n (Count k ∷ past) = new-owner n past
+new-owner n (Look k ∷ past) = new-owner n past
+
+removed-owner : (n : ℕ) (h : List Entry) → is_removed n (owner_entries h) ≡ is_removed n h
+removed-owner n [] = refl
+removed-owner n (Enter q ∷ past) = removed-owner n past
+removed-owner n (Leave q ∷ past) = removed-owner n past
+removed-owner n (Load k i a ∷ past) = ap (cond (eqb k n) false) (removed-owner n past)
+removed-owner n (Unload k ∷ past) = ap (cond (eqb k n) true) (removed-owner n past)
+removed-owner n (Count k ∷ past) = removed-owner n past
+removed-owner n (Look k ∷ past) = removed-owner n past
+
+cleared-owner : (n : ℕ) (h : List Entry) → is_cleared n (owner_entries h) ≡ is_cleared n h
+cleared-owner n [] = refl
+cleared-owner n (Enter q ∷ past) = cleared-owner n past
+cleared-owner n (Leave q ∷ past) = cleared-owner n past
+cleared-owner n (Load k i a ∷ past) = ap (cond (eqb k n) false) (cleared-owner n past)
+cleared-owner n (Unload k ∷ past) = ap (cond (eqb k n) false) (cleared-owner n past)
+cleared-owner n (Count k ∷ past) = ap (◌||◌ (eqb k 0)) (cleared-owner n past)
+cleared-owner n (Look k ∷ past) = ap (◌||◌ (eqb k 0)) (cleared-owner n past)
+
+free-owner : (n : ℕ) (h : List Entry) → is_free n (owner_entries h) ≡ is_free n h
+free-owner n h = λ k. new-owner n h k || (removed-owner n h k && cleared-owner n h k)
+
+pub live_same : (g h : List Entry) → owner_entries g ≡ owner_entries h → live g ≡ live h
+live_same g h e = sym (live-owner g) ∙ ap live e ∙ live-owner h
+
+pub loads_same : (g h : List Entry) → owner_entries g ≡ owner_entries h → loads g ≡ loads h
+loads_same g h e = sym (loads-owner g) ∙ ap loads e ∙ loads-owner h
+
+pub free_same : (n : ℕ) (g h : List Entry) → owner_entries g ≡ owner_entries h → is_free n g ≡ is_free n h
+free_same n g h e = sym (free-owner n g) ∙ ap (is_free n) e ∙ free-owner n h

@@ -1,0 +1,15 @@
+pub mod Known
+pub mod NamesKept
+pub mod Fitting
+pub mod GateSteps
+pub mod LoadSteps
+pub mod StoreSteps
+pub mod LinkStep
+pub mod Opening
+pub mod Passing
+pub mod Owning
+pub mod Going
+pub mod CountStep
+pub mod UnlinkStep
+pub mod Noting
+pub mod Spelling

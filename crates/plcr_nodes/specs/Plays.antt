@@ -1,0 +1,76 @@
+-- What each step tells its seat: which entry it made or what it found, and the view after.
+use Rattle.std.specs.Prelude.{◌≡◌, ℕ, suc, ◌+◌, ◌<◌, ◌≤◌, true, false, List, [], ◌∷◌, length}
+use Rattle.atomic_table.specs.Table.{Step, Me}
+use Rattle.plcr_machine.specs.declared.entry.Entry.{Entry}
+use Rattle.plcr_machine.specs.declared.entry.Entry.TheVariants.{Enter, Leave, Load}
+use Rattle.plcr_machine.specs.Histories.{IsLegal}
+use Rattle.plcr_machine.specs.Lists.{loads}
+use Rattle.plcr_machine.specs.Links.{link_of}
+use Rattle.plcr_machine.specs.Holds.{may_reach}
+use Rattle.plcr_machine.specs.Parts.{own_entries, owner_entries}
+use Rattle.plcr_nodes.specs.declared.view.View.{View}
+use Rattle.plcr_nodes.specs.declared.view.Store.{Store}
+use Rattle.plcr_nodes.specs.Entries.{among, WentOn}
+use Rattle.plcr_nodes.specs.Names.{header_in, name_in, stored_elsewhere, AreShort}
+use Rattle.plcr_nodes.specs.Rule.{base, gate_of, image_word, first_of, number_of}
+
+-- the history so far, as a step lets a view take it in: legal, and none of the entries that are new to the view is the seat's own
+pub record TakesIn (v : View) (past : List Entry) (names : List (List ℕ)) : Type 0 where
+  pub seen : WentOn v.history past
+  pub named : WentOn v.names names
+  pub as_many : length names ≡ loads past
+  pub legal : IsLegal v.nodes v.passes past
+  pub short : AreShort names
+  pub owner : v.owns ≡ true → owner_entries past ≡ owner_entries v.history
+  pub own : (p : ℕ) → among p v.numbers ≡ true → own_entries p past ≡ own_entries p v.history
+
+-- the view, with this history
+abbrev pub view_at : View → List Entry → List (List ℕ) → View
+view_at v h names = record v { history = h; names = names; heard = [] }
+
+abbrev Mine : Type 0
+Mine = Me Unit View
+
+abbrev pub entered : Step Unit → Mine → ℕ → Mine → Type 0
+entered st m found m' = (past : List Entry) × (names : List (List ℕ)) × TakesIn m.0 past names
+    × (m'.0 ≡ record (view_at m.0 (Enter (number_of m.0) ∷ past) names) { given = [] }) × (found ≡ gate_of m.0.passes past) × (m'.1 ≡ m.1)
+
+abbrev pub left : Step Unit → Mine → ℕ → Mine → Type 0
+left st m found m' = (past : List Entry) × (names : List (List ℕ)) × TakesIn m.0 past names
+    × (m'.0 ≡ record (view_at m.0 (Leave (number_of m.0) ∷ past) names) { given = [] }) × (found ≡ gate_of m.0.passes past) × (m'.1 ≡ m.1)
+
+-- a link was loaded: the end, or a node that was in the list since the enter
+abbrev pub followed : Step Unit → Mine → ℕ → Mine → Type 0
+followed st m found m' = (past : List Entry) × (names : List (List ℕ)) × TakesIn m.0 past names
+    × (m'.0 ≡ record (view_at m.0 past names) { given = found ∷ m.0.given }) × ((n : ℕ) → st.word ≡ base n → found ≡ link_of n past) × (found ≤ m.0.nodes)
+    × (0 < found → may_reach (number_of m.0) found past ≡ true) × (m'.1 ≡ m.1)
+
+-- a payload word was loaded
+abbrev pub loaded_word : Step Unit → Mine → ℕ → Mine → Type 0
+loaded_word st m found m' = (past : List Entry) × (names : List (List ℕ)) × TakesIn m.0 past names
+    × (m'.0 ≡ view_at m.0 past names) × ((n k : ℕ) → st.word ≡ base n + (k + 1) → k < 130 → found ≡ image_word n past names k) × (m'.1 ≡ m.1)
+
+abbrev pub store : ℕ → ℕ → ℕ → Store
+store n k x = record { node = n; word = k; value = x }
+
+abbrev pub filled : Step Unit → Mine → ℕ → Mine → Type 0
+filled st m found m' = (n k : ℕ) → st.word ≡ base n + k → k < 131 → (m'.0 ≡ record m.0 { filled = store n k st.first ∷ m.0.filled }) × (m'.1 ≡ m.1)
+
+-- the view after the node was linked at the end of the list
+abbrev pub linked_view : View → ℕ → List Entry → List (List ℕ) → View
+linked_view v n past names = record (view_at v (Load n (suc (loads past)) (header_in n v.filled) ∷ past) (name_in n v.filled ∷ names)) { given = []; filled = stored_elsewhere n v.filled }
+
+abbrev pub linked : Step Unit → Mine → ℕ → Mine → Type 0
+linked st m found m' = (past : List Entry) × (names : List (List ℕ)) × TakesIn m.0 past names × (m'.0 ≡ linked_view m.0 st.first past names) × (m'.1 ≡ m.1)
+
+-- one more pass number was given
+abbrev pub numbered : Step Unit → Mine → ℕ → Mine → Type 0
+numbered st m found m' = (found ≡ m.0.numbered) × (m'.0 ≡ record m.0 { numbered = m.0.numbered + 1; numbers = m.0.numbered ∷ m.0.numbers; given = [] }) × (m'.1 ≡ m.1)
+
+-- the seat that gives its pass number away
+abbrev pub giving : View → View
+giving v = record v { numbers = []; given = [] }
+
+-- the seat that is given that number, with a copy of what was seen
+abbrev pub given_view : View → View
+given_view v = record v { owns = false; numbered = 0; numbers = first_of v.numbers ∷ []; given = []; filled = []; heard = [] }

@@ -1,0 +1,124 @@
+-- The rule of the table: one legal history that the words show and that each seat knows a beginning of. Lists have the newest first, so a beginning in time is an end of the list.
+use Rattle.std.specs.Prelude.{◌≡◌, ◌⊎◌, ℕ, ◌+◌, ◌*◌, ◌<◌, ◌≤◌, Bool, true, false, List, [], ◌∷◌, length, slice_index, Some}
+use mathlib.Core.Option.{some}
+use lib.ListN.{get_elem?}
+use Rattle.atomic_table.specs.Table.{State}
+use Rattle.plcr_machine.specs.declared.entry.Entry.{Entry}
+use Rattle.plcr_machine.specs.Histories.{IsLegal}
+use Rattle.plcr_machine.specs.Lists.{loads, loaded, name_of}
+use Rattle.plcr_machine.specs.Passes.{counts, readers}
+use Rattle.plcr_machine.specs.Nodes.{is_free}
+use Rattle.plcr_machine.specs.Links.{link_of}
+use Rattle.plcr_machine.specs.Holds.{may_reach}
+use Rattle.plcr_machine.specs.Parts.{own_entries, owner_entries}
+use Rattle.plcr_nodes.specs.declared.view.View.{View}
+use Rattle.plcr_nodes.specs.declared.view.Heard.{Heard}
+use Rattle.plcr_nodes.specs.Entries.{among, WentOn}
+use Rattle.plcr_nodes.specs.Names.{payload_word, words_of, stored, AreShort}
+
+-- Word 0 is the gate and word 1 counts the pass numbers. From `base n` on node n has its link and 130 payload words; node 0 is the head, which has a link alone
+abbrev pub base : ℕ → ℕ
+base n = 2 + 131 * n
+
+-- the gate's word: the counts above, the readers below
+abbrev pub gate_of : ℕ → List Entry → ℕ
+gate_of passes h = counts h * 4294967296 + readers passes h
+
+-- the name of the last image that was loaded on the node
+abbrev pub name_on : ℕ → List Entry → List (List ℕ) → List ℕ
+name_on n h names = name_of (loaded n h).load names
+
+-- payload word k of the last image that was loaded on the node
+abbrev pub image_word : ℕ → List Entry → List (List ℕ) → ℕ → ℕ
+image_word n h names = payload_word (loaded n h).header (name_on n h names)
+
+-- how many payload words that image has
+abbrev pub image_words : ℕ → List Entry → List (List ℕ) → ℕ
+image_words n h names = 2 + words_of (length (name_on n h names))
+
+-- what there is: the words, the history with its names, how many pass numbers were given, which seat owns the list, and which seat has a pass number
+pub record Truth : Type 0 where
+  pub words : List ℕ
+  pub history : List Entry
+  pub names : List (List ℕ)
+  pub numbered : ℕ
+  pub owner : ℕ
+  pub holder : ℕ → ℕ
+
+-- a word of the table that readers may reach: the head's, and those of the nodes that aren't free
+abbrev pub IsHeld : ℕ → List Entry → Type 0
+IsHeld n h = (n ≡ 0) ⊎ (is_free n h ≡ false)
+
+-- the words show the history
+pub record Stands (nodes passes : ℕ) (t : Truth) : Type 0 where
+  pub sizes : (nodes ≤ 4096) × (passes ≤ 1024)
+  pub wide : length t.words ≡ base (nodes + 1)
+  pub legal : IsLegal nodes passes t.history
+  pub named : length t.names ≡ loads t.history
+  pub short : AreShort t.names
+  pub few : counts t.history < 4294967296
+  pub gate : slice_index t.words 0 ≡ gate_of passes t.history
+  pub number : slice_index t.words 1 ≡ t.numbered
+  pub enough : t.numbered ≤ passes
+  pub unused : (p : ℕ) → t.numbered ≤ p → own_entries p t.history ≡ []
+  pub links : (n : ℕ) → n ≤ nodes → IsHeld n t.history → slice_index t.words (base n) ≡ link_of n t.history
+  pub payload : (n k : ℕ) → 0 < n → n ≤ nodes → is_free n t.history ≡ false → k < 130 → k < image_words n t.history t.names
+      → slice_index t.words (base n + (k + 1)) ≡ image_word n t.history t.names k
+
+-- A beginning of the history that was seen, with the names of its loads. Who owns the list has seen all of the owner's entries, and who has a pass number all of that pass's
+pub record Sees (t : Truth) (history : List Entry) (names : List (List ℕ)) (owns : Bool) (numbers : List ℕ) : Type 0 where
+  pub seen : WentOn history t.history
+  pub named : WentOn names t.names
+  pub as_many : length names ≡ loads history
+  pub owner : owns ≡ true → owner_entries t.history ≡ owner_entries history
+  pub own : (p : ℕ) → among p numbers ≡ true → own_entries p t.history ≡ own_entries p history
+
+abbrev pub Hears : Truth → View → Heard → Type 0
+Hears t v w = Sees t w.history w.names w.owns w.numbers × (w.owns ≡ true → v.owns ≡ true) × ((p : ℕ) → among p w.numbers ≡ true → among p v.numbers ≡ true)
+
+abbrev pub first_of : List ℕ → ℕ
+first_of [] = 0
+first_of (x ∷ xs) = x
+
+-- the number under which a pass's seat enters and leaves
+abbrev pub number_of : View → ℕ
+number_of v = first_of v.numbers
+
+-- the view of seat j agrees with what there is
+pub record Fits (nodes passes : ℕ) (t : Truth) (j : ℕ) (v : View) : Type 0 where
+  pub sizes : (v.nodes ≡ nodes) × (v.passes ≡ passes)
+  pub sees : Sees t v.history v.names v.owns v.numbers
+  pub owns : v.owns ≡ true → (j ≡ t.owner) × (v.numbered ≡ t.numbered)
+  pub holds : (p : ℕ) → among p v.numbers ≡ true → (p < t.numbered) × (t.holder p ≡ j)
+  pub given : (n : ℕ) → among n v.given ≡ true → 0 < n → may_reach (number_of v) n v.history ≡ true
+  pub filled : v.owns ≡ true → (n k x : ℕ) → 0 < n → k < 131 → stored n k v.filled ≡ Some x → (n ≤ nodes) × (is_free n v.history ≡ true) × (slice_index t.words (base n + k) ≡ x)
+  pub heard : (k : ℕ) (w : Heard) → get_elem? v.heard k ≡ some w → Hears t v w
+
+pub record Holds (nodes passes : ℕ) (s : State Unit View) : Type 0 where
+  pub history : List Entry
+  pub names : List (List ℕ)
+  pub numbered : ℕ
+  pub owner : ℕ
+  pub holder : ℕ → ℕ
+  pub stands : Stands nodes passes (record { words = s.words; history = history; names = names; numbered = numbered; owner = owner; holder = holder })
+  pub seats : (j : ℕ) (v : View) → get_elem? s.views j ≡ some v → v.spent ≡ false
+      → Fits nodes passes (record { words = s.words; history = history; names = names; numbered = numbered; owner = owner; holder = holder }) j v
+
+-- the view of the owner's seat at the opening, after some pass numbers were given away
+abbrev pub owner_view : ℕ → ℕ → ℕ → View
+owner_view nodes passes numbered = record {
+  spent = false;
+  nodes = nodes;
+  passes = passes;
+  history = [];
+  names = [];
+  owns = true;
+  numbered = numbered;
+  numbers = [];
+  given = [];
+  filled = [];
+  heard = [];
+}
+
+abbrev pub first_view : ℕ → ℕ → View
+first_view nodes passes = owner_view nodes passes 0

@@ -1,0 +1,9 @@
+use crate::arch::Arch;
+
+/// The registers of a thread in the order of its thread state. Places past the architecture's count
+/// are None.
+#[derive(Clone, Copy, Debug, PartialEq, Eq)]
+pub struct Registers {
+    pub arch: Arch,
+    pub value: [Option<u64>; 34],
+}

@@ -1,0 +1,14 @@
+//! The value of a crash report of version 1: a struct for each message of PLCrashReporter's
+//! crash_report.proto, the table of the messages' fields, and the spelling of a report.
+#![tactic(auto)]
+
+mod kinds;
+mod messages;
+mod owned;
+
+pub use kinds::{Holds, Kind};
+pub use messages::{
+    Application, Frame, Image, Info, Process, Processor, Register, Report, Signal, Symbol, System,
+    Thread,
+};
+pub use owned::{Bytes, Rows};

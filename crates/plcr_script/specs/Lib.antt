@@ -1,0 +1,11 @@
+pub mod Splits
+pub mod Numerals
+pub mod Values
+pub mod Refusals
+pub mod Scripts
+pub mod Reading
+pub mod Wording
+pub mod Names
+pub mod Log
+pub mod Contexts
+pub mod Laws

@@ -1,0 +1,26 @@
+-- The lines of a run's log.
+use Rattle.std.specs.Prelude.{ℕ, List, [], ◌∷◌, ◌++◌, Option, Some, None, codes, decimal}
+use Rattle.plcr_script.specs.declared.outcomes.Outcome.{Outcome}
+use Rattle.plcr_script.specs.declared.outcomes.Outcome.TheVariants.{Reported}
+
+-- each number in decimal after a space
+abbrev pub numbers : List ℕ → List ℕ
+numbers [] = []
+numbers (n ∷ ns) = codes " " ++ decimal n ++ numbers ns
+
+-- a line's number, behind its script's number and a colon where there are several scripts
+abbrev pub place_text : Option ℕ → ℕ → List ℕ
+place_text None line = decimal line
+place_text (Some script) line = decimal script ++ codes ":" ++ decimal line
+
+-- a report: its file and numbers
+abbrev pub report_text : List ℕ → List ℕ → List ℕ
+report_text file ns = codes " report " ++ file ++ numbers ns
+
+-- what stands after the place: a space and the outcome
+abbrev pub outcome_text : Outcome → List ℕ
+outcome_text (Reported file bytes images low high) = report_text file.now (bytes ∷ images ∷ low ∷ high ∷ [])
+
+-- the line of an outcome, with its newline
+unfoldable pub log_line : Option ℕ → ℕ → Outcome → List ℕ
+log_line script line outcome = place_text script line ++ outcome_text outcome ++ codes "\n"

@@ -1,0 +1,57 @@
+//! Lines of text, gathered in a buffer of fixed size.
+ghost use Rattle.std.specs.Prelude.{◌≡◌, ◌+◌, ◌≤◌, ◌++◌, length, decimal, OnOk, OnErr};
+ghost use Rattle.std.specs.Io.KnownBytes.{append_known};
+ghost use Rattle.plcr_base.specs.Causes.{Rose};
+ghost use Rattle.plcr_base.specs.Told.{AppendsProperFront};
+ghost use Rattle.arrayvec.specs.ArrayVec.{array_vec_len};
+
+use arrayvec::ArrayVec;
+use itoa::Buffer;
+use plcr_io::{PutFailed, Sink, put_all};
+
+/// Adds bytes to a line that has room for them.
+pub fn add_bytes<const N: usize>(line: &mut ArrayVec<u8, N>, bytes: &[u8])
+    requires { array_vec_len line.old + length bytes.now ≤ N }
+    ensures items { line.new.items ≡ line.old.items ++ bytes.now }
+    ensures len { array_vec_len line.new ≡ array_vec_len line.old + length bytes.now }
+{
+    match line.try_extend_from_slice(bytes) {
+        Ok(()) => {}
+        Err(_) => unreachable!(),
+    }
+}
+
+/// Adds a decimal number, of at most 20 digits, to a line that has room for 20 bytes.
+pub fn add_decimal<const N: usize>(line: &mut ArrayVec<u8, N>, number: u64)
+    requires { array_vec_len line.old + 20 ≤ N }
+    ensures items { line.new.items ≡ line.old.items ++ decimal number }
+    ensures len { array_vec_len line.new ≤ array_vec_len line.old + 20 }
+{
+    let mut buffer = Buffer::new();
+    add_bytes(line, buffer.format(number).as_bytes());
+}
+
+/// Writes a line in three parts. At `Err` a front of the whole was written, and not all.
+pub fn put_parts<K: Sink>(
+    sink: &mut K,
+    head: &[u8],
+    middle: &[u8],
+    tail: &[u8],
+) -> Result<(), PutFailed>
+    ensures ok { OnOk result (K.written sink.new ≡ append_known (K.written sink.old) (head.now ++ middle.now ++ tail.now)) }
+    ensures err { OnErr result (AppendsProperFront (K.written sink.old) (K.written sink.new) (head.now ++ middle.now ++ tail.now)) }
+    ensures cause { OnErr result (Rose (K.faults sink.old) (K.faults sink.new)) }
+    ensures later { K.faults sink.old ≤ K.faults sink.new }
+    ensures mark { K.mark sink.new ≡ K.mark sink.old }
+{
+    match put_all(sink, head) {
+        Err(fault) => Err(fault),
+        Ok(()) => match put_all(sink, middle) {
+            Err(fault) => Err(fault),
+            Ok(()) => match put_all(sink, tail) {
+                Err(fault) => Err(fault),
+                Ok(()) => Ok(()),
+            },
+        },
+    }
+}

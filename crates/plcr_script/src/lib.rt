@@ -1,0 +1,25 @@
+//! Scripts, which say what a run does, and the lines of a run's log.
+#![tactic(auto)]
+
+mod faults;
+mod gathering;
+mod laws;
+mod numerals;
+mod outcomes;
+mod reading;
+mod scripts;
+mod splitting;
+mod statements;
+#[cfg(test)]
+mod tests;
+mod values;
+mod wording;
+
+pub use faults::ScriptFault;
+pub use gathering::{add_bytes, add_decimal, put_parts};
+pub use laws::scripts_are_read_line_by_line;
+pub use outcomes::{Outcome, write_outcome};
+pub use reading::{Mode, read_script};
+pub use scripts::Script;
+pub use statements::{NumberedStatement, Statement, Text};
+pub use values::DescriptiveValues;

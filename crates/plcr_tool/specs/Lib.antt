@@ -1,0 +1,10 @@
+pub mod Commands
+pub mod Endings
+pub mod Files
+pub mod Lines
+pub mod Refusals
+pub mod Run
+pub mod Saving
+pub mod Seen
+pub mod Steps
+pub mod Words

@@ -1,0 +1,47 @@
+//! The command line.
+ghost use Rattle.std.specs.Prelude.{◌≡◌, ◌≤◌, map, string_bytes};
+ghost use Rattle.plcr_base.specs.Told.{Prints};
+ghost use Rattle.plcr_tool.specs.Lines.{usage_line};
+ghost use Rattle.plcr_tool.specs.Seen.{seen};
+ghost use Rattle.plcr_tool.specs.Commands.{TopDoes};
+
+use crate::ending::{Ending, status};
+use crate::print::print_line;
+use crate::report::report_command;
+use plcr_io::{Desk, Sink};
+use std::alloc::Global;
+
+/// The command forms, as the usage line tells them.
+const USAGE: &[u8] =
+    b"usage: report CORE SCRIPT / show REPORT / make N CORE SCRIPT / threads CORE SCRIPT...\n";
+
+/// Does what the words of the command line ask for, on a desk and a sink for its lines, and gives the
+/// status: that of the command, or 1, behind the usage line, exactly where the words fit no form.
+pub fn top<D: Desk, L: Sink>(alloc: Global, words: &[String], desk: &mut D, lines: &mut L) -> u8
+    ensures does { TopDoes (map string_bytes words.now)
+        (seen (D.told desk.old) (L.written lines.old) (L.faults lines.old))
+        (seen (D.told desk.new) (L.written lines.new) (L.faults lines.new)) result }
+    ensures mark { L.mark lines.new ≡ L.mark lines.old }
+{
+    match words {
+        [word, core, script] => {
+            if word.as_str() == "report" {
+                report_command(alloc, core.as_str(), script.as_str(), desk, lines)
+            } else {
+                misused(lines)
+            }
+        }
+        _ => misused(lines),
+    }
+}
+
+/// Prints the usage line, and gives its status.
+fn misused<L: Sink>(lines: &mut L) -> u8
+    ensures status { result ≡ 1 }
+    ensures printed { Prints (L.written lines.old) (L.written lines.new) usage_line (L.faults lines.old) (L.faults lines.new) }
+    ensures later { L.faults lines.old ≤ L.faults lines.new }
+    ensures mark { L.mark lines.new ≡ L.mark lines.old }
+{
+    print_line(lines, USAGE, b"", b"");
+    status(Ending::Misused)
+}

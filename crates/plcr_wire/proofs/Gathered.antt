@@ -1,0 +1,94 @@
+-- How a pen over a borrowed sink gathers bytes, passes them on, ends and is cut short.
+use Rattle.std.proofs.Common.{◌≡◌, ℕ, ◌<◌, ◌≤◌, Bool, true, false, List, [], ◌∷◌, ◌++◌, length, Option, refl, sym, ap, subst, ◌∙◌, append_assoc, append-nil, length-append, arith}
+use Rattle.std.proofs.Common.{inl, inr}
+use Rattle.plcr_base.specs.Causes.{Rose}
+use Rattle.std.specs.Borrow.{GName}
+use Rattle.std.specs.Io.KnownBytes.{append_known}
+use Rattle.plcr_base.specs.Told.{AppendsUpTo}
+use Rattle.plcr_base.proofs.Appended.{append_twice, proper_first}
+use Rattle.plcr_wire.specs.Pen.{Pen, sink_pen, Given, PenShows, Puts, PutsProperFront, Wrote, Lost}
+
+-- a front was put, and then a front of what was left
+up_to_twice : (base told new : Option (List ℕ)) (given held left : List ℕ) → AppendsUpTo base told given held → AppendsUpTo told new held left → AppendsUpTo base new given left
+up_to_twice base told new given held left first second = record {
+  front = first.front ++ second.front;
+  parts = first.parts ∙ ap (λ l. first.front ++ l) second.parts ∙ sym (append_assoc first.front second.front left);
+  appended = second.appended ∙ ap (λ o. append_known o second.front) first.appended ∙ append_twice base first.front second.front;
+}
+
+-- what was held went to the sink, or a front of it
+pub held_put : (name : GName) (told new : Option (List ℕ)) (faults more : ℕ) (mark same held left : List ℕ) (failed : Bool)
+    → AppendsUpTo told new held left → faults ≤ more → same ≡ mark
+    → Puts (sink_pen name told faults mark held failed) (sink_pen name new more same left failed) []
+held_put name told new faults more mark same held left failed parts later kept = record {
+  each = λ base given h. subst (λ bytes. AppendsUpTo base new bytes left) (sym (append-nil given)) (up_to_twice base told new given held left h parts);
+  later = later;
+  failed = refl;
+  sink = refl;
+  mark = kept;
+}
+
+-- one more byte is held
+pub held_more : (name : GName) (told : Option (List ℕ)) (faults : ℕ) (mark held more : List ℕ) (b : ℕ) (failed : Bool)
+    → more ≡ held ++ b ∷ [] → Puts (sink_pen name told faults mark held failed) (sink_pen name told faults mark more failed) (b ∷ [])
+held_more name told faults mark held more b failed e = record {
+  each = λ base given h. record {
+    front = h.front;
+    parts = ap (λ l. l ++ b ∷ []) h.parts ∙ append_assoc h.front held (b ∷ []) ∙ ap (λ l. h.front ++ l) (sym e);
+    appended = h.appended;
+  };
+  later = omega arith;
+  failed = refl;
+  sink = refl;
+  mark = refl;
+}
+
+-- something is still held at the end
+pub lost_rest : (name : GName) (told new : Option (List ℕ)) (faults : ℕ) (mark held left : List ℕ) (failed : Bool)
+    → failed ≡ false → AppendsUpTo told new held left → 0 < length left → Lost (sink_pen name told faults mark held failed) new
+lost_rest name told new faults mark held left failed whole parts some base bytes h =
+    let shown = subst (λ f. PenShows f (Given told held) base bytes) whole h in
+    let all = up_to_twice base told new bytes held left shown parts in
+    record { front = all.front; rest = left; parts = all.parts; left = some; appended = all.appended }
+
+-- a pen that has lost bytes takes none any more
+pub wrote_lost : (name : GName) (told : Option (List ℕ)) (faults : ℕ) (mark held bytes : List ℕ) (failed : Bool)
+    → failed ≡ true → Wrote (sink_pen name told faults mark held failed) (sink_pen name told faults mark held failed) bytes
+wrote_lost name told faults mark held bytes failed gone = record {
+  each = λ base given h. subst (λ f. PenShows f (Given told held) base (given ++ bytes)) (sym gone)
+      (proper_first base told given bytes (subst (λ f. PenShows f (Given told held) base given) gone h));
+  later = omega arith;
+  cause = λ h. inl h;
+  sink = refl;
+  mark = refl;
+}
+
+-- all of these bytes were put
+pub wrote_put : (old new : Pen) (bytes : List ℕ) → old.failed ≡ false → Puts old new bytes → Wrote old new bytes
+wrote_put old new bytes whole put = record {
+  each = λ base given h. subst (λ f. PenShows f new.page base (given ++ bytes)) (sym (put.failed ∙ whole))
+      (put.each base given (subst (λ f. PenShows f old.page base given) whole h));
+  later = put.later;
+  cause = λ h. absurd (let e = put.failed in cc);
+  sink = put.sink;
+  mark = put.mark;
+}
+
+-- the put of these bytes failed, and is remembered
+pub wrote_cut : (old : Pen) (name : GName) (told : Option (List ℕ)) (faults : ℕ) (mark held : List ℕ) (failed : Bool) (bytes : List ℕ)
+    → old.failed ≡ false → PutsProperFront old (sink_pen name told faults mark held failed) bytes → Rose old.faults faults → Wrote old (sink_pen name told faults mark held true) bytes
+wrote_cut old name told faults mark held failed bytes whole cut rose = record {
+  each = λ base given h.
+      let shown = cut.put.each base given (subst (λ f. PenShows f old.page base given) whole h) in
+      record {
+        front = shown.front;
+        rest = held ++ cut.rest;
+        parts = ap (λ l. given ++ l) cut.parts ∙ sym (append_assoc given cut.front cut.rest) ∙ ap (λ l. l ++ cut.rest) shown.parts ∙ append_assoc shown.front held cut.rest;
+        left = let some = cut.left in rw length-append (omega arith);
+        appended = shown.appended;
+      };
+  later = cut.put.later;
+  cause = λ h. inr rose;
+  sink = cut.put.sink;
+  mark = cut.put.mark;
+}

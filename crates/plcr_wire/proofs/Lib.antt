@@ -1,0 +1,9 @@
+pub mod Varints
+pub mod Puttings
+pub mod Writing
+pub mod Gathered
+pub mod Shortest
+pub mod Groups
+pub mod ReadAgain
+pub mod Places
+pub mod ReadVarints

@@ -1,0 +1,76 @@
+-- How putting bytes one after the other goes on, ends and is cut short.
+use Rattle.std.proofs.Common.{◌≡◌, ℕ, ◌<◌, ◌≤◌, List, [], ◌∷◌, ◌++◌, length, refl, sym, ap, subst, ◌∙◌, append_assoc, append-nil, arith}
+use Rattle.std.proofs.Common.{◌+◌, ◌/◌, ◌%◌, drop, get_or, add-one, drop-cons, length-drop}
+use Rattle.std.proofs.lemmas.List.{drop_all}
+use Rattle.plcr_wire.specs.Varint.{varint}
+use Rattle.plcr_wire.proofs.Varints.{varint_small, varint_large, varint_some}
+use Rattle.plcr_wire.specs.Pen.{Pen, Shows, Puts, PutsUpTo, PutsProperFront}
+
+-- nothing was put
+pub puts_none : (pen : Pen) → Puts pen pen []
+puts_none pen = record {
+  each = λ base given h. subst (Shows pen.page base) (sym (append-nil given)) h;
+  later = omega arith;
+  failed = refl;
+  sink = refl;
+  mark = refl;
+}
+
+-- one piece after the other
+pub puts_twice : (old mid new : Pen) (xs ys : List ℕ) → Puts old mid xs → Puts mid new ys → Puts old new (xs ++ ys)
+puts_twice old mid new xs ys first second = record {
+  each = λ base given h. subst (Shows new.page base) (append_assoc given xs ys) (second.each base (given ++ xs) (first.each base given h));
+  later = let a = first.later in let b = second.later in omega arith;
+  failed = second.failed ∙ first.failed;
+  sink = second.sink ∙ first.sink;
+  mark = second.mark ∙ first.mark;
+}
+
+pub puts_start : (pen : Pen) (bytes : List ℕ) → PutsUpTo pen pen bytes bytes
+puts_start pen bytes = record { front = []; parts = refl; put = puts_none pen }
+
+-- one more piece of what is left
+pub puts_more : (old mid new : Pen) (bytes rest piece left : List ℕ) → PutsUpTo old mid bytes rest → Puts mid new piece → rest ≡ piece ++ left → PutsUpTo old new bytes left
+puts_more old mid new bytes rest piece left before more e = record {
+  front = before.front ++ piece;
+  parts = before.parts ∙ ap (λ l. before.front ++ l) e ∙ sym (append_assoc before.front piece left);
+  put = puts_twice old mid new before.front piece before.put more;
+}
+
+-- all that was left
+pub puts_end : (old mid new : Pen) (bytes rest : List ℕ) → PutsUpTo old mid bytes rest → Puts mid new rest → Puts old new bytes
+puts_end old mid new bytes rest before more = subst (Puts old new) (sym before.parts) (puts_twice old mid new before.front rest before.put more)
+
+-- nothing more, where something was left
+pub puts_err : (old mid new : Pen) (bytes rest : List ℕ) → PutsUpTo old mid bytes rest → 0 < length rest → Puts mid new [] → PutsProperFront old new bytes
+puts_err old mid new bytes rest before left none = record {
+  front = before.front;
+  rest = rest;
+  parts = before.parts;
+  left = left;
+  put = subst (Puts old new) (append-nil before.front) (puts_twice old mid new before.front [] before.put none);
+}
+
+-- one more group of a varint
+pub varint_more : (old mid new : Pen) (bytes : List ℕ) (rest : ℕ) → PutsUpTo old mid bytes (varint rest) → Puts mid new ((rest % 128 + 128) ∷ []) → 128 ≤ rest → PutsUpTo old new bytes (varint (rest / 128))
+varint_more old mid new bytes rest before more large = puts_more old mid new bytes (varint rest) ((rest % 128 + 128) ∷ []) (varint (rest / 128)) before more (varint_large rest large)
+
+-- the last group of a varint
+pub varint_last : (old mid new : Pen) (bytes : List ℕ) (rest : ℕ) → PutsUpTo old mid bytes (varint rest) → Puts mid new (rest ∷ []) → rest < 128 → Puts old new bytes
+varint_last old mid new bytes rest before more small = puts_end old mid new bytes (varint rest) before (let e = varint_small rest small in rw e more)
+
+-- a group that was not put
+pub varint_cut : (old mid new : Pen) (bytes : List ℕ) (rest : ℕ) → PutsUpTo old mid bytes (varint rest) → Puts mid new [] → PutsProperFront old new bytes
+varint_cut old mid new bytes rest before none = puts_err old mid new bytes (varint rest) before (varint_some rest) none
+
+-- one more byte of a list
+pub bytes_more : (old mid new : Pen) (bytes : List ℕ) (i : ℕ) → PutsUpTo old mid bytes (drop i bytes) → i < length bytes → Puts mid new (get_or bytes i 0 ∷ []) → PutsUpTo old new bytes (drop (i + 1) bytes)
+bytes_more old mid new bytes i before within more = puts_more old mid new bytes (drop i bytes) (get_or bytes i 0 ∷ []) (drop (i + 1) bytes) before more (rw (add-one, drop-cons bytes i 0) refl)
+
+-- none is left
+pub bytes_end : (old new : Pen) (bytes : List ℕ) (i : ℕ) → PutsUpTo old new bytes (drop i bytes) → length bytes ≤ i → Puts old new bytes
+bytes_end old new bytes i before past = puts_end old new new bytes (drop i bytes) before (subst (Puts new new) (sym (drop_all i bytes past)) (puts_none new))
+
+-- a byte that was not put
+pub bytes_cut : (old mid new : Pen) (bytes : List ℕ) (i : ℕ) → PutsUpTo old mid bytes (drop i bytes) → i < length bytes → Puts mid new [] → PutsProperFront old new bytes
+bytes_cut old mid new bytes i before within none = puts_err old mid new bytes (drop i bytes) before (let e = length-drop i bytes in omega arith) none

@@ -1,0 +1,4 @@
+pub mod Varint
+pub mod Message
+pub mod Pen
+pub mod Reading

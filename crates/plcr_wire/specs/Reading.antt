@@ -1,0 +1,109 @@
+-- Reading one field from the left, with the first fault that is met (Protocol Buffers documentation, "Encoding").
+-- Only the end of the message is passed down: a list that is left begins at `end - length bytes`.
+use Rattle.std.specs.Prelude.{◌≡◌, ◌<◌, ◌≤◌, slice_index, ℕ, Bool, zero, suc, ◌+◌, ◌-◌, ◌*◌, ◌/◌, ◌%◌, ◌^◌, ◌&&◌, ◌||◌, ◌==◌, List, [], ◌∷◌, ◌++◌, length, take, drop, slice_range, Result, Ok, Err, nat_lt, if◌then◌else◌}
+use Rattle.std.specs.Int.{Width, w32, w64, byte_len, from_le_bytes}
+use Rattle.plcr_base.specs.Chains.{◌>>=◌}
+use Rattle.plcr_wire.specs.Varint.{IsVarint}
+use Rattle.plcr_wire.specs.Message as message
+use Rattle.plcr_wire.specs.declared.fields.Field.{Field}
+use Rattle.plcr_wire.specs.declared.fields.Value.{Value}
+use Rattle.plcr_wire.specs.declared.fields.Value.TheVariants.{Varint, Fixed64, Span, Fixed32}
+use Rattle.plcr_wire.specs.declared.fields.WireFault.{WireFault}
+use Rattle.plcr_wire.specs.declared.fields.WireFault.TheVariants.{Truncated, BadVarint, BadTag}
+use Rattle.plcr_wire.specs.declared.pieces.Piece.{Piece}
+use Rattle.plcr_wire.specs.declared.pieces.Content.{Content}
+use Rattle.plcr_wire.specs.declared.pieces.Content.TheVariants as contents
+
+-- What a function returned, seen by view, is what reading gives.
+abbrev pub Reads : {X Y E : Type 0} → (X → Y) → Result X E → Result Y E → Type 0
+Reads view (Ok x) read = read ≡ Ok (view x)
+Reads view (Err e) read = read ≡ Err e
+
+-- A varint, of which k more groups may follow the next: its number, and what is left. The tenth group has one bit.
+abbrev pub varint_at : ℕ → ℕ → ℕ → List ℕ → Result (ℕ × List ℕ) WireFault
+varint_at end first k [] = Err (Truncated end)
+varint_at end first zero (b ∷ bs) = if nat_lt b 2 then Ok (b, bs) else Err (BadVarint first)
+varint_at end first (suc k) (b ∷ bs) = if nat_lt b 128 then Ok (b, bs) else (varint_at end first k bs >>= λ n. Ok (b - 128 + 128 * n.0, n.1))
+
+unfoldable pub number_at : ℕ → List ℕ → Result (ℕ × List ℕ) WireFault
+number_at end bytes = varint_at end (end - length bytes) 9 bytes
+
+-- each is a byte
+abbrev pub IsBytes : List ℕ → Type 0
+IsBytes bytes = (i : ℕ) → slice_index bytes i < 256
+
+-- a varint of n, of so many bytes at most, and then this rest
+pub record ReadsNumber (bytes : List ℕ) (n : ℕ) (rest : List ℕ) (most : ℕ) : Type 0 where
+  pub front : List ℕ
+  pub parts : bytes ≡ front ++ rest
+  pub spelled : IsVarint front n
+  pub short : length front ≤ most
+
+-- a number of a fixed width, lowest byte first
+unfoldable pub fixed_at : Width → ℕ → List ℕ → Result (ℕ × List ℕ) WireFault
+fixed_at w end bytes = if nat_lt (length bytes) (byte_len w) then Err (Truncated end) else Ok (from_le_bytes w (take (byte_len w) bytes), drop (byte_len w) bytes)
+
+-- a length, and so many bytes
+unfoldable pub text_at : ℕ → List ℕ → Result (List ℕ × List ℕ) WireFault
+text_at end bytes = do
+  n ← number_at end bytes
+  if nat_lt (length n.1) n.0 then Err (Truncated end) else Ok (take n.0 n.1, drop n.0 n.1)
+
+-- the number is a tag of field 1 to 2^29 - 1 and wire type 0, 1, 2 or 5
+abbrev pub is_tag : ℕ → Bool
+is_tag t = nat_lt 7 t && nat_lt t (2 ^ 32) && (nat_lt (t % 8) 3 || (t % 8 == 5))
+
+-- a value of this wire type
+unfoldable pub value_at : ℕ → ℕ → List ℕ → Result (message.Value × List ℕ) WireFault
+value_at end zero bytes = number_at end bytes >>= λ n. Ok (message.Number n.0, n.1)
+value_at end (suc zero) bytes = fixed_at w64 end bytes >>= λ n. Ok (message.Fixed64 n.0, n.1)
+value_at end (suc (suc zero)) bytes = text_at end bytes >>= λ t. Ok (message.Bytes t.0, t.1)
+value_at end (suc (suc (suc wire))) bytes = fixed_at w32 end bytes >>= λ n. Ok (message.Fixed32 n.0, n.1)
+
+-- the field that these bytes begin with, and what is left
+unfoldable pub field_at : ℕ → List ℕ → Result (message.Field × List ℕ) WireFault
+field_at end bytes = do
+  t ← number_at end bytes
+  if is_tag t.0 then (value_at end (t.0 % 8) t.1 >>= λ v. Ok (record { number = t.0 / 8; value = v.0 }, v.1)) else Err (BadTag (end - length bytes))
+
+-- a value as it lies in memory
+abbrev pub content : Content → message.Value
+content (contents.Number n) = message.Number n
+content (contents.Fixed64 n) = message.Fixed64 n
+content (contents.Bytes bytes) = message.Bytes bytes.now
+content (contents.Fixed32 n) = message.Fixed32 n
+
+-- how many bytes it has that may hold fields
+abbrev pub content_len : Content → ℕ
+content_len (contents.Bytes bytes) = length bytes.now
+content_len _ = 0
+
+abbrev pub piece : Piece → message.Field × List ℕ
+piece p = (record { number = p.number; value = content p.value }, p.rest.now)
+
+-- a value that ends at this place
+abbrev pub placed : ℕ → message.Value → Value
+placed to (message.Number n) = Varint n
+placed to (message.Fixed64 n) = Fixed64 n
+placed to (message.Bytes bytes) = Span (to - length bytes) to
+placed to (message.Fixed32 n) = Fixed32 n
+
+-- the field that these bytes, up to `end`, begin with, with places for its bytes and for what is left
+unfoldable pub found_at : ℕ → List ℕ → Result Field WireFault
+found_at end bytes = field_at end bytes >>= λ f. Ok (record { number = f.0.number; value = placed (end - length f.1) f.0.value; next = end - length f.1 })
+
+-- the list ends with this one
+pub record EndsWith (bytes tail : List ℕ) : Type 0 where
+  pub front : List ℕ
+  pub parts : bytes ≡ front ++ tail
+
+-- the value that stands at these places
+abbrev pub value_in : List ℕ → Value → message.Value
+value_in bytes (Varint n) = message.Number n
+value_in bytes (Fixed64 n) = message.Fixed64 n
+value_in bytes (Span from to) = message.Bytes (slice_range bytes from to)
+value_in bytes (Fixed32 n) = message.Fixed32 n
+
+-- the message from `at` to `end` begins with this field, and what is left begins at the next place
+abbrev pub Stands : List ℕ → ℕ → ℕ → Field → Type 0
+Stands bytes at end f = field_at end (slice_range bytes at end) ≡ Ok (record { number = f.number; value = value_in bytes f.value }, slice_range bytes f.next end)

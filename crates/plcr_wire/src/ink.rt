@@ -1,0 +1,63 @@
+//! Writers of whole fields that remember a failure to the end.
+ghost use Rattle.std.specs.Prelude.{◌≡◌, ◌+◌, ◌*◌, ◌^◌, ◌<◌, ◌≤◌};
+ghost use Rattle.plcr_wire.specs.Message.{number_field, bytes_field, field_spelling, message_head};
+ghost use Rattle.plcr_wire.specs.Pen.{Wrote};
+ghost use Rattle.plcr_wire.specs.Varint.{varint, tag};
+
+use crate::Put;
+
+/// A writer whose calls can't fail. Once a byte is lost it takes nothing any more, and its owner hears of that at the end.
+pub trait Ink: Put {
+    /// Writes these bytes as they are.
+    fn raw(&mut self, bytes: &[u8])
+        ensures { Wrote (Self.pen self.old) (Self.pen self.new) bytes.now };
+
+    /// Writes a number as its shortest varint.
+    fn varint(&mut self, value: u64)
+        ensures { Wrote (Self.pen self.old) (Self.pen self.new) (varint value) };
+
+    /// Writes the tag of a field with this number and wire type.
+    #[tactic(auto, unfolding(crate::specs::Varint::tag))]
+    fn tag(&mut self, field: u32, wire: u8)
+        requires some { 0 < field }
+        requires within { field < 2 ^ 29 }
+        requires wire { wire < 8 }
+        ensures { Wrote (Self.pen self.old) (Self.pen self.new) (tag field wire) }
+    {
+        self.varint(field as u64 * 8 + wire as u64)
+    }
+
+    /// Writes a field that is a varint.
+    #[tactic(auto, using(crate::proofs::Writing::wrote_twice), unfolding(crate::specs::Message::field_spelling))]
+    fn number(&mut self, field: u32, value: u64)
+        requires some { 0 < field }
+        requires within { field < 2 ^ 29 }
+        ensures { Wrote (Self.pen self.old) (Self.pen self.new) (field_spelling (number_field field value)) }
+    {
+        self.tag(field, 0);
+        self.varint(value)
+    }
+
+    /// Writes what stands before a submessage of so many bytes: its tag and its length.
+    #[tactic(auto, using(crate::proofs::Writing::wrote_twice))]
+    fn head(&mut self, field: u32, len: u64)
+        requires some { 0 < field }
+        requires within { field < 2 ^ 29 }
+        ensures { Wrote (Self.pen self.old) (Self.pen self.new) (message_head field len) }
+    {
+        self.tag(field, 2);
+        self.varint(len)
+    }
+
+    /// Writes a field that is a text or a run of bytes.
+    #[tactic(auto, using(crate::proofs::Writing::wrote_twice), unfolding(crate::specs::Message::field_spelling))]
+    fn text(&mut self, field: u32, bytes: &[u8])
+        requires some { 0 < field }
+        requires within { field < 2 ^ 29 }
+        ensures { Wrote (Self.pen self.old) (Self.pen self.new) (field_spelling (bytes_field field bytes.now)) }
+    {
+        self.tag(field, 2);
+        self.varint(bytes.len() as u64);
+        self.raw(bytes)
+    }
+}

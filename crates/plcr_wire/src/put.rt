@@ -1,0 +1,61 @@
+//! Writers of single bytes, and the numbers that are spelled by them.
+ghost use Rattle.std.specs.Prelude.{◌≡◌, ◌+◌, ◌*◌, ◌^◌, ◌<◌, ◌≤◌, [], ◌∷◌, OnOk, OnErr};
+ghost use Rattle.plcr_base.specs.Causes.{Rose};
+ghost use Rattle.plcr_wire.specs.Pen.{Pen, Puts, PutsProperFront};
+ghost use Rattle.plcr_wire.specs.Varint.{varint, tag};
+
+use plcr_io::PutFailed;
+
+/// A writer of bytes.
+pub trait Put {
+    /// What it shows of the bytes given and of its failures.
+    ghost pen: { Self → Pen };
+
+    /// Writes a byte. At `Err` nothing was written.
+    fn byte(&mut self, b: u8) -> Result<(), PutFailed>
+        ensures ok { OnOk result (Puts (pen self.old) (pen self.new) (b ∷ [])) }
+        ensures err { OnErr result (Puts (pen self.old) (pen self.new) []) }
+        ensures cause { OnErr result (Rose (pen self.old).faults (pen self.new).faults) };
+}
+
+/// Writes a number as its shortest varint. At `Err` a front of it was written, and not all.
+#[tactic(auto, using(crate::proofs::Puttings::puts_start, crate::proofs::Puttings::varint_more, crate::proofs::Puttings::varint_last, crate::proofs::Puttings::varint_cut))]
+pub fn put_varint<P: Put>(p: &mut P, value: u64) -> Result<(), PutFailed>
+    ensures ok { OnOk result (Puts (P.pen p.old) (P.pen p.new) (varint value)) }
+    ensures err { OnErr result (PutsProperFront (P.pen p.old) (P.pen p.new) (varint value)) }
+    ensures cause { OnErr result (Rose (P.pen p.old).faults (P.pen p.new).faults) }
+{
+    let mut rest = value;
+    while rest >= 128 {
+        p.byte((rest % 128) as u8 + 128)?;
+        rest /= 128;
+    }
+    p.byte(rest as u8)?;
+    Ok(())
+}
+
+// Writes these bytes as they are. At `Err` a front of them was written, and not all.
+#[tactic(auto, using(crate::proofs::Puttings::puts_start, crate::proofs::Puttings::bytes_more, crate::proofs::Puttings::bytes_end, crate::proofs::Puttings::bytes_cut))]
+pub(crate) fn put_bytes<P: Put>(p: &mut P, bytes: &[u8]) -> Result<(), PutFailed>
+    ensures ok { OnOk result (Puts (P.pen p.old) (P.pen p.new) bytes.now) }
+    ensures err { OnErr result (PutsProperFront (P.pen p.old) (P.pen p.new) bytes.now) }
+    ensures cause { OnErr result (Rose (P.pen p.old).faults (P.pen p.new).faults) }
+{
+    for b in bytes {
+        p.byte(*b)?;
+    }
+    Ok(())
+}
+
+/// Writes the tag of a field with this number and wire type. At `Err` a front of it was written, and not all.
+#[tactic(auto, unfolding(crate::specs::Varint::tag))]
+pub fn put_tag<P: Put>(p: &mut P, field: u32, wire: u8) -> Result<(), PutFailed>
+    requires some { 0 < field }
+    requires within { field < 2 ^ 29 }
+    requires wire { wire < 8 }
+    ensures ok { OnOk result (Puts (P.pen p.old) (P.pen p.new) (tag field wire)) }
+    ensures err { OnErr result (PutsProperFront (P.pen p.old) (P.pen p.new) (tag field wire)) }
+    ensures cause { OnErr result (Rose (P.pen p.old).faults (P.pen p.new).faults) }
+{
+    put_varint(p, field as u64 * 8 + wire as u64)
+}

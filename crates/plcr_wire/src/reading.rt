@@ -1,0 +1,194 @@
+//! Reading of fields.
+ghost use Rattle.std.specs.Prelude.{◌≡◌, ℕ, List, ◌++◌, Ok, ◌+◌, ◌*◌, ◌^◌, ◌<◌, ◌≤◌, length, slice_range, IfOk};
+ghost use Rattle.std.specs.Int.{w32, w64};
+ghost use Rattle.plcr_wire.specs.Reading.{Reads, varint_at, number_at, fixed_at, text_at, field_at, value_at, found_at, Stands, piece, content, content_len, IsBytes, ReadsNumber};
+ghost use Rattle.plcr_wire.specs.Varint.{IsVarint};
+ghost use Rattle.plcr_wire.specs.Message as message;
+ghost use Rattle.plcr_wire.specs.Message.{FitsField, field_spelling};
+ghost use Rattle.plcr_wire.specs.Reading as spec;
+
+use crate::fields::{Field, Value, WireFault};
+use crate::pieces::{Content, Piece};
+
+// A varint, of which so many more groups may follow the next, and what is left.
+fn groups_of(bytes: &[u8], end: usize, first: usize, more: u32) -> Result<(u64, &[u8]), WireFault>
+    requires { more ≤ 9 }
+    ensures reads { Reads (λ x. (x.0, x.1.now)) result (varint_at end first more bytes.now) }
+    ensures fits { IfOk result (λ x. x.0 < 2 * 128 ^ more) }
+    ensures shorter { IfOk result (λ x. length x.1.now < length bytes.now) }
+{
+    let Some((byte, rest)) = bytes.split_first() else {
+        return Err(WireFault::Truncated { at: end });
+    };
+    let byte = *byte;
+    if more == 0 {
+        return if byte < 2 {
+            Ok((byte as u64, rest))
+        } else {
+            Err(WireFault::BadVarint { at: first })
+        };
+    }
+    if byte < 128 {
+        return Ok((byte as u64, rest));
+    }
+    let (high, rest) = groups_of(rest, end, first, more - 1)?;
+    Ok(((byte - 128) as u64 + 128 * high, rest))
+}
+
+// A varint, and what is left.
+#[tactic(auto, unfolding(crate::specs::Reading::number_at))]
+fn number_of(bytes: &[u8], end: usize) -> Result<(u64, &[u8]), WireFault>
+    requires { length bytes.now ≤ end }
+    ensures reads { Reads (λ x. (x.0, x.1.now)) result (number_at end bytes.now) }
+    ensures shorter { IfOk result (λ x. length x.1.now < length bytes.now) }
+{
+    groups_of(bytes, end, end - bytes.len(), 9)
+}
+
+// Eight bytes as a number, and what is left.
+#[tactic(auto, unfolding(crate::specs::Reading::fixed_at))]
+fn fixed64_of(bytes: &[u8], end: usize) -> Result<(u64, &[u8]), WireFault>
+    ensures reads { Reads (λ x. (x.0, x.1.now)) result (fixed_at w64 end bytes.now) }
+    ensures shorter { IfOk result (λ x. length x.1.now < length bytes.now) }
+{
+    if bytes.len() < 8 {
+        return Err(WireFault::Truncated { at: end });
+    }
+    let (front, rest) = bytes.split_at(8);
+    let number = u64::from_le_bytes([
+        front[0], front[1], front[2], front[3], front[4], front[5], front[6], front[7],
+    ]);
+    Ok((number, rest))
+}
+
+// Four bytes as a number, and what is left.
+#[tactic(auto, unfolding(crate::specs::Reading::fixed_at))]
+fn fixed32_of(bytes: &[u8], end: usize) -> Result<(u32, &[u8]), WireFault>
+    ensures reads { Reads (λ x. (x.0, x.1.now)) result (fixed_at w32 end bytes.now) }
+    ensures shorter { IfOk result (λ x. length x.1.now < length bytes.now) }
+{
+    if bytes.len() < 4 {
+        return Err(WireFault::Truncated { at: end });
+    }
+    let (front, rest) = bytes.split_at(4);
+    let number = u32::from_le_bytes([front[0], front[1], front[2], front[3]]);
+    Ok((number, rest))
+}
+
+// A length and so many bytes, and what is left.
+#[tactic(auto, unfolding(crate::specs::Reading::text_at))]
+fn text_of(bytes: &[u8], end: usize) -> Result<(&[u8], &[u8]), WireFault>
+    requires { length bytes.now ≤ end }
+    ensures reads { Reads (λ x. (x.0.now, x.1.now)) result (text_at end bytes.now) }
+    ensures shorter { IfOk result (λ x. length x.0.now + length x.1.now < length bytes.now) }
+{
+    let (len, rest) = number_of(bytes, end)?;
+    if (rest.len() as u64) < len {
+        return Err(WireFault::Truncated { at: end });
+    }
+    Ok(rest.split_at(len as usize))
+}
+
+// A value of this wire type, and what is left.
+#[tactic(auto, unfolding(crate::specs::Reading::value_at))]
+fn value_of(bytes: &[u8], end: usize, wire: u64) -> Result<(Content<'_>, &[u8]), WireFault>
+    requires { length bytes.now ≤ end }
+    ensures reads { Reads (λ x. (content x.0, x.1.now)) result (value_at end wire bytes.now) }
+    ensures shorter { IfOk result (λ x. content_len x.0 + length x.1.now < length bytes.now) }
+{
+    match wire {
+        0 => {
+            let (number, rest) = number_of(bytes, end)?;
+            Ok((Content::Number(number), rest))
+        }
+        1 => {
+            let (number, rest) = fixed64_of(bytes, end)?;
+            Ok((Content::Fixed64(number), rest))
+        }
+        2 => {
+            let (text, rest) = text_of(bytes, end)?;
+            Ok((Content::Bytes(text), rest))
+        }
+        _ => {
+            let (number, rest) = fixed32_of(bytes, end)?;
+            Ok((Content::Fixed32(number), rest))
+        }
+    }
+}
+
+// Whether a number is the tag of a field that may be.
+fn is_tag(tag: u64) -> bool
+    ensures { result ≡ spec.is_tag tag }
+{
+    tag > 7 && tag <= u32::MAX as u64 && (tag % 8 < 3 || tag % 8 == 5)
+}
+
+/// The field that these bytes, the last of a message that ends at `end`, begin with. Its faults have places
+/// in the message. Needs no memory.
+#[tactic(auto, unfolding(crate::specs::Reading::field_at))]
+pub fn field_of(bytes: &[u8], end: usize) -> Result<Piece<'_>, WireFault>
+    requires { length bytes.now ≤ end }
+    ensures reads { Reads piece result (field_at end bytes.now) }
+    ensures shorter { IfOk result (λ p. content_len p.value + length p.rest.now < length bytes.now) }
+{
+    let (tag, rest) = number_of(bytes, end)?;
+    if !is_tag(tag) {
+        return Err(WireFault::BadTag {
+            at: end - bytes.len(),
+        });
+    }
+    let (value, rest) = value_of(rest, end, tag % 8)?;
+    Ok(Piece {
+        number: (tag / 8) as u32,
+        value,
+        rest,
+    })
+}
+
+/// The field that stands at a place of a message, which ends at `end`.
+#[tactic(auto, unfolding(crate::specs::Reading::found_at))]
+pub fn next_field(bytes: &[u8], at: usize, end: usize) -> Result<Field, WireFault>
+    requires begins { at < end }
+    requires within { end ≤ length bytes.now }
+    ensures exact { result ≡ found_at end (slice_range bytes.now at end) }
+    ensures stands { IfOk result (Stands bytes.now at end) }
+    ensures next { IfOk result (λ f. (at < f.next) × (f.next ≤ end)) }
+{
+    let piece = field_of(&bytes[at..end], end)?;
+    let next = end - piece.rest.len();
+    Ok(Field {
+        number: piece.number,
+        value: placed(piece.value, next),
+        next,
+    })
+}
+
+// A value that ends at this place.
+fn placed(value: Content<'_>, to: usize) -> Value
+    requires { content_len value ≤ to }
+    ensures { result ≡ spec.placed to (content value.entry) }
+{
+    match value {
+        Content::Number(number) => Value::Varint(number),
+        Content::Fixed64(number) => Value::Fixed64(number),
+        Content::Bytes(text) => Value::Span {
+            from: to - text.len(),
+            to,
+        },
+        Content::Fixed32(number) => Value::Fixed32(number),
+    }
+}
+
+/// A field that was spelled is read again, whatever follows it.
+#[tactic(auto, using(crate::proofs::ReadAgain::field_again))]
+pub fn reads_again()
+    ensures { (end : ℕ) (f : message.Field) (rest : List ℕ) → FitsField f → field_at end (field_spelling f ++ rest) ≡ Ok (f, rest) }
+{}
+
+/// What is read as a number is a varint of it, of ten bytes at most; and each such varint of 64 bits is read, the
+/// shortest or not.
+#[tactic(auto, using(crate::proofs::ReadVarints::number_was, crate::proofs::ReadVarints::number_reads))]
+pub fn reads_varints()
+    ensures found { (end n : ℕ) (bytes rest : List ℕ) → IsBytes bytes → number_at end bytes ≡ Ok (n, rest) → ReadsNumber bytes n rest 10 }
+    ensures all { (end n : ℕ) (front rest : List ℕ) → IsVarint front n → length front ≤ 10 → n < 2 ^ 64 → number_at end (front ++ rest) ≡ Ok (n, rest) }
+{}
