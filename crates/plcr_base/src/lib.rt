@@ -5,3 +5,6 @@
 mod numbers;
 
 pub use numbers::{read_u16, read_u32, read_u64};
+
+#[cfg(test)]
+mod tests;

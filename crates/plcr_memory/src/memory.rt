@@ -1,4 +1,4 @@
-ghost use Rattle.std.specs.Prelude.{◌≡◌, All, IfOk, IfErr, OnOk, IfSome, IfNone, ◌+◌, ◌≤◌, ◌^◌, is_some, length};
+ghost use Rattle.std.specs.Prelude.{◌≡◌, All, IfOk, IfErr, OnOk, IfSome, IfNone, OnSome, ◌+◌, ◌≤◌, ◌^◌, is_some, length};
 ghost use Rattle.std.specs.Bool.{OnTrue, OnFalse};
 ghost use Rattle.plcr_memory.specs.Regions.{IsBacked, Ends, AreApart, byte_at, bytes_at, number_at};
 ghost use Rattle.plcr_memory.specs.Order.{IsHolder};
@@ -125,7 +125,8 @@ impl Memory {
     /// The little-endian number of 2 bytes at an address, where both are mapped.
     #[tactic(auto, unfolding(crate::specs::Regions::number_at))]
     pub fn read_u16(&self, at: u64) -> Option<u16>
-        ensures { result ≡ number_at 2 self.now at }
+        ensures number { result ≡ number_at 2 self.now at }
+        ensures within { OnSome result (at + 2 ≤ 2 ^ 64) }
     {
         let mut bytes = [0; 2];
         if self.copy(at, &mut bytes) {
@@ -138,7 +139,8 @@ impl Memory {
     /// The little-endian number of 4 bytes at an address, where all are mapped.
     #[tactic(auto, unfolding(crate::specs::Regions::number_at))]
     pub fn read_u32(&self, at: u64) -> Option<u32>
-        ensures { result ≡ number_at 4 self.now at }
+        ensures number { result ≡ number_at 4 self.now at }
+        ensures within { OnSome result (at + 4 ≤ 2 ^ 64) }
     {
         let mut bytes = [0; 4];
         if self.copy(at, &mut bytes) {
@@ -151,7 +153,8 @@ impl Memory {
     /// The little-endian number of 8 bytes at an address, where all are mapped.
     #[tactic(auto, unfolding(crate::specs::Regions::number_at))]
     pub fn read_u64(&self, at: u64) -> Option<u64>
-        ensures { result ≡ number_at 8 self.now at }
+        ensures number { result ≡ number_at 8 self.now at }
+        ensures within { OnSome result (at + 8 ≤ 2 ^ 64) }
     {
         let mut bytes = [0; 8];
         if self.copy(at, &mut bytes) {

@@ -1,0 +1,15 @@
+use super::*;
+use std::test::Fail;
+
+// The bytes 1, 2, 3, .. from a place on, the lowest first.
+#[test]
+fn numbers_stand_at_their_places(rt: HostRuntime) -> Result<(), Fail> {
+    let bytes = [1, 2, 3, 4, 5, 6, 7, 8, 0x89];
+    assert_eq!(rt; read_u16(&bytes, 0), 0x0201);
+    assert_eq!(rt; read_u16(&bytes, 7), 0x8908);
+    assert_eq!(rt; read_u32(&bytes, 1), 0x0504_0302);
+    assert_eq!(rt; read_u32(&bytes, 5), 0x8908_0706);
+    assert_eq!(rt; read_u64(&bytes, 0), 0x0807_0605_0403_0201);
+    assert_eq!(rt; read_u64(&bytes, 1), 0x8908_0706_0504_0302);
+    Ok(())
+}
