@@ -35,6 +35,11 @@ length-nodes nodes (x ∷ xs) a within =
     (λ k d. let other : eqb x.node (suc k) ≡ false = ne_eqb x.node (suc k) (λ s. eqb-false p k d (omega arith)) in rw other refl) in
     ap suc (length-nodes nodes xs a.1 (λ n h. within n (or_right (eqb x.node n) (has n xs) h))) ∙ sym more
 
+-- after a look that found no pass inside, a node that is not free is in the list
+pub looked_listed : (n : ℕ) (past : List Entry) → is_free n (Look 0 ∷ past) ≡ false → has n (live past) ≡ true
+looked_listed n past b =
+    busy_listed n (Look 0 ∷ past) b (false_from_ne_true (is_removed n past) (λ r. let f : is_free n (Look 0 ∷ past) ≡ true = rw r (or-true (is_new n past)) in not_both (is_free n (Look 0 ∷ past)) f b))
+
 module _ (nodes passes : ℕ) where
   pub live-length : (h : List Entry) → IsLegal nodes passes h → length (live h) ≡ count_below (λ k. has (suc k) (live h)) nodes
   live-length h l = length-nodes nodes (live h) (live_apart nodes passes h l) (λ n e. live_bound nodes passes n h l e)
@@ -42,11 +47,6 @@ module _ (nodes passes : ℕ) where
   -- the list is no longer than there are nodes
   pub live_few : (h : List Entry) → IsLegal nodes passes h → length (live h) ≤ nodes
   live_few h l = omega (arith, live-length h l, count_below-most (λ k. has (suc k) (live h)) nodes)
-
-  -- after a look that found no pass inside, a node that is not free is in the list
-  pub looked_listed : (n : ℕ) (past : List Entry) → is_free n (Look 0 ∷ past) ≡ false → has n (live past) ≡ true
-  looked_listed n past b =
-      busy_listed n (Look 0 ∷ past) b (false_from_ne_true (is_removed n past) (λ r. let f : is_free n (Look 0 ∷ past) ≡ true = rw r (or-true (is_new n past)) in not_both (is_free n (Look 0 ∷ past)) f b))
 
   -- and where none is free, all nodes are in it
   pub all_live : (past : List Entry) → IsLegal nodes passes (Look 0 ∷ past) → ((n : ℕ) → 0 < n → n ≤ nodes → is_free n (Look 0 ∷ past) ≡ false) → length (live past) ≡ nodes

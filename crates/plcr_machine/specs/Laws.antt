@@ -41,9 +41,13 @@ PacedPrefixes = (past history : List Entry) → IsPaced history → Grows past h
 
 -- after a look that found no pass inside, where no node is free, all nodes are in the list
 abbrev pub FullWhenNoneIsFree : Type 0
-FullWhenNoneIsFree = (nodes passes : ℕ) (past : List Entry) → IsLegal nodes passes (Look 0 ∷ past)
-    → ((node : ℕ) → 0 < node → node ≤ nodes → IsFalse (is_free node (Look 0 ∷ past)))
-    → ((node : ℕ) → 0 < node → node ≤ nodes → IsTrue (has node (live (Look 0 ∷ past)))) × (length (live (Look 0 ∷ past)) ≡ nodes)
+FullWhenNoneIsFree = (nodes : ℕ) (past : List Entry) → ((node : ℕ) → 0 < node → node ≤ nodes → IsFalse (is_free node (Look 0 ∷ past)))
+    → (node : ℕ) → 0 < node → node ≤ nodes → IsTrue (has node (live (Look 0 ∷ past)))
+
+-- and in a legal history the list is then as long as there are nodes
+abbrev pub FullIsAsLong : Type 0
+FullIsAsLong = (nodes passes : ℕ) (past : List Entry) → IsLegal nodes passes (Look 0 ∷ past)
+    → ((node : ℕ) → 0 < node → node ≤ nodes → IsFalse (is_free node (Look 0 ∷ past))) → length (live (Look 0 ∷ past)) ≡ nodes
 
 -- the link of a removed node that is not free leads to the end, or to a node that is not free
 -- and is in the list or was unloaded no earlier

@@ -1,7 +1,7 @@
 //! What legal histories imply, each as the contract of a function that does nothing.
 
 ghost use Rattle.plcr_machine.specs.Examples.{WorkedHistory, WorkedNodes, WorkedLinks, WorkedWalk, Refused};
-ghost use Rattle.plcr_machine.specs.Laws.{LegalIsKept, ReachIsBusy, FreedInOrder, EndedWalkIsLawful, EndedWalkOfHistoryIsLawful, PacedPrefixes, FullWhenNoneIsFree, StaleLinksLeadOn, LinksStayInReach, LinksFollow, LoadChangesOneLink, UnloadChangesOneLink, ReadersCount, ListsStay, ChangesMakeTheList};
+ghost use Rattle.plcr_machine.specs.Laws.{LegalIsKept, ReachIsBusy, FreedInOrder, EndedWalkIsLawful, EndedWalkOfHistoryIsLawful, PacedPrefixes, FullWhenNoneIsFree, FullIsAsLong, StaleLinksLeadOn, LinksStayInReach, LinksFollow, LoadChangesOneLink, UnloadChangesOneLink, ReadersCount, ListsStay, ChangesMakeTheList};
 
 /// No node is loaded that a pass may still reach.
 pub fn legal_is_kept()
@@ -27,7 +27,8 @@ pub fn paced_prefixes()
 
 /// Where no node is free though no pass is inside, all nodes are in the list.
 pub fn full_when_none_is_free()
-    ensures { FullWhenNoneIsFree }
+    ensures all { FullWhenNoneIsFree }
+    ensures length { FullIsAsLong }
 {}
 
 /// The link of a removed node that may still be followed leads to no node that may be loaded.
