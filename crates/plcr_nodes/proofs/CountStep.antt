@@ -7,7 +7,7 @@ use Rattle.atomic_table.specs.Table.{Me, keeps, stepped, step, Step, Allows}
 use Rattle.atomic_table.specs.Seated.{TableId}
 use Rattle.plcr_machine.specs.declared.entry.Entry.{Entry}
 use Rattle.plcr_machine.specs.declared.entry.Entry.TheVariants.{Enter, Leave, Load, Unload, Count, Look}
-use Rattle.plcr_machine.specs.Histories.{MayFollow, IsHistory}
+use Rattle.plcr_machine.specs.Histories.{MayFollow}
 use Rattle.plcr_machine.specs.Nodes.{is_new, is_removed, is_cleared, is_free}
 use Rattle.plcr_machine.specs.Passes.{counts, readers}
 use Rattle.plcr_machine.specs.Parts.{own_entries, owner_entries}
@@ -18,8 +18,9 @@ use Rattle.plcr_nodes.specs.declared.view.View.{View}
 use Rattle.plcr_nodes.specs.Rule.{base, gate_of, Truth, Stands, Fits, Holds}
 use Rattle.plcr_nodes.specs.Plays.{TakesIn, view_at}
 use Rattle.plcr_nodes.specs.Counting.{counted, looked, IsCounted, IsLooked}
-use Rattle.plcr_nodes.specs.Tokens.{owner_state, IsOwner, OwnerSeesMore}
+use Rattle.plcr_nodes.specs.Tokens.{owner_state, IsOwner}
 use Rattle.plcr_nodes.proofs.Known.{free_same}
+use Rattle.plcr_nodes.proofs.Owning.{sees}
 use Rattle.plcr_nodes.proofs.Fitting.{St, there, moved, taken, sees_all}
 use Rattle.plcr_nodes.proofs.GateSteps.{SameList, stands_gate}
 use Rattle.plcr_nodes.proofs.StoreSteps.{owned_else}
@@ -83,7 +84,7 @@ module _ (nodes passes slots id : ℕ) (me : Mine) (lives : me.0.spent ≡ false
         holds = f.holds;
         given = λ n z _. not_both false z refl;
         filled = λ o n k y some_node word is. let g = f.filled o n k y some_node word is in
-            (g.0, on.free n (free_same n r.history v.history (f.sees.owner o) ∙ g.1), get_or-set_other s.words 0 (base n + k) x 0 (λ z. omega arith) ∙ g.2);
+            (g.0, on.free n (free_same n r.history v.history (f.sees.added.owner o) ∙ g.1), get_or-set_other s.words 0 (base n + k) x 0 (λ z. omega arith) ∙ g.2);
         heard = λ k u z. cc;
       })
       (λ j u apart _ g. record {
@@ -92,9 +93,9 @@ module _ (nodes passes slots id : ℕ) (me : Mine) (lives : me.0.spent ≡ false
         new = [];
         names = refl;
         same_owner = refl;
-        own = λ q a. on.own q;
+        own = λ q _ _. on.own q;
         owner = λ o. owned_else nodes passes slots id me lives owns s r at j u apart g o;
-        holder = λ q a b. (b, refl);
+        holder = λ q b held. (b, held);
       })
 
   pub counting : counts me.0.history < 4294967295 → Allows (Holds nodes passes) slots id me 0 (λ n. (n + 4294967296) % 2 ^ 64) (counted (step slots 0 4294967296 0 none) me)
@@ -103,7 +104,7 @@ module _ (nodes passes slots id : ℕ) (me : Mine) (lives : me.0.spent ≡ false
       let f : Fits nodes passes (there s r) id v = r.seats id v at lives in
       let st : Stands nodes passes (there s r) = r.stands in
       let h : List Entry = r.history in
-      let same : counts h ≡ counts v.history = counts_same h v.history (f.sees.owner owns) in
+      let same : counts h ≡ counts v.history = counts_same h v.history (f.sees.added.owner owns) in
       let k : ℕ = readers passes h in
       let most : k ≤ passes = readers_most passes h in let small = st.sizes.1 in let g = st.gate in
       let x : ℕ = (get_or s.words 0 0 + 4294967296) % 2 ^ 64 in
@@ -134,12 +135,6 @@ module _ (nodes passes slots id : ℕ) (me : Mine) (lives : me.0.spent ≡ false
 
 -- what the owner knows after it
 module _ (z : TableId) (m : Mine) (g : IsOwner z m) where
-  taken_legal : (past : List Entry) (names : List (List ℕ)) → TakesIn m.0 past names → IsHistory m.0.nodes m.0.passes past names
-  taken_legal past names t = record { few_nodes = g.seat.known.few_nodes; few_passes = g.seat.known.few_passes; legal = t.legal; named = t.as_many }
-
-  sees : (past : List Entry) (names : List (List ℕ)) → TakesIn m.0 past names → OwnerSeesMore (owner_state z m.0) past names
-  sees past names t = record { grows = t.seen; named = t.named; own = t.owner g.owns; legal = taken_legal past names t; short = t.short }
-
   owner_after : (e : Entry) (past : List Entry) (names : List (List ℕ)) → TakesIn m.0 past names → IsOnGate e past → MayFollow m.0.nodes m.0.passes past e
       → IsOwner z (record (view_at m.0 (e ∷ past) names) { given = [] }, m.1)
   owner_after e past names t on may =
@@ -149,11 +144,11 @@ module _ (z : TableId) (m : Mine) (g : IsOwner z m) where
           wide = g.seat.wide;
           lives = g.seat.lives;
           light = g.seat.light;
-          known = record { few_nodes = known.few_nodes; few_passes = known.few_passes; legal = (may, t.legal); named = t.as_many ∙ sym on.same.loads };
+          known = record { few_nodes = known.few_nodes; few_passes = known.few_passes; legal = (may, t.legal.legal); named = t.legal.named ∙ sym on.same.loads };
           short = t.short;
         };
         owns = g.owns;
-        filled = λ j i x some_j i_in is. let f = g.filled j i x some_j i_in is in (f.0, on.free j (free_same j past m.0.history (t.owner g.owns) ∙ f.1));
+        filled = λ j i x some_j i_in is. let f = g.filled j i x some_j i_in is in (f.0, on.free j (free_same j past m.0.history (t.added.owner g.owns) ∙ f.1));
       }
 
   pub owner_counted : (st : Step Unit) (found : ℕ) (m' : Mine) → counted st m found m' → IsOwner z m' × IsCounted (owner_state z m.0) found (owner_state z m'.0)
@@ -165,7 +160,7 @@ module _ (z : TableId) (m : Mine) (g : IsOwner z m) where
       let same : m' ≡ (w, m.1) = λ i. (told.3 i, told.5 i) in
       let after : IsOwner z (w, m.1) = owner_after (Count k) past names told.2 (count_of k past) refl in
       subst (λ (q : Mine). IsOwner z q × IsCounted (owner_state z m.0) found (owner_state z q.0)) (sym same)
-      (after, record { past = past; names = names; sees = sees past names told.2; now = refl; gate = told.4; legal = after.seat.known })
+      (after, record { past = past; names = names; sees = sees z m g past names told.2; now = refl; gate = told.4; legal = after.seat.known })
 
   pub owner_looked : (st : Step Unit) (found : ℕ) (m' : Mine) → looked st m found m' → IsOwner z m' × IsLooked (owner_state z m.0) found (owner_state z m'.0)
   owner_looked st found m' told =
@@ -176,4 +171,4 @@ module _ (z : TableId) (m : Mine) (g : IsOwner z m) where
       let same : m' ≡ (w, m.1) = λ i. (told.3 i, told.5 i) in
       let after : IsOwner z (w, m.1) = owner_after (Look k) past names told.2 (look_of k past) refl in
       subst (λ (q : Mine). IsOwner z q × IsLooked (owner_state z m.0) found (owner_state z q.0)) (sym same)
-      (after, record { past = past; names = names; sees = sees past names told.2; now = refl; gate = told.4; legal = after.seat.known })
+      (after, record { past = past; names = names; sees = sees z m g past names told.2; now = refl; gate = told.4; legal = after.seat.known })

@@ -3,9 +3,10 @@ use Rattle.std.proofs.Common.{◌≡◌, ◌≢◌, ⊎_elim, ℕ, ◌+◌, ◌<
 use Rattle.atomic_table.specs.Table.{State, keeps, stepped}
 use Rattle.atomic_table.proofs.Lists.{at_set}
 use Rattle.plcr_machine.specs.declared.entry.Entry.{Entry}
-use Rattle.plcr_machine.specs.Histories.{IsLegal}
+use Rattle.plcr_machine.specs.Histories.{IsHistory}
 use Rattle.plcr_machine.specs.Lists.{loads}
 use Rattle.plcr_machine.specs.Parts.{own_entries, owner_entries}
+use Rattle.plcr_machine.proofs.Cases.{not_both}
 use Rattle.plcr_nodes.specs.declared.view.View.{View}
 use Rattle.plcr_nodes.specs.Entries.{among, WentOn}
 use Rattle.plcr_nodes.specs.Rule.{base, Truth, Stands, Sees, Fits, Holds}
@@ -31,32 +32,52 @@ pub record Leaves (t t' : Truth) (j : ℕ) (u : View) : Type 0 where
   pub new : List (List ℕ)
   pub names : t'.names ≡ new ++ t.names
   pub same_owner : t'.owner ≡ t.owner
-  pub own : (p : ℕ) → among p u.numbers ≡ true → own_entries p t'.history ≡ own_entries p t.history
+  pub own : (p : ℕ) → p < t.numbered → t.holder p ≡ j → own_entries p t'.history ≡ own_entries p t.history
   pub owner : u.owns ≡ true → (owner_entries t'.history ≡ owner_entries t.history) × (t'.numbered ≡ t.numbered)
       × ((n k : ℕ) → 0 < n → k < 131 → get_or t'.words (base n + k) 0 ≡ get_or t.words (base n + k) 0)
-  pub holder : (p : ℕ) → among p u.numbers ≡ true → p < t.numbered → (p < t'.numbered) × (t'.holder p ≡ t.holder p)
+  pub holder : (p : ℕ) → p < t.numbered → t.holder p ≡ j → (p < t'.numbered) × (t'.holder p ≡ j)
 
 sees_left : (t t' : Truth) (j : ℕ) (u : View) (l : Leaves t t' j u) (history : List Entry) (names : List (List ℕ)) (owns : Bool) (numbers : List ℕ)
-    → (owns ≡ true → u.owns ≡ true) → ((p : ℕ) → among p numbers ≡ true → among p u.numbers ≡ true) → Sees t history names owns numbers → Sees t' history names owns numbers
+    → (owns ≡ true → u.owns ≡ true) → ((p : ℕ) → among p numbers ≡ true → (p < t.numbered) × (t.holder p ≡ j)) → Sees t history names owns numbers → Sees t' history names owns numbers
 sees_left t t' j u l history names owns numbers o n s = record {
-  seen = went_further history t.history l.added t'.history l.history s.seen;
+  added = record {
+    grows = went_further history t.history l.added t'.history l.history s.added.grows;
+    owner = λ e. (l.owner (o e)).0 ∙ s.added.owner e;
+    own = λ p a. l.own p (n p a).0 (n p a).1 ∙ s.added.own p a;
+  };
   named = went_further names t.names l.new t'.names l.names s.named;
   as_many = s.as_many;
-  owner = λ e. (l.owner (o e)).0 ∙ s.owner e;
-  own = λ p a. l.own p (n p a) ∙ s.own p a;
 }
 
 module _ (nodes passes : ℕ) where
+  -- the words show the same whichever seats have the pass numbers
+  pub stands_held : (t : Truth) (holder : ℕ → ℕ) → Stands nodes passes t → Stands nodes passes (record t { holder = holder })
+  stands_held t holder st = record {
+    sizes = st.sizes;
+    wide = st.wide;
+    legal = st.legal;
+    named = st.named;
+    short = st.short;
+    few = st.few;
+    gate = st.gate;
+    number = st.number;
+    enough = st.enough;
+    unused = st.unused;
+    links = st.links;
+    payload = st.payload;
+  }
+
   -- another seat's view agrees as before
   pub still_fits : (t t' : Truth) (j : ℕ) (u : View) → Leaves t t' j u → Fits nodes passes t j u → Fits nodes passes t' j u
   still_fits t t' j u l f = record {
     sizes = f.sizes;
-    sees = sees_left t t' j u l u.history u.names u.owns u.numbers (λ e. e) (λ p a. a) f.sees;
+    sees = sees_left t t' j u l u.history u.names u.owns u.numbers (λ e. e) f.holds f.sees;
     owns = λ e. let o = f.owns e in (o.0 ∙ sym l.same_owner, o.1 ∙ sym (l.owner e).1);
-    holds = λ p a. let h = f.holds p a in let m = l.holder p a h.0 in (m.0, m.1 ∙ h.1);
+    holds = λ p a. let h = f.holds p a in l.holder p h.0 h.1;
     given = f.given;
     filled = λ e n k x some_node word is. let g = f.filled e n k x some_node word is in (g.0, g.1, (l.owner e).2 n k some_node word ∙ g.2);
-    heard = λ k w at. let g = f.heard k w at in (sees_left t t' j u l w.history w.names w.owns w.numbers g.1 g.2 g.0, g.1, g.2);
+    heard = λ k w at. let g = f.heard k w at in
+        (sees_left t t' j u l w.history w.names false w.numbers (λ e. not_both false e refl) g.1 g.0, λ p a. let h = g.1 p a in l.holder p h.0 h.1);
   }
 
   -- a seat steps: the words, its own view and all others' agree with what there is then
@@ -81,15 +102,13 @@ module _ (nodes passes : ℕ) where
   -- what a step lets a view take in
   pub taken : (t : Truth) (id : ℕ) (v : View) → Stands nodes passes t → Fits nodes passes t id v → TakesIn v t.history t.names
   taken t id v s f = record {
-    seen = f.sees.seen;
+    added = f.sees.added;
     named = f.sees.named;
-    as_many = s.named;
-    legal = subst (λ (z : ℕ × ℕ). IsLegal z.0 z.1 t.history) (λ i. (sym f.sizes.0 i, sym f.sizes.1 i)) s.legal;
+    legal = subst (λ (z : ℕ × ℕ). IsHistory z.0 z.1 t.history t.names) (λ i. (sym f.sizes.0 i, sym f.sizes.1 i))
+        (record { few_nodes = s.sizes.0; few_passes = s.sizes.1; legal = s.legal; named = s.named });
     short = s.short;
-    owner = f.sees.owner;
-    own = f.sees.own;
   }
 
 -- a view with the whole history sees it
 pub sees_all : (t : Truth) (owns : Bool) (numbers : List ℕ) → length t.names ≡ loads t.history → Sees t t.history t.names owns numbers
-sees_all t owns numbers e = record { seen = ([], refl); named = ([], refl); as_many = e; owner = λ _. refl; own = λ _ _. refl }
+sees_all t owns numbers e = record { added = record { grows = ([], refl); owner = λ _. refl; own = λ _ _. refl }; named = ([], refl); as_many = e }

@@ -102,7 +102,7 @@ module _ (nodes passes : ℕ) (s : St) (r : Holds nodes passes s) (id : ℕ) (v 
         holds = f.holds;
         given = λ n z _. not_both false z refl;
         filled = λ o n k y some_node word is. let g = f.filled o n k y some_node word is in
-            (g.0, of.free n ∙ (free_same n r.history v.history (f.sees.owner o) ∙ g.1), get_or-set_other s.words 0 (base n + k) x 0 (λ z. omega arith) ∙ g.2);
+            (g.0, of.free n ∙ (free_same n r.history v.history (f.sees.added.owner o) ∙ g.1), get_or-set_other s.words 0 (base n + k) x 0 (λ z. omega arith) ∙ g.2);
         heard = λ k u z. cc;
       })
       (λ j u apart _ g. record {
@@ -111,9 +111,9 @@ module _ (nodes passes : ℕ) (s : St) (r : Holds nodes passes s) (id : ℕ) (v 
         new = [];
         names = refl;
         same_owner = refl;
-        own = λ q a. of.others q (λ z. apart (sym (g.holds q a).1 ∙ (ap r.holder z ∙ (f.holds p mine).1)));
+        own = λ q _ held. of.others q (λ z. apart (sym held ∙ (ap r.holder z ∙ (f.holds p mine).1)));
         owner = λ _. (of.owner, refl, λ n k some_node _. get_or-set_other s.words 0 (base n + k) x 0 (λ z. omega arith));
-        holder = λ q a b. (b, refl);
+        holder = λ q b held. (b, held);
       })
 
 abbrev Mine : Type 0
@@ -128,7 +128,7 @@ module _ (nodes passes slots id : ℕ) (me : Mine) (lives : me.0.spent ≡ false
       let f : Fits nodes passes (there s r) id v = r.seats id v at lives in
       let st : Stands nodes passes (there s r) = r.stands in
       let h : List Entry = r.history in
-      let out' : is_inside p h ≡ false = inside_same p h v.history (f.sees.own p mine) ∙ out in
+      let out' : is_inside p h ≡ false = inside_same p h v.history (f.sees.added.own p mine) ∙ out in
       let b : p < passes = let a = (f.holds p mine).0 in let z = st.enough in omega arith in
       let more : readers passes (Enter p ∷ h) ≡ suc (readers passes h) = readers-enter nodes passes p h ((b, out'), st.legal) in
       let few = st.few in let most : readers passes h ≤ passes = readers_most passes h in let small = st.sizes.1 in let g = st.gate in
@@ -148,7 +148,7 @@ module _ (nodes passes slots id : ℕ) (me : Mine) (lives : me.0.spent ≡ false
       let f : Fits nodes passes (there s r) id v = r.seats id v at lives in
       let st : Stands nodes passes (there s r) = r.stands in
       let h : List Entry = r.history in
-      let inn' : is_inside p h ≡ true = inside_same p h v.history (f.sees.own p mine) ∙ inn in
+      let inn' : is_inside p h ≡ true = inside_same p h v.history (f.sees.added.own p mine) ∙ inn in
       let b : p < passes = let a = (f.holds p mine).0 in let z = st.enough in omega arith in
       let less : readers passes h ≡ suc (readers passes (Leave p ∷ h)) = readers-leave nodes passes p h (inn', st.legal) in
       let few = st.few in let most : readers passes h ≤ passes = readers_most passes h in let small = st.sizes.1 in let g = st.gate in

@@ -3,10 +3,8 @@ use Rattle.std.proofs.Common.{◌≡◌, ◌≢◌, ℕ, zero, suc, ◌<◌, ari
 use Rattle.std.proofs.lemmas.List.Elements.{All-nil, All-push}
 use Rattle.atomic_table.specs.Seated.{TableId}
 use Rattle.plcr_machine.specs.declared.image.Image.{Image}
-use Rattle.plcr_machine.specs.declared.entry.Entry.{Entry}
-use Rattle.plcr_machine.specs.Histories.{IsLegal, IsHistory}
+use Rattle.plcr_machine.specs.Histories.{IsHistory}
 use Rattle.plcr_machine.specs.Holds.{may_reach}
-use Rattle.plcr_machine.specs.Parts.{own_entries}
 use Rattle.plcr_machine.specs.Lists.{live, loads}
 use Rattle.plcr_machine.specs.Nodes.{is_free}
 use Rattle.plcr_machine.specs.Passes.{is_inside}
@@ -16,8 +14,9 @@ use Rattle.plcr_nodes.specs.Entries.{among}
 use Rattle.plcr_nodes.specs.Names.{header_in}
 use Rattle.plcr_nodes.specs.Rule.{name_on}
 use Rattle.plcr_nodes.specs.Tokens.{PassState, OwnerState, IsEntered, IsFollowed, IsRead, IsLinked, opened_pass, opened_passes, IsFresh}
-use Rattle.plcr_nodes.proofs.Known.{inside_same, reach_grows, free_same, live_same, loads_same}
-use Rattle.plcr_nodes.proofs.LoadSteps.{name_grows}
+use Rattle.plcr_nodes.proofs.Seeing.{own_of}
+use Rattle.plcr_nodes.proofs.Known.{inside_same, free_same, live_same, loads_same}
+use Rattle.plcr_nodes.proofs.Staying.{reach_stays, name_stays}
 use Rattle.plcr_nodes.proofs.LinkStep.{free_else}
 use Rattle.plcr_nodes.specs.Unlinking.{Follows}
 
@@ -29,7 +28,7 @@ entered_inside old found new e =
 -- a pass that follows a link stays in
 pub followed_inside : (old : PassState) (node found : ℕ) (new : PassState) → IsFollowed old node found new → is_inside old.number old.history ≡ true → is_inside new.number new.history ≡ true
 followed_inside old node found new f inn =
-    subst (λ (s : PassState). is_inside s.number s.history ≡ true) (sym f.now) (inside_same old.number f.past old.history f.sees.own ∙ inn)
+    subst (λ (s : PassState). is_inside s.number s.history ≡ true) (sym f.now) (inside_same old.number f.past old.history (own_of old.number old.history f.past f.sees.added) ∙ inn)
 
 -- and may go on from what it was given
 pub followed_given : (old : PassState) (node found : ℕ) (new : PassState) → IsFollowed old node found new → among found new.given ≡ true
@@ -48,24 +47,24 @@ linked_last old node new l =
 pub linked_free : (old : OwnerState) (node : ℕ) (new : OwnerState) → IsLinked old node new → (m : ℕ) → m ≢ node → is_free m old.history ≡ true → is_free m new.history ≡ true
 linked_free old node new l m d f =
     subst (λ (s : OwnerState). is_free m s.history ≡ true) (sym l.now)
-    (free_else node m (suc (loads l.past)) (header_in node old.filled) l.past (λ z. d (sym z)) ∙ (free_same m l.past old.history l.sees.own ∙ f))
+    (free_else node m (suc (loads l.past)) (header_in node old.filled) l.past (λ z. d (sym z)) ∙ (free_same m l.past old.history (l.sees.added.owner refl) ∙ f))
 
 pub linked_loads : (old : OwnerState) (node : ℕ) (new : OwnerState) → IsLinked old node new → loads new.history ≡ suc (loads old.history)
 linked_loads old node new l =
-    subst (λ (s : OwnerState). loads s.history ≡ suc (loads old.history)) (sym l.now) (ap suc (loads_same l.past old.history l.sees.own))
+    subst (λ (s : OwnerState). loads s.history ≡ suc (loads old.history)) (sym l.now) (ap suc (loads_same l.past old.history (l.sees.added.owner refl)))
 
 -- the node that was linked in the empty list follows the head
 pub linked_follows : (old : OwnerState) (node : ℕ) (new : OwnerState) → IsLinked old node new → 0 < node → live old.history ≡ [] → Follows 0 node new.history
 linked_follows old node new l positive empty =
     let x : Image = record { node = node; load = suc (loads l.past); header = header_in node old.filled } in
-    let lists : live l.past ≡ [] = live_same l.past old.history l.sees.own ∙ empty in
+    let lists : live l.past ≡ [] = live_same l.past old.history (l.sees.added.owner refl) ∙ empty in
     subst (λ (s : OwnerState). Follows 0 node s.history) (sym l.now)
     (record { place = refl; next = ap (λ (xs : List Image). after 0 0 (xs ++ x ∷ [])) lists; some = λ z. omega arith })
 
 -- a pass that reads a word stays in
 pub read_inside : (old : PassState) (node word found : ℕ) (new : PassState) → IsRead old node word found new → is_inside old.number old.history ≡ true → is_inside new.number new.history ≡ true
 read_inside old node word found new f inn =
-    subst (λ (s : PassState). is_inside s.number s.history ≡ true) (sym f.now) (inside_same old.number f.past old.history f.sees.own ∙ inn)
+    subst (λ (s : PassState). is_inside s.number s.history ≡ true) (sym f.now) (inside_same old.number f.past old.history (own_of old.number old.history f.past f.sees.added) ∙ inn)
 
 -- a pass that knows a legal history may reach the node
 abbrev pub Reaches : PassState → ℕ → Type 0
@@ -80,14 +79,8 @@ pub read_reaches : (old : PassState) (node word found : ℕ) (new : PassState) �
     → Reaches new node × (name_on node new.history new.names ≡ name_on node old.history old.names)
 read_reaches old node word found new f r =
     let p : ℕ = old.number in
-    let s = f.sees.grows in
-    let ns = f.sees.named in
-    let own = subst (λ h. own_entries p h ≡ own_entries p old.history) s.1 f.sees.own in
-    let legal = subst (IsLegal old.nodes old.passes) s.1 f.sees.legal.legal in
-    let reach : may_reach p node f.past ≡ true = subst (λ h. may_reach p node h ≡ true) (sym s.1) (reach_grows p node s.0 old.history own r.1) in
-    let name : name_on node f.past f.names ≡ name_on node old.history old.names =
-    subst (λ (q : List Entry × List (List ℕ)). name_on node q.0 q.1 ≡ name_on node old.history old.names) (λ i. (sym s.1 i, sym ns.1 i))
-    (name_grows old.nodes old.passes p node s.0 old.history ns.0 old.names legal own r.1 r.0.named) in
+    let reach = reach_stays old.nodes old.passes p node old.history f.past old.names f.names f.sees r.1 in
+    let name = name_stays old.nodes old.passes p node old.history f.past old.names f.names f.sees r.1 r.0.named in
     subst (λ (q : PassState). Reaches q node × (name_on node q.history q.names ≡ name_on node old.history old.names)) (sym f.now) ((f.sees.legal, reach), name)
 
 -- word 1 is the length of the name on the node

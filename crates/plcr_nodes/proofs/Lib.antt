@@ -1,8 +1,10 @@
 pub mod Known
+pub mod Seeing
 pub mod NamesKept
 pub mod Fitting
 pub mod GateSteps
 pub mod LoadSteps
+pub mod Staying
 pub mod StoreSteps
 pub mod LinkStep
 pub mod Opening
@@ -13,3 +15,7 @@ pub mod CountStep
 pub mod UnlinkStep
 pub mod Noting
 pub mod Spelling
+pub mod TellSteps
+pub mod Told
+pub mod Joining
+pub mod Pacing

@@ -18,6 +18,7 @@ use Rattle.plcr_nodes.specs.declared.view.Store.{Store}
 use Rattle.plcr_nodes.specs.Names.{stored, words_of, payload_word, header_in, name_in, IsFilled, IsEnded}
 use Rattle.plcr_nodes.specs.Rule.{base, image_word, image_words, IsHeld, Truth, Stands, Fits, Holds}
 use Rattle.plcr_nodes.specs.Plays.{linked, linked_view}
+use Rattle.plcr_nodes.proofs.Spelling.{name_bytes}
 use Rattle.plcr_nodes.proofs.Known.{free_same, live_same, loaded_most}
 use Rattle.plcr_nodes.proofs.NamesKept.{name-older, name-new}
 use Rattle.plcr_nodes.proofs.Fitting.{truth, there, moved, taken, sees_all}
@@ -114,7 +115,7 @@ module _ (nodes passes slots id : ℕ) (me : Mine) (lives : me.0.spent ≡ false
       let ws : List ℕ = s.words in
       let first = f.filled owns n 1 (header_in n v.filled) some_node (omega arith) full.header in
       let in_table : n ≤ nodes = first.0 in
-      let same = f.sees.owner owns in
+      let same = f.sees.added.owner owns in
       let free : is_free n h ≡ true = free_same n h v.history same ∙ first.1 in
       let last' : tail ≡ last_place 0 (live h) = last ∙ sym (ap (last_place 0) (live_same h v.history same)) in
       let header : ℕ = header_in n v.filled in
@@ -129,7 +130,7 @@ module _ (nodes passes slots id : ℕ) (me : Mine) (lives : me.0.spent ≡ false
         wide = length-set ws (base tail) n ∙ st.wide;
         legal = ((some_node, in_table, free, refl), st.legal);
         named = ap suc st.named;
-        short = (full.short, st.short);
+        short = (full.short, name_bytes n v.filled, st.short);
         few = st.few;
         gate = get_or-set_other ws (base tail) 0 n 0 (λ z. omega arith) ∙ st.gate;
         number = get_or-set_other ws (base tail) 1 n 0 (λ z. omega arith) ∙ st.number;
@@ -165,9 +166,9 @@ module _ (nodes passes slots id : ℕ) (me : Mine) (lives : me.0.spent ≡ false
               new = name ∷ [];
               names = refl;
               same_owner = refl;
-              own = λ q a. refl;
+              own = λ q _ _. refl;
               owner = λ o. owned_else nodes passes slots id me lives owns s r at j u apart g o;
-              holder = λ q a b. (b, refl);
+              holder = λ q b held. (b, held);
             }),
         (h, r.names, taken nodes passes t id v st f, refl, refl),
       )

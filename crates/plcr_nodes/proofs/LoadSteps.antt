@@ -17,7 +17,7 @@ use Rattle.plcr_machine.specs.Parts.{own_entries}
 use Rattle.plcr_nodes.specs.declared.view.View.{View}
 use Rattle.plcr_nodes.specs.Entries.{among}
 use Rattle.plcr_nodes.specs.Names.{words_of}
-use Rattle.plcr_nodes.specs.Rule.{base, name_on, image_word, image_words, number_of, Stands, Fits, Holds}
+use Rattle.plcr_nodes.specs.Rule.{base, name_on, image_word, image_words, first_of, number_of, Stands, Fits, Holds}
 use Rattle.plcr_nodes.specs.Plays.{view_at, followed, loaded_word}
 use Rattle.plcr_nodes.proofs.Known.{inside_same, free_same, reach_grows, reach_bound, legal_older, link_bound, loaded_grows, loaded_most}
 use Rattle.plcr_nodes.proofs.NamesKept.{name-older}
@@ -26,25 +26,27 @@ use Rattle.plcr_machine.proofs.Leads.{link_reach, head_reach}
 use Rattle.plcr_machine.proofs.Reach.{reach_busy}
 
 module _ (nodes passes : ℕ) (s : St) (r : Holds nodes passes s) (id : ℕ) (v : View) (at : get_elem? s.views id ≡ some v) (lives : v.spent ≡ false) where
-  -- the seat has seen all
-  seen_fits : (given : List ℕ) → ((n : ℕ) → among n given ≡ true → 0 < n → may_reach (number_of v) n r.history ≡ true)
-      → Fits nodes passes (there s r) id (record (view_at v r.history r.names) { given = given })
-  seen_fits given met =
+  -- the seat has seen all, and may have gained pass numbers
+  seen_fits : (numbers given : List ℕ) → ((p : ℕ) → among p numbers ≡ true → (p < r.numbered) × (r.holder p ≡ id))
+      → ((n : ℕ) → among n given ≡ true → 0 < n → may_reach (first_of numbers) n r.history ≡ true)
+      → Fits nodes passes (there s r) id (record (view_at v r.history r.names) { numbers = numbers; given = given })
+  seen_fits numbers given held met =
       let f : Fits nodes passes (there s r) id v = r.seats id v at lives in
       record {
         sizes = f.sizes;
-        sees = sees_all (there s r) v.owns v.numbers r.stands.named;
+        sees = sees_all (there s r) v.owns numbers r.stands.named;
         owns = f.owns;
-        holds = f.holds;
+        holds = held;
         given = met;
-        filled = λ o n k y some_node word is. let g = f.filled o n k y some_node word is in (g.0, free_same n r.history v.history (f.sees.owner o) ∙ g.1, g.2);
+        filled = λ o n k y some_node word is. let g = f.filled o n k y some_node word is in (g.0, free_same n r.history v.history (f.sees.added.owner o) ∙ g.1, g.2);
         heard = λ k u z. cc;
       }
 
-  pub load_holds : (i : ℕ) (c : List (ℕ × Unit)) (given : List ℕ) → ((n : ℕ) → among n given ≡ true → 0 < n → may_reach (number_of v) n r.history ≡ true)
-      → Holds nodes passes (stepped s i (get_or s.words i 0) id c (record (view_at v r.history r.names) { given = given }) keeps)
-  load_holds i c given met =
-      let w : View = record (view_at v r.history r.names) { given = given } in
+  pub loads_as : (i : ℕ) (c : List (ℕ × Unit)) (numbers given : List ℕ) → ((p : ℕ) → among p numbers ≡ true → (p < r.numbered) × (r.holder p ≡ id))
+      → ((n : ℕ) → among n given ≡ true → 0 < n → may_reach (first_of numbers) n r.history ≡ true)
+      → Holds nodes passes (stepped s i (get_or s.words i 0) id c (record (view_at v r.history r.names) { numbers = numbers; given = given }) keeps)
+  loads_as i c numbers given held met =
+      let w : View = record (view_at v r.history r.names) { numbers = numbers; given = given } in
       let here : Holds nodes passes (record { words = s.words; homes = s.homes; views = set s.views id w }) = record {
         history = r.history;
         names = r.names;
@@ -52,10 +54,14 @@ module _ (nodes passes : ℕ) (s : St) (r : Holds nodes passes s) (id : ℕ) (v 
         owner = r.owner;
         holder = r.holder;
         stands = r.stands;
-        seats = λ j u a l. ⊎_elim (λ e. subst (λ (z : ℕ × View). Fits nodes passes (there s r) z.0 z.1) (λ k. (sym e.0 k, e.1 k)) (seen_fits given met))
+        seats = λ j u a l. ⊎_elim (λ e. subst (λ (z : ℕ × View). Fits nodes passes (there s r) z.0 z.1) (λ k. (sym e.0 k, e.1 k)) (seen_fits numbers given held met))
             (λ e. r.seats j u e.1 l) (at_set s.views id j w u a);
       } in
       subst (λ (ws : List ℕ). Holds nodes passes (record { words = ws; homes = s.homes; views = set s.views id w })) (sym (set-get_or s.words i 0)) here
+
+  pub load_holds : (i : ℕ) (c : List (ℕ × Unit)) (given : List ℕ) → ((n : ℕ) → among n given ≡ true → 0 < n → may_reach (number_of v) n r.history ≡ true)
+      → Holds nodes passes (stepped s i (get_or s.words i 0) id c (record (view_at v r.history r.names) { given = given }) keeps)
+  load_holds i c given met = loads_as i c v.numbers given (r.seats id v at lives).holds met
 
 -- the name on a node that stays loaded as it was
 pub name_grows : (nodes passes : ℕ) (p n : ℕ) (added past : List Entry) (new names : List (List ℕ)) → IsLegal nodes passes (added ++ past) → own_entries p (added ++ past) ≡ own_entries p past
@@ -69,12 +75,12 @@ Mine = Me Unit View
 
 module _ (nodes passes slots id : ℕ) (me : Mine) (lives : me.0.spent ≡ false) (mine : among (number_of me.0) me.0.numbers ≡ true) where
   -- what was given may still be reached
-  given_reach : (s : St) (r : Holds nodes passes s) → get_elem? s.views id ≡ some me.0 → (n : ℕ) → may_reach (number_of me.0) n me.0.history ≡ true
+  pub given_reach : (s : St) (r : Holds nodes passes s) → get_elem? s.views id ≡ some me.0 → (n : ℕ) → may_reach (number_of me.0) n me.0.history ≡ true
       → may_reach (number_of me.0) n r.history ≡ true
   given_reach s r at n m =
       let f : Fits nodes passes (there s r) id me.0 = r.seats id me.0 at lives in
-      let w = f.sees.seen in
-      let o : own_entries (number_of me.0) (w.0 ++ me.0.history) ≡ own_entries (number_of me.0) me.0.history = subst (λ h. own_entries (number_of me.0) h ≡ own_entries (number_of me.0) me.0.history) w.1 (f.sees.own (number_of me.0) mine) in
+      let w = f.sees.added.grows in
+      let o : own_entries (number_of me.0) (w.0 ++ me.0.history) ≡ own_entries (number_of me.0) me.0.history = subst (λ h. own_entries (number_of me.0) h ≡ own_entries (number_of me.0) me.0.history) w.1 (f.sees.added.own (number_of me.0) mine) in
       subst (λ h. may_reach (number_of me.0) n h ≡ true) (sym w.1) (reach_grows (number_of me.0) n w.0 me.0.history o m)
 
   pub follows : (n : ℕ) → is_inside (number_of me.0) me.0.history ≡ true → (n ≡ 0) ⊎ (may_reach (number_of me.0) n me.0.history ≡ true)
@@ -85,7 +91,7 @@ module _ (nodes passes slots id : ℕ) (me : Mine) (lives : me.0.spent ≡ false
       let f : Fits nodes passes (there s r) id v = r.seats id v at lives in
       let st : Stands nodes passes (there s r) = r.stands in
       let h : List Entry = r.history in
-      let inn' : is_inside p h ≡ true = inside_same p h v.history (f.sees.own p mine) ∙ inn in
+      let inn' : is_inside p h ≡ true = inside_same p h v.history (f.sees.added.own p mine) ∙ inn in
       let x : ℕ = get_or s.words (base n) 0 in
       let word : x ≡ link_of n h = ⊎_elim (λ z. st.links n (omega arith) (inl z)) (λ m. let m' = given_reach s r at n m in st.links n (reach_bound nodes passes p n h st.legal m').1 (inr (reach_busy nodes passes p n h st.legal m'))) place in
       let bound : link_of n h ≤ nodes = link_bound nodes passes n h st.legal in
@@ -111,11 +117,11 @@ module _ (nodes passes slots id : ℕ) (me : Mine) (lives : me.0.spent ≡ false
       let h : List Entry = r.history in
       let m' : may_reach p n h ≡ true = given_reach s r at n m in
       let b = reach_bound nodes passes p n h st.legal m' in
-      let w = f.sees.seen in
+      let w = f.sees.added.grows in
       let ns = f.sees.named in
       let name : name_on n h r.names ≡ name_on n v.history v.names =
       subst (λ (z : List Entry × List (List ℕ)). name_on n z.0 z.1 ≡ name_on n v.history v.names) (λ i. (sym w.1 i, sym ns.1 i))
-      (name_grows nodes passes p n w.0 v.history ns.0 v.names (subst (IsLegal nodes passes) w.1 st.legal) (subst (λ g. own_entries p g ≡ own_entries p v.history) w.1 (f.sees.own p mine)) m f.sees.as_many) in
+      (name_grows nodes passes p n w.0 v.history ns.0 v.names (subst (IsLegal nodes passes) w.1 st.legal) (subst (λ g. own_entries p g ≡ own_entries p v.history) w.1 (f.sees.added.own p mine)) m f.sees.as_many) in
       let x : ℕ = get_or s.words (base n + (k + 1)) 0 in
       let word : x ≡ image_word n h r.names k = st.payload n k b.0 b.1 (reach_busy nodes passes p n h st.legal m') k_in (subst (λ (l : List ℕ). k < 2 + words_of (length l)) (sym name) k_words) in (
         view_at v h r.names,

@@ -82,7 +82,7 @@ pub knows_linked : (old : OwnerState) (tail node : ℕ) (new : OwnerState) (ls m
     → ms ≡ set (set ls tail node) node 0 → KnowsLinks old.nodes old.history ls → KnowsLinks new.nodes new.history ms
 knows_linked old tail node new ls ms l legal last written k =
     let past : List Entry = l.past in
-    let lists : live past ≡ live old.history = live_same past old.history l.sees.own in
+    let lists : live past ≡ live old.history = live_same past old.history (l.sees.added.owner refl) in
     let e : Entry = Load node (suc (loads past)) (header_in node old.filled) in
     let legal' : IsLegal old.nodes old.passes (e ∷ past) = subst (λ (s : OwnerState). IsLegal s.nodes s.passes s.history) l.now legal in
     let tail' : last_place 0 (live past) ≡ tail = ap (last_place 0) lists ∙ sym last in
@@ -95,7 +95,7 @@ pub knows_unlinked : (old : OwnerState) (before node : ℕ) (new : OwnerState) (
     → ms ≡ set ls before (link_of node old.history) → KnowsLinks old.nodes old.history ls → KnowsLinks new.nodes new.history ms
 knows_unlinked old before node new ls ms l legal bound follows written k =
     let past : List Entry = l.past in
-    let lists : live past ≡ live old.history = live_same past old.history l.sees.own in
+    let lists : live past ≡ live old.history = live_same past old.history (l.sees.added.owner refl) in
     let legal' : IsLegal old.nodes old.passes (Unload node ∷ past) = subst (λ (s : OwnerState). IsLegal s.nodes s.passes s.history) l.now legal in
     let follows' : Follows before node past = follows_same before node past old.history lists follows in
     let led : link_of node past ≡ link_of node old.history = link_told node past old.history lists (follower_listed before node old.history follows) in

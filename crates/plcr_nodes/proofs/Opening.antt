@@ -1,5 +1,5 @@
 -- The opening: an empty list, the numbers of the passes, and a seat for each.
-use Rattle.std.proofs.Common.{◌≡◌, ◌⊎◌, ⊎_elim, inl, inr, ℕ, zero, suc, ◌+◌, ◌%◌, ◌^◌, ◌<◌, ◌≤◌, List, [], ◌∷◌, ◌++◌, Bool, true, false, cond, ◌||◌, eqb, refl, sym, ap, ◌∙◌, subst, arith, length, length-set, get_or, set, replicate, get_or-set_same, get_or-set_other, eqb-true, ne_eqb}
+use Rattle.std.proofs.Common.{◌≡◌, ◌⊎◌, ⊎_elim, inl, inr, ℕ, zero, suc, ◌+◌, ◌%◌, ◌^◌, ◌<◌, ◌≤◌, List, [], ◌∷◌, ◌++◌, true, false, cond, eqb, refl, sym, ap, ◌∙◌, subst, arith, length, length-set, get_or, set, replicate, get_or-set_same, get_or-set_other, eqb-true, ne_eqb}
 use Rattle.std.proofs.lemmas.Bool.{or_cases}
 use Rattle.std.proofs.lemmas.List.{length-replicate}
 use mathlib.Core.Option.{some, none, some-injective, some-ne-none}
@@ -8,14 +8,14 @@ use Rattle.atomic_table.specs.Table.{Me, keeps, step, opening, Allows, Splits}
 use Rattle.atomic_table.proofs.Lists.{at_set}
 use Rattle.plcr_machine.specs.Passes.{readers}
 use Rattle.plcr_machine.specs.Parts.{own_entries}
-use Rattle.plcr_machine.proofs.Cases.{not_both, eqb_same, or-true}
+use Rattle.plcr_machine.proofs.Cases.{not_both, eqb_same}
 use Rattle.plcr_nodes.specs.declared.view.View.{View}
 use Rattle.plcr_nodes.specs.declared.view.Heard.{Heard}
 use Rattle.plcr_nodes.specs.Entries.{among}
 use Rattle.plcr_nodes.specs.Rule.{base, first_of, Truth, Stands, Fits, Holds, first_view}
 use Rattle.plcr_nodes.specs.Plays.{numbered, giving, given_view}
 use Rattle.plcr_nodes.proofs.Known.{no_own}
-use Rattle.plcr_nodes.proofs.Fitting.{truth, there, still_fits, moved, sees_all}
+use Rattle.plcr_nodes.proofs.Fitting.{truth, there, stands_held, still_fits, moved, sees_all}
 
 abbrev Mine : Type 0
 Mine = Me Unit View
@@ -94,7 +94,7 @@ module _ (nodes passes slots id : ℕ) (me : Mine) (lives : me.0.spent ≡ false
       let next : x ≡ m + 1 = omega arith in
       let older : (p : ℕ) → p < r.numbered → holder p ≡ r.holder p = λ p b. rw (ne_eqb m p (λ z. omega arith)) refl in
       let none_yet : own_entries m r.history ≡ [] = st.unused m (omega arith) in
-      let seen = f.sees.seen in
+      let seen = f.sees.added.grows in
       let stands : Stands nodes passes t' = record {
         sizes = st.sizes;
         wide = length-set ws 1 x ∙ st.wide;
@@ -112,20 +112,22 @@ module _ (nodes passes slots id : ℕ) (me : Mine) (lives : me.0.spent ≡ false
       let mine : Fits nodes passes t' id w = record {
         sizes = f.sizes;
         sees = record {
-          seen = f.sees.seen;
           named = f.sees.named;
           as_many = f.sees.as_many;
-          owner = f.sees.owner;
-          own = λ p a. ⊎_elim (λ e. subst (λ q. own_entries q r.history ≡ own_entries q v.history) (eqb-true m p e)
-              (none_yet ∙ sym (no_own m seen.0 v.history (subst (λ g. own_entries m g ≡ []) seen.1 none_yet))))
-              (λ e. f.sees.own p e) (or_cases (eqb m p) (among p v.numbers) a);
+          added = record {
+            grows = f.sees.added.grows;
+            owner = f.sees.added.owner;
+            own = λ p a. ⊎_elim (λ e. subst (λ q. own_entries q r.history ≡ own_entries q v.history) (eqb-true m p e)
+                (none_yet ∙ sym (no_own m seen.0 v.history (subst (λ g. own_entries m g ≡ []) seen.1 none_yet))))
+                (λ e. f.sees.added.own p e) (or_cases (eqb m p) (among p v.numbers) a);
+          };
         };
         owns = λ _. (own.0, refl);
         holds = λ p a. ⊎_elim (λ e. let z : m ≡ p = eqb-true m p e in (omega arith, rw e refl)) (λ e. let h = f.holds p e in (omega arith, older p h.0 ∙ h.1)) (or_cases (eqb m p) (among p v.numbers) a);
         given = λ n a _. not_both false a refl;
         filled = λ o n k y some_n k_in is. let g = f.filled o n k y some_n k_in is in (g.0, g.1, get_or-set_other ws 1 (base n + k) x 0 (λ z. omega arith) ∙ g.2);
         heard = λ k u a. let d = f.heard k u a in
-            (record { seen = d.0.seen; named = d.0.named; as_many = d.0.as_many; owner = d.0.owner; own = d.0.own }, d.1, λ p b. ◌∙◌ (ap (λ (c : Bool). eqb m p || c) (d.2 p b)) (or-true (eqb m p)));
+            (record { added = d.0.added; named = d.0.named; as_many = d.0.as_many }, λ p b. let h = d.1 p b in (omega arith, older p h.0 ∙ h.1));
       } in (
         w,
         keeps,
@@ -137,9 +139,9 @@ module _ (nodes passes slots id : ℕ) (me : Mine) (lives : me.0.spent ≡ false
               new = [];
               names = refl;
               same_owner = refl;
-              own = λ q a. refl;
+              own = λ q _ _. refl;
               owner = λ o. absurd (apart ((g.owns o).0 ∙ sym own.0));
-              holder = λ q a b. (omega arith, older q b);
+              holder = λ q b held. (omega arith, older q b ∙ held);
             }),
         (omega arith, refl, refl),
       )
@@ -170,7 +172,7 @@ gives nodes passes id v lives owns one quiet s r at =
     let st : Stands nodes passes t = r.stands in
     let left : Fits nodes passes t' id (giving v) = record {
       sizes = f.sizes;
-      sees = record { seen = f.sees.seen; named = f.sees.named; as_many = f.sees.as_many; owner = f.sees.owner; own = λ q a. not_both false a refl };
+      sees = record { added = record { grows = f.sees.added.grows; owner = f.sees.added.owner; own = λ q a. not_both false a refl }; named = f.sees.named; as_many = f.sees.as_many };
       owns = f.owns;
       holds = λ q a. not_both false a refl;
       given = λ n a _. not_both false a refl;
@@ -180,11 +182,9 @@ gives nodes passes id v lives owns one quiet s r at =
     let right : Fits nodes passes t' new (given_view v) = record {
       sizes = f.sizes;
       sees = record {
-        seen = f.sees.seen;
         named = f.sees.named;
         as_many = f.sees.as_many;
-        owner = λ o. not_both false o refl;
-        own = λ q a. ⊎_elim (λ e. f.sees.own q (subst (λ z. among z v.numbers ≡ true) (eqb-true p q e) has_p)) (λ e. not_both false e refl) (or_cases (eqb p q) false a);
+        added = record { grows = f.sees.added.grows; owner = λ o. not_both false o refl; own = λ q a. ⊎_elim (λ e. f.sees.added.own q (subst (λ z. among z v.numbers ≡ true) (eqb-true p q e) has_p)) (λ e. not_both false e refl) (or_cases (eqb p q) false a) };
       };
       owns = λ o. not_both false o refl;
       holds = λ q a. ⊎_elim (λ e. (subst (λ z. z < r.numbered) (eqb-true p q e) (f.holds p has_p).0, rw e refl)) (λ e. not_both false e refl) (or_cases (eqb p q) false a);
@@ -198,20 +198,7 @@ gives nodes passes id v lives owns one quiet s r at =
       numbered = r.numbered;
       owner = r.owner;
       holder = holder;
-      stands = record {
-        sizes = st.sizes;
-        wide = st.wide;
-        legal = st.legal;
-        named = st.named;
-        short = st.short;
-        few = st.few;
-        gate = st.gate;
-        number = st.number;
-        enough = st.enough;
-        unused = st.unused;
-        links = st.links;
-        payload = st.payload;
-      };
+      stands = stands_held nodes passes t holder st;
       seats = λ j u a lives'. ⊎_elim
           (λ e. ⊎_elim (λ d. subst (λ (z : ℕ × View). Fits nodes passes t' z.0 z.1) (λ k. (sym d.0 k, d.1 k)) left)
           (λ d. let g = r.seats j u d.1 lives' in still_fits nodes passes t t' j u (record {
@@ -220,9 +207,9 @@ gives nodes passes id v lives owns one quiet s r at =
             new = [];
             names = refl;
             same_owner = refl;
-            own = λ q b. refl;
+            own = λ q _ _. refl;
             owner = λ o. (refl, refl, λ n k _ _. refl);
-            holder = λ q b below. (below, rw (ne_eqb p q (λ z. d.0 (sym (g.holds q b).1 ∙ (ap r.holder (sym z) ∙ (f.holds p has_p).1)))) refl);
+            holder = λ q below held. (below, rw (ne_eqb p q (λ z. d.0 (sym held ∙ (ap r.holder (sym z) ∙ (f.holds p has_p).1)))) held);
           }) g)
           (at_set s.views id j (giving v) u e.1))
           (λ e. subst (λ (z : ℕ × View). Fits nodes passes t' z.0 z.1) (λ k. (sym (e.0 ∙ length-set s.views id (giving v)) k, e.1 k)) right)

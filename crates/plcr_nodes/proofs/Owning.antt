@@ -16,6 +16,7 @@ use Rattle.plcr_nodes.specs.Names.{header_in, IsFilled, IsEnded}
 use Rattle.plcr_nodes.specs.Rule.{base, Holds}
 use Rattle.plcr_nodes.specs.Plays.{TakesIn, store, filled, linked, linked_view}
 use Rattle.plcr_nodes.specs.Tokens.{owner_state, IsOwner, OwnerSeesMore, IsLinked}
+use Rattle.plcr_nodes.proofs.Spelling.{name_bytes}
 use Rattle.plcr_nodes.proofs.Known.{free_same}
 use Rattle.plcr_nodes.proofs.StoreSteps.{stored_new, stored_other, fills}
 use Rattle.plcr_nodes.proofs.LinkStep.{free_else, links}
@@ -31,11 +32,8 @@ last_bound nodes passes h l =
     (λ f. by_cases (eqb 0 n) (λ e. let z = eqb-true 0 n e in omega arith) (λ e. not_both (eqb n n) (eqb_same n) (last_place-other 0 n (live h) e f)))
 
 module _ (z : TableId) (m : Mine) (g : IsOwner z m) where
-  taken_legal : (past : List Entry) (names : List (List ℕ)) → TakesIn m.0 past names → IsHistory m.0.nodes m.0.passes past names
-  taken_legal past names t = record { few_nodes = g.seat.known.few_nodes; few_passes = g.seat.known.few_passes; legal = t.legal; named = t.as_many }
-
-  sees : (past : List Entry) (names : List (List ℕ)) → TakesIn m.0 past names → OwnerSeesMore (owner_state z m.0) past names
-  sees past names t = record { grows = t.seen; named = t.named; own = t.owner g.owns; legal = taken_legal past names t; short = t.short }
+  pub sees : (past : List Entry) (names : List (List ℕ)) → TakesIn m.0 past names → OwnerSeesMore (owner_state z m.0) past names
+  sees past names t = record { added = record { grows = t.added.grows; owner = λ _. t.added.owner g.owns; own = t.added.own }; named = t.named; legal = t.legal; short = t.short }
 
   pub owner_filled : (st : Step Unit) (found n k : ℕ) (m' : Mine) → st.word ≡ base n + k → k < 131 → n ≤ m.0.nodes → is_free n m.0.history ≡ true → filled st m found m'
       → IsOwner z m' × (owner_state z m'.0 ≡ record (owner_state z m.0) { filled = store n k st.first ∷ m.0.filled })
@@ -65,9 +63,9 @@ module _ (z : TableId) (m : Mine) (g : IsOwner z m) where
       let same : m' ≡ (w, m.1) = λ i. (at i, told.4 i) in
       let known = g.seat.known in
       let first = g.filled n 1 (header_in n m.0.filled) some_node (omega arith) full.header in
-      let free : (k : ℕ) → is_free k m.0.history ≡ true → is_free k past ≡ true = λ k f. free_same k past m.0.history (t.owner g.owns) ∙ f in
+      let free : (k : ℕ) → is_free k m.0.history ≡ true → is_free k past ≡ true = λ k f. free_same k past m.0.history (t.added.owner g.owns) ∙ f in
       let after : IsHistory w.nodes w.passes w.history w.names =
-      record { few_nodes = known.few_nodes; few_passes = known.few_passes; legal = ((some_node, first.0, free n first.1, refl), t.legal); named = ap suc t.as_many } in
+      record { few_nodes = known.few_nodes; few_passes = known.few_passes; legal = ((some_node, first.0, free n first.1, refl), t.legal.legal); named = ap suc t.legal.named } in
       subst (λ (q : Mine). IsOwner z q × IsLinked (owner_state z m.0) n (owner_state z q.0)) (sym same) (
         record {
           seat = record {
@@ -75,7 +73,7 @@ module _ (z : TableId) (m : Mine) (g : IsOwner z m) where
             lives = g.seat.lives;
             light = g.seat.light;
             known = after;
-            short = (full.short, t.short);
+            short = (full.short, name_bytes n m.0.filled, t.short);
           };
           owns = g.owns;
           filled = λ j i x some_j i_in is.

@@ -5,20 +5,16 @@ use Rattle.atomic_table.specs.Table.{Me, Step}
 use Rattle.atomic_table.specs.Seated.{TableId}
 use Rattle.plcr_machine.specs.declared.entry.Entry.{Entry}
 use Rattle.plcr_machine.specs.declared.entry.Entry.TheVariants.{Enter, Leave}
-use Rattle.plcr_machine.specs.Histories.{IsLegal, IsHistory}
-use Rattle.plcr_machine.specs.Lists.{loaded}
 use Rattle.plcr_machine.specs.Passes.{is_inside}
 use Rattle.plcr_machine.specs.Holds.{may_reach}
-use Rattle.plcr_machine.specs.Parts.{own_entries}
 use Rattle.plcr_machine.proofs.Cases.{not_both, eqb_same}
 use Rattle.plcr_nodes.specs.declared.view.View.{View}
 use Rattle.plcr_nodes.specs.Entries.{among}
-use Rattle.plcr_nodes.specs.Names.{payload_word}
-use Rattle.plcr_nodes.specs.Rule.{base, name_on, image_word, number_of}
+use Rattle.plcr_nodes.specs.Rule.{base, image_word, number_of}
 use Rattle.plcr_nodes.specs.Plays.{TakesIn, view_at, entered, left, followed, loaded_word}
 use Rattle.plcr_nodes.specs.Tokens.{pass_state, IsPass, SeesMore, IsEntered, IsLeft, IsFollowed, IsRead}
-use Rattle.plcr_nodes.proofs.Known.{inside_same, reach_grows, reach_bound, loaded_grows}
-use Rattle.plcr_nodes.proofs.LoadSteps.{name_grows}
+use Rattle.plcr_nodes.proofs.Known.{inside_same, reach_bound}
+use Rattle.plcr_nodes.proofs.Staying.{reach_stays, word_stays}
 
 abbrev Mine : Type 0
 Mine = Me Unit View
@@ -28,11 +24,13 @@ module _ (z : TableId) (m : Mine) (g : IsPass z m) where
   pub has_number : among (number_of m.0) m.0.numbers ≡ true
   has_number = subst (λ (l : List ℕ). among (number_of m.0) l ≡ true) (sym g.one) (rw (eqb_same (number_of m.0)) refl)
 
-  taken_legal : (past : List Entry) (names : List (List ℕ)) → TakesIn m.0 past names → IsHistory m.0.nodes m.0.passes past names
-  taken_legal past names t = record { few_nodes = g.seat.known.few_nodes; few_passes = g.seat.known.few_passes; legal = t.legal; named = t.as_many }
-
-  sees : (past : List Entry) (names : List (List ℕ)) → TakesIn m.0 past names → SeesMore (pass_state z m.0) past names
-  sees past names t = record { grows = t.seen; named = t.named; own = t.own (number_of m.0) has_number; legal = taken_legal past names t; short = t.short }
+  pub sees : (past : List Entry) (names : List (List ℕ)) → TakesIn m.0 past names → SeesMore (pass_state z m.0) past names
+  sees past names t = record {
+    added = record { grows = t.added.grows; owner = λ e. not_both false e refl; own = λ p a. t.added.own p (subst (λ (l : List ℕ). among p l ≡ true) (sym g.one) a) };
+    named = t.named;
+    legal = t.legal;
+    short = t.short;
+  }
 
   -- a node that was given is one of the table's, and may be reached
   pub given_reached : (n : ℕ) → among n m.0.given ≡ true → 0 < n → (n ≤ m.0.nodes) × (may_reach (number_of m.0) n m.0.history ≡ true)
@@ -62,7 +60,7 @@ module _ (z : TableId) (m : Mine) (g : IsPass z m) where
           wide = g.seat.wide;
           lives = g.seat.lives;
           light = g.seat.light;
-          known = record { few_nodes = known.few_nodes; few_passes = known.few_passes; legal = ((g.few, inside_same p past m.0.history (t.own p has_number) ∙ out), t.legal); named = t.as_many };
+          known = record { few_nodes = known.few_nodes; few_passes = known.few_passes; legal = ((g.few, inside_same p past m.0.history (t.added.own p has_number) ∙ out), t.legal.legal); named = t.legal.named };
           short = t.short;
         };
         one = g.one;
@@ -87,7 +85,7 @@ module _ (z : TableId) (m : Mine) (g : IsPass z m) where
           wide = g.seat.wide;
           lives = g.seat.lives;
           light = g.seat.light;
-          known = record { few_nodes = known.few_nodes; few_passes = known.few_passes; legal = (inside_same p past m.0.history (t.own p has_number) ∙ inn, t.legal); named = t.as_many };
+          known = record { few_nodes = known.few_nodes; few_passes = known.few_passes; legal = (inside_same p past m.0.history (t.added.own p has_number) ∙ inn, t.legal.legal); named = t.legal.named };
           short = t.short;
         };
         one = g.one;
@@ -98,16 +96,13 @@ module _ (z : TableId) (m : Mine) (g : IsPass z m) where
       (after, record { past = past; names = names; sees = sees past names t; now = refl; gate = told.4; legal = after.seat.known })
 
   -- what could be reached can still be reached in the history that was taken in
-  still_reached : (past : List Entry) (names : List (List ℕ)) → TakesIn m.0 past names → (n : ℕ) → may_reach (number_of m.0) n m.0.history ≡ true → may_reach (number_of m.0) n past ≡ true
-  still_reached past names t n r =
-      let p : ℕ = number_of m.0 in
-      let s = t.seen in
-      subst (λ h. may_reach p n h ≡ true) (sym s.1) (reach_grows p n s.0 m.0.history (subst (λ h. own_entries p h ≡ own_entries p m.0.history) s.1 (t.own p has_number)) r)
+  pub still_reached : (past : List Entry) (names : List (List ℕ)) → TakesIn m.0 past names → (n : ℕ) → may_reach (number_of m.0) n m.0.history ≡ true → may_reach (number_of m.0) n past ≡ true
+  still_reached past names t n r = reach_stays m.0.nodes m.0.passes (number_of m.0) n m.0.history past m.0.names names (sees past names t) r
 
-  seen_after : (past : List Entry) (names : List (List ℕ)) (given : List ℕ) → TakesIn m.0 past names → ((n : ℕ) → among n given ≡ true → 0 < n → may_reach (number_of m.0) n past ≡ true)
+  pub seen_after : (past : List Entry) (names : List (List ℕ)) (given : List ℕ) → TakesIn m.0 past names → ((n : ℕ) → among n given ≡ true → 0 < n → may_reach (number_of m.0) n past ≡ true)
       → IsPass z (record (view_at m.0 past names) { given = given }, m.1)
   seen_after past names given t reach = record {
-    seat = record { wide = g.seat.wide; lives = g.seat.lives; light = g.seat.light; known = taken_legal past names t; short = t.short };
+    seat = record { wide = g.seat.wide; lives = g.seat.lives; light = g.seat.light; known = t.legal; short = t.short };
     one = g.one;
     few = g.few;
     given = reach;
@@ -139,15 +134,8 @@ module _ (z : TableId) (m : Mine) (g : IsPass z m) where
       let w : View = view_at m.0 past names in
       let same : m' ≡ (w, m.1) = λ i. (told.3 i, told.5 i) in
       let here : found ≡ image_word node past names k = told.4 node k word k_in in
-      let s = t.seen in
-      let ns = t.named in
-      let own = subst (λ h. own_entries p h ≡ own_entries p m.0.history) s.1 (t.own p has_number) in
-      let legal = subst (IsLegal m.0.nodes m.0.passes) s.1 t.legal in
-      let image : loaded node past ≡ loaded node m.0.history = subst (λ h. loaded node h ≡ loaded node m.0.history) (sym s.1) (loaded_grows m.0.nodes m.0.passes p node s.0 m.0.history legal own reach) in
-      let name : name_on node past names ≡ name_on node m.0.history m.0.names =
-      subst (λ (q : List Entry × List (List ℕ)). name_on node q.0 q.1 ≡ name_on node m.0.history m.0.names) (λ i. (sym s.1 i, sym ns.1 i))
-      (name_grows m.0.nodes m.0.passes p node s.0 m.0.history ns.0 m.0.names legal own reach g.seat.known.named) in
+      let same_word = word_stays m.0.nodes m.0.passes p node m.0.history past m.0.names names (sees past names t) reach g.seat.known.named k in
       subst (λ (q : Mine). IsPass z q × IsRead (pass_state z m.0) node k found (pass_state z q.0)) (sym same) (
         seen_after past names m.0.given t (λ n a some_node. still_reached past names t n (g.given n a some_node)),
-        record { past = past; names = names; sees = sees past names t; now = refl; image = here; same = here ∙ (λ i. payload_word (image i).header (name i) k) },
+        record { past = past; names = names; sees = sees past names t; now = refl; image = here; same = here ∙ same_word },
       )

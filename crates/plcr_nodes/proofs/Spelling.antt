@@ -1,16 +1,12 @@
 -- The words of a name spell the name: what a caller stores is what the load has.
-use Rattle.std.proofs.Common.{◌≡◌, ℕ, zero, suc, ◌+◌, ◌*◌, ◌<◌, ◌≤◌, List, [], ◌∷◌, ◌++◌, refl, sym, ap, ◌∙◌, subst, arith, length, take, drop, slice_index}
+use Rattle.std.proofs.Common.{◌≡◌, ℕ, zero, suc, ◌+◌, ◌*◌, ◌/◌, ◌%◌, ◌^◌, ◌<◌, ◌≤◌, List, [], ◌∷◌, ◌++◌, refl, sym, ap, ◌∙◌, subst, arith, length, take, drop, slice_index}
 use Rattle.std.proofs.lemmas.List.{get_or-drop, take_all}
 use Rattle.std.proofs.Math.Seq.{drop-cons}
-use Rattle.std.specs.Int.{byte_at}
+use Rattle.std.specs.Int.{byte_at, bytes_low_first}
 use Rattle.byteorder.specs.Endian.{little_bytes}
 use Rattle.plcr_base.specs.Numbers.{u64_in}
 use Rattle.plcr_nodes.specs.declared.view.Store.{Store}
-use Rattle.plcr_nodes.specs.Names.{stored_or, stored_bytes, words_of, name_in}
-
--- each byte of the list is below 256
-abbrev pub AreBytes : List ℕ → Type 0
-AreBytes xs = (i : ℕ) → slice_index xs i < 256
+use Rattle.plcr_nodes.specs.Names.{AreBytes, stored_or, stored_bytes, words_of, name_in}
 
 -- the 8 bytes of the number that 8 bytes make
 eight : (a b c d e f g h : ℕ) → a < 256 → b < 256 → c < 256 → d < 256 → e < 256 → f < 256 → g < 256 → h < 256
@@ -79,3 +75,37 @@ spelled n name ss b len words =
     let bytes : stored_bytes n 2 (words_of l) ss ≡ bytes_from 0 (8 * words_of l) name =
     stored_spell n name ss b (words_of l) 0 (λ i below. let x : 2 + 0 + i + 1 ≡ i + 3 = omega arith in let y : 8 * i ≡ 8 * (0 + i) = omega arith in ap (λ k. stored_or n k ss) x ∙ words i below ∙ ap (u64_in name) y) in
     ap (λ m. take m (stored_bytes n 2 (words_of m) ss)) len ∙ ap (take l) bytes ∙ take-bytes_from l (8 * words_of l) 0 name (omega arith) (omega arith) ∙ take_all l name (omega arith)
+
+bytes_both : (xs ys : List ℕ) → AreBytes xs → AreBytes ys → AreBytes (xs ++ ys)
+bytes_both [] ys a b i = b i
+bytes_both (x ∷ xs) ys a b zero = a 0
+bytes_both (x ∷ xs) ys a b (suc i) = bytes_both xs ys (λ k. a (suc k)) b i
+
+pub no_bytes : AreBytes []
+no_bytes i = omega arith
+
+bytes_taken : (m : ℕ) (xs : List ℕ) → AreBytes xs → AreBytes (take m xs)
+bytes_taken zero xs a i = no_bytes i
+bytes_taken (suc m) [] a i = a i
+bytes_taken (suc m) (x ∷ xs) a zero = a 0
+bytes_taken (suc m) (x ∷ xs) a (suc i) = bytes_taken m xs (λ k. a (suc k)) i
+
+rest_small : (m : ℕ) → m % 256 < 256
+rest_small m = omega arith
+
+byte_small : (k n : ℕ) → byte_at k n < 256
+byte_small zero n = rest_small n
+byte_small (suc k) n = rest_small (n / 256 ^ suc k)
+
+word_small : (k n x : ℕ) → AreBytes (bytes_low_first k n x)
+word_small k zero x i = no_bytes i
+word_small k (suc n) x zero = byte_small k x
+word_small k (suc n) x (suc i) = word_small (suc k) n x i
+
+words_small : (n k count : ℕ) (ss : List Store) → AreBytes (stored_bytes n k count ss)
+words_small n k zero ss i = no_bytes i
+words_small n k (suc count) ss i = bytes_both (little_bytes 8 (stored_or n (k + 1) ss)) (stored_bytes n (k + 1) count ss) (word_small 0 8 (stored_or n (k + 1) ss)) (words_small n (k + 1) count ss) i
+
+-- what is stored as a name is a list of bytes
+pub name_bytes : (n : ℕ) (ss : List Store) → AreBytes (name_in n ss)
+name_bytes n ss = bytes_taken (stored_or n 2 ss) (stored_bytes n 2 (words_of (stored_or n 2 ss)) ss) (words_small n 2 (words_of (stored_or n 2 ss)) ss)

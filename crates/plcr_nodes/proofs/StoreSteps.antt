@@ -50,7 +50,7 @@ module _ (nodes passes slots id : ℕ) (me : Mine) (lives : me.0.spent ≡ false
       let h : List Entry = r.history in
       let ws : List ℕ = s.words in
       let wide = st.wide in
-      let free' : is_free n h ≡ true = free_same n h v.history (f.sees.owner owns) ∙ free in
+      let free' : is_free n h ≡ true = free_same n h v.history (f.sees.added.owner owns) ∙ free in
       let i : ℕ = base n + k in
       let t' : Truth = truth (set ws i x) h r.names r.numbered r.owner r.holder in
       let w : View = record v { filled = store n k x ∷ v.filled } in
@@ -71,7 +71,7 @@ module _ (nodes passes slots id : ℕ) (me : Mine) (lives : me.0.spent ≡ false
       } in
       let mine : Fits nodes passes t' id w = record {
         sizes = f.sizes;
-        sees = record { seen = f.sees.seen; named = f.sees.named; as_many = f.sees.as_many; owner = f.sees.owner; own = f.sees.own };
+        sees = record { added = f.sees.added; named = f.sees.named; as_many = f.sees.as_many };
         owns = f.owns;
         holds = f.holds;
         given = f.given;
@@ -84,7 +84,7 @@ module _ (nodes passes slots id : ℕ) (me : Mine) (lives : me.0.spent ≡ false
             (λ e. let g = f.filled o m j y some_m j_in e.1 in
             (g.0, g.1, get_or-set_other ws i (base m + j) x 0 (λ z. let a : n ≡ m = omega arith in let b : k ≡ j = omega arith in not_both (eqb n m && eqb k j) (rw (eq-eqb n m a) (eq-eqb k j b)) e.0) ∙ g.2))
             (stored_new n k x m j y v.filled is);
-        heard = λ q u a. let d = f.heard q u a in (record { seen = d.0.seen; named = d.0.named; as_many = d.0.as_many; owner = d.0.owner; own = d.0.own }, d.1, d.2);
+        heard = λ q u a. let d = f.heard q u a in (record { added = d.0.added; named = d.0.named; as_many = d.0.as_many }, d.1);
       } in (
         w,
         keeps,
@@ -96,9 +96,9 @@ module _ (nodes passes slots id : ℕ) (me : Mine) (lives : me.0.spent ≡ false
               new = [];
               names = refl;
               same_owner = refl;
-              own = λ q a. refl;
+              own = λ q _ _. refl;
               owner = λ o. owned_else s r at j u apart g o;
-              holder = λ q a b. (b, refl);
+              holder = λ q b held. (b, held);
             }),
         (λ n' k' e in_node. let z : n ≡ n' = omega arith in let y : k ≡ k' = omega arith in (λ q. record v { filled = store (z q) (y q) x ∷ v.filled }, refl)),
       )

@@ -21,6 +21,7 @@ use Rattle.plcr_nodes.specs.Plays.{TakesIn, view_at}
 use Rattle.plcr_nodes.specs.Tokens.{owner_state, IsOwner}
 use Rattle.plcr_nodes.specs.Unlinking.{Follows, unlinked, IsUnlinked}
 use Rattle.plcr_nodes.proofs.Known.{free_same, live_same}
+use Rattle.plcr_nodes.proofs.Owning.{sees}
 use Rattle.plcr_nodes.proofs.Fitting.{truth, there, moved, taken, sees_all}
 use Rattle.plcr_nodes.proofs.StoreSteps.{owned_else}
 
@@ -117,7 +118,7 @@ module _ (nodes passes slots id : ℕ) (me : Mine) (lives : me.0.spent ≡ false
       let st : Stands nodes passes t = r.stands in
       let h : List Entry = r.history in
       let ws : List ℕ = s.words in
-      let same = f.sees.owner owns in
+      let same = f.sees.added.owner owns in
       let lists : live h ≡ live v.history = live_same h v.history same in
       let follows' : Follows before node h = follows_same before node h v.history lists follows in
       let there : has node (live v.history) ≡ true = follower_listed before node v.history follows in
@@ -155,9 +156,9 @@ module _ (nodes passes slots id : ℕ) (me : Mine) (lives : me.0.spent ≡ false
               new = [];
               names = refl;
               same_owner = refl;
-              own = λ q a. refl;
+              own = λ q _ _. refl;
               owner = λ o. owned_else nodes passes slots id me lives owns s r at j u apart g o;
-              holder = λ q a b. (b, refl);
+              holder = λ q b held. (b, held);
             })),
         (h, r.names, taken nodes passes t id v st f, refl, (λ n e. let b : before ≡ n = omega arith in subst (λ q. Follows q (get_or ws (base before) 0) h) b (subst (λ q. Follows before q h) (sym found) follows')), refl),
       )
@@ -182,7 +183,7 @@ owner_unlinked z m g st found before node m' word follows told =
     let names : List (List ℕ) = told.1 in
     let t : TakesIn m.0 past names = told.2 in
     let known = g.seat.known in
-    let same = t.owner g.owns in
+    let same = t.added.owner g.owns in
     let lists : live past ≡ live m.0.history = live_same past m.0.history same in
     let follows' : Follows before node past = follows_same before node past m.0.history lists follows in
     let is : found ≡ node = sym (told.4 before word).next ∙ follows'.next in
@@ -190,9 +191,8 @@ owner_unlinked z m g st found before node m' word follows told =
     let w : View = record (view_at m.0 (Unload node ∷ past) names) { given = [] } in
     let at : m'.0 ≡ w = subst (λ n. m'.0 ≡ record (view_at m.0 (Unload n ∷ past) names) { given = [] }) is told.3 in
     let moved_to : m' ≡ (w, m.1) = λ i. (at i, told.5 i) in
-    let legal : IsHistory m.0.nodes m.0.passes past names = record { few_nodes = known.few_nodes; few_passes = known.few_passes; legal = t.legal; named = t.as_many } in
     let after : IsHistory w.nodes w.passes w.history w.names =
-    record { few_nodes = known.few_nodes; few_passes = known.few_passes; legal = (listed_now, t.legal); named = t.as_many } in
+    record { few_nodes = known.few_nodes; few_passes = known.few_passes; legal = (listed_now, t.legal.legal); named = t.legal.named } in
     subst (λ (q : Mine). IsOwner z q × IsUnlinked (owner_state z m.0) node (owner_state z q.0)) (sym moved_to) (
       record {
         seat = record {
@@ -208,5 +208,5 @@ owner_unlinked z m g st found before node m' word follows told =
             let free : is_free j past ≡ true = free_same j past m.0.history same ∙ f.1 in
             (f.0, free_left j node past (λ e. not_both (is_free j past) free (subst (λ q. is_free q past ≡ false) e (listed_busy node past listed_now))) ∙ free);
       },
-      record { past = past; names = names; sees = record { grows = t.seen; named = t.named; own = same; legal = legal; short = t.short }; now = refl; legal = after },
+      record { past = past; names = names; sees = sees z m g past names t; now = refl; legal = after },
     )

@@ -1,7 +1,10 @@
 pub mod Entries
 pub mod Names
+pub mod Seeing
 pub mod Rule
 pub mod Plays
 pub mod Tokens
 pub mod Counting
 pub mod Unlinking
+pub mod Telling
+pub mod Knowing

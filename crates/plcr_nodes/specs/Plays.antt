@@ -1,28 +1,20 @@
 -- What each step tells its seat: which entry it made or what it found, and the view after.
-use Rattle.std.specs.Prelude.{◌≡◌, ℕ, suc, ◌+◌, ◌<◌, ◌≤◌, true, false, List, [], ◌∷◌, length}
+use Rattle.std.specs.Prelude.{◌≡◌, ℕ, suc, ◌+◌, ◌<◌, ◌≤◌, true, false, List, [], ◌∷◌}
 use Rattle.atomic_table.specs.Table.{Step, Me}
 use Rattle.plcr_machine.specs.declared.entry.Entry.{Entry}
 use Rattle.plcr_machine.specs.declared.entry.Entry.TheVariants.{Enter, Leave, Load}
-use Rattle.plcr_machine.specs.Histories.{IsLegal}
 use Rattle.plcr_machine.specs.Lists.{loads}
 use Rattle.plcr_machine.specs.Links.{link_of}
 use Rattle.plcr_machine.specs.Holds.{may_reach}
-use Rattle.plcr_machine.specs.Parts.{own_entries, owner_entries}
 use Rattle.plcr_nodes.specs.declared.view.View.{View}
 use Rattle.plcr_nodes.specs.declared.view.Store.{Store}
-use Rattle.plcr_nodes.specs.Entries.{among, WentOn}
-use Rattle.plcr_nodes.specs.Names.{header_in, name_in, stored_elsewhere, AreShort}
+use Rattle.plcr_nodes.specs.Seeing.{GoesOn}
+use Rattle.plcr_nodes.specs.Names.{header_in, name_in, stored_elsewhere}
 use Rattle.plcr_nodes.specs.Rule.{base, gate_of, image_word, first_of, number_of}
 
--- the history so far, as a step lets a view take it in: legal, and none of the entries that are new to the view is the seat's own
-pub record TakesIn (v : View) (past : List Entry) (names : List (List ℕ)) : Type 0 where
-  pub seen : WentOn v.history past
-  pub named : WentOn v.names names
-  pub as_many : length names ≡ loads past
-  pub legal : IsLegal v.nodes v.passes past
-  pub short : AreShort names
-  pub owner : v.owns ≡ true → owner_entries past ≡ owner_entries v.history
-  pub own : (p : ℕ) → among p v.numbers ≡ true → own_entries p past ≡ own_entries p v.history
+-- the history so far, as a step lets a view take it in
+abbrev pub TakesIn : View → List Entry → List (List ℕ) → Type 0
+TakesIn v past names = GoesOn v.nodes v.passes v.owns v.numbers v.history v.names past names
 
 -- the view, with this history
 abbrev pub view_at : View → List Entry → List (List ℕ) → View

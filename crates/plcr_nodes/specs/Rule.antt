@@ -10,11 +10,12 @@ use Rattle.plcr_machine.specs.Passes.{counts, readers}
 use Rattle.plcr_machine.specs.Nodes.{is_free}
 use Rattle.plcr_machine.specs.Links.{link_of}
 use Rattle.plcr_machine.specs.Holds.{may_reach}
-use Rattle.plcr_machine.specs.Parts.{own_entries, owner_entries}
+use Rattle.plcr_machine.specs.Parts.{own_entries}
 use Rattle.plcr_nodes.specs.declared.view.View.{View}
 use Rattle.plcr_nodes.specs.declared.view.Heard.{Heard}
 use Rattle.plcr_nodes.specs.Entries.{among, WentOn}
-use Rattle.plcr_nodes.specs.Names.{payload_word, words_of, stored, AreShort}
+use Rattle.plcr_nodes.specs.Seeing.{AddsOthers}
+use Rattle.plcr_nodes.specs.Names.{payload_word, words_of, stored, AreNames}
 
 -- Word 0 is the gate and word 1 counts the pass numbers. From `base n` on node n has its link and 130 payload words; node 0 is the head, which has a link alone
 abbrev pub base : ℕ → ℕ
@@ -55,7 +56,7 @@ pub record Stands (nodes passes : ℕ) (t : Truth) : Type 0 where
   pub wide : length t.words ≡ base (nodes + 1)
   pub legal : IsLegal nodes passes t.history
   pub named : length t.names ≡ loads t.history
-  pub short : AreShort t.names
+  pub short : AreNames t.names
   pub few : counts t.history < 4294967296
   pub gate : slice_index t.words 0 ≡ gate_of passes t.history
   pub number : slice_index t.words 1 ≡ t.numbered
@@ -67,14 +68,13 @@ pub record Stands (nodes passes : ℕ) (t : Truth) : Type 0 where
 
 -- A beginning of the history that was seen, with the names of its loads. Who owns the list has seen all of the owner's entries, and who has a pass number all of that pass's
 pub record Sees (t : Truth) (history : List Entry) (names : List (List ℕ)) (owns : Bool) (numbers : List ℕ) : Type 0 where
-  pub seen : WentOn history t.history
+  pub added : AddsOthers owns numbers history t.history
   pub named : WentOn names t.names
   pub as_many : length names ≡ loads history
-  pub owner : owns ≡ true → owner_entries t.history ≡ owner_entries history
-  pub own : (p : ℕ) → among p numbers ≡ true → own_entries p t.history ≡ own_entries p history
 
-abbrev pub Hears : Truth → View → Heard → Type 0
-Hears t v w = Sees t w.history w.names w.owns w.numbers × (w.owns ≡ true → v.owns ≡ true) × ((p : ℕ) → among p w.numbers ≡ true → among p v.numbers ≡ true)
+-- what a token had seen that was joined into seat j, which has its pass numbers now
+abbrev pub Hears : Truth → ℕ → Heard → Type 0
+Hears t j w = Sees t w.history w.names false w.numbers × ((p : ℕ) → among p w.numbers ≡ true → (p < t.numbered) × (t.holder p ≡ j))
 
 abbrev pub first_of : List ℕ → ℕ
 first_of [] = 0
@@ -92,7 +92,7 @@ pub record Fits (nodes passes : ℕ) (t : Truth) (j : ℕ) (v : View) : Type 0 w
   pub holds : (p : ℕ) → among p v.numbers ≡ true → (p < t.numbered) × (t.holder p ≡ j)
   pub given : (n : ℕ) → among n v.given ≡ true → 0 < n → may_reach (number_of v) n v.history ≡ true
   pub filled : v.owns ≡ true → (n k x : ℕ) → 0 < n → k < 131 → stored n k v.filled ≡ Some x → (n ≤ nodes) × (is_free n v.history ≡ true) × (slice_index t.words (base n + k) ≡ x)
-  pub heard : (k : ℕ) (w : Heard) → get_elem? v.heard k ≡ some w → Hears t v w
+  pub heard : (k : ℕ) (w : Heard) → get_elem? v.heard k ≡ some w → Hears t j w
 
 pub record Holds (nodes passes : ℕ) (s : State Unit View) : Type 0 where
   pub history : List Entry

@@ -5,16 +5,16 @@ use Rattle.atomic_table.specs.Seated.{TableId}
 use Rattle.plcr_machine.specs.declared.entry.Entry.{Entry}
 use Rattle.plcr_machine.specs.declared.entry.Entry.TheVariants.{Enter, Leave, Load}
 use Rattle.plcr_machine.specs.Histories.{IsHistory}
-use Rattle.plcr_machine.specs.Lists.{Grows, loads}
+use Rattle.plcr_machine.specs.Lists.{loads}
 use Rattle.plcr_machine.specs.Nodes.{is_free}
 use Rattle.plcr_machine.specs.Passes.{is_inside}
 use Rattle.plcr_machine.specs.Links.{link_of}
 use Rattle.plcr_machine.specs.Holds.{may_reach}
-use Rattle.plcr_machine.specs.Parts.{own_entries, owner_entries}
 use Rattle.plcr_nodes.specs.declared.view.View.{View}
 use Rattle.plcr_nodes.specs.declared.view.Store.{Store}
-use Rattle.plcr_nodes.specs.Entries.{among, WentOn}
-use Rattle.plcr_nodes.specs.Names.{AreShort, stored, header_in, name_in, stored_elsewhere}
+use Rattle.plcr_nodes.specs.Entries.{among}
+use Rattle.plcr_nodes.specs.Seeing.{GoesOn}
+use Rattle.plcr_nodes.specs.Names.{AreNames, stored, header_in, name_in, stored_elsewhere}
 use Rattle.plcr_nodes.specs.Rule.{base, gate_of, image_word, number_of, owner_view}
 
 -- what a pass knows: its table with its sizes, its number, the history that it has seen with the names of its loads, and what its walk was given since it went in
@@ -27,20 +27,27 @@ pub record PassState : Type 0 where
   pub names : List (List ℕ)
   pub given : List ℕ
 
--- what the owner knows: likewise, and what it stored in free nodes
+-- what the owner knows: likewise, with the numbers of the passes that it has joined, the last first, and what it stored in free nodes
 pub record OwnerState : Type 0 where
   pub table : TableId
   pub nodes : ℕ
   pub passes : ℕ
   pub history : List Entry
   pub names : List (List ℕ)
+  pub joined : List ℕ
   pub filled : List Store
+
+-- what a note tells: what a token of this table had seen
+pub record NoteState : Type 0 where
+  pub table : TableId
+  pub history : List Entry
+  pub names : List (List ℕ)
 
 abbrev pub pass_state : TableId → View → PassState
 pass_state z v = record { table = z; nodes = v.nodes; passes = v.passes; number = number_of v; history = v.history; names = v.names; given = v.given }
 
 abbrev pub owner_state : TableId → View → OwnerState
-owner_state z v = record { table = z; nodes = v.nodes; passes = v.passes; history = v.history; names = v.names; filled = v.filled }
+owner_state z v = record { table = z; nodes = v.nodes; passes = v.passes; history = v.history; names = v.names; joined = v.numbers; filled = v.filled }
 
 -- the seat fits its table, is in use and carries nothing
 pub record IsSeat (z : TableId) (me : Me Unit View) : Type 0 where
@@ -48,7 +55,7 @@ pub record IsSeat (z : TableId) (me : Me Unit View) : Type 0 where
   pub lives : me.0.spent ≡ false
   pub light : me.1 ≡ []
   pub known : IsHistory me.0.nodes me.0.passes me.0.history me.0.names
-  pub short : AreShort me.0.names
+  pub short : AreNames me.0.names
 
 -- the seat of a pass
 pub record IsPass (z : TableId) (me : Me Unit View) : Type 0 where
@@ -64,20 +71,12 @@ pub record IsOwner (z : TableId) (me : Me Unit View) : Type 0 where
   pub filled : (n k x : ℕ) → 0 < n → k < 131 → stored n k me.0.filled ≡ Some x → (n ≤ me.0.nodes) × (is_free n me.0.history ≡ true)
 
 -- the pass saw more of the history, none of it an entry of its own
-pub record SeesMore (old : PassState) (past : List Entry) (names : List (List ℕ)) : Type 0 where
-  pub grows : Grows old.history past
-  pub named : WentOn old.names names
-  pub own : own_entries old.number past ≡ own_entries old.number old.history
-  pub legal : IsHistory old.nodes old.passes past names
-  pub short : AreShort names
+abbrev pub SeesMore : PassState → List Entry → List (List ℕ) → Type 0
+SeesMore old past names = GoesOn old.nodes old.passes false (old.number ∷ []) old.history old.names past names
 
--- the owner saw more of the history, none of it an entry of an owner
-pub record OwnerSeesMore (old : OwnerState) (past : List Entry) (names : List (List ℕ)) : Type 0 where
-  pub grows : Grows old.history past
-  pub named : WentOn old.names names
-  pub own : owner_entries past ≡ owner_entries old.history
-  pub legal : IsHistory old.nodes old.passes past names
-  pub short : AreShort names
+-- the owner saw more of the history, none of it an entry of an owner or of a pass that it had joined
+abbrev pub OwnerSeesMore : OwnerState → List Entry → List (List ℕ) → Type 0
+OwnerSeesMore old past names = GoesOn old.nodes old.passes true old.joined old.history old.names past names
 
 -- the pass went in: its entry came last, and the word found was the gate before it
 pub record IsEntered (old : PassState) (found : ℕ) (new : PassState) : Type 0 where
@@ -138,7 +137,7 @@ opened_passes z nodes passes zero = []
 opened_passes z nodes passes (suc count) = opened_passes z nodes passes count ++ opened_pass z nodes passes count ∷ []
 
 abbrev pub opened_owner : TableId → ℕ → ℕ → OwnerState
-opened_owner z nodes passes = record { table = z; nodes = nodes; passes = passes; history = []; names = []; filled = [] }
+opened_owner z nodes passes = record { table = z; nodes = nodes; passes = passes; history = []; names = []; joined = []; filled = [] }
 
 -- the owner's seat of a table that is being opened, once so many pass numbers were given away
 pub record IsOpening (nodes passes given : ℕ) (z : TableId) (me : Me Unit View) : Type 0 where

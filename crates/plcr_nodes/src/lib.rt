@@ -3,16 +3,22 @@
 #![tactic(auto)]
 
 mod counting;
+mod laws;
 mod nodes;
 mod owner;
 mod pass;
 mod plays;
+mod telling;
+#[cfg(test)]
+mod telling_tests;
 #[cfg(test)]
 mod tests;
 mod unlinking;
 mod view;
 
+pub use laws::{owners_know_the_list, passes_keep_their_reach};
 pub use nodes::{Nodes, NodesError};
 pub use owner::Owner;
 pub use pass::NodePass;
+pub use telling::NodeNote;
 pub use view::{Heard, OneHistory, Sizes, Store, View};

@@ -33,7 +33,7 @@ fn put(owner: &mut Owner, nodes: &Nodes, tail: u32, node: u32, header: u64)
 }
 
 // Puts an image on node 1 into the empty list.
-fn put_first(owner: &mut Owner, nodes: &Nodes, header: u64)
+pub(crate) fn put_first(owner: &mut Owner, nodes: &Nodes, header: u64)
     requires table { owner.old.table ≡ nodes.now }
     requires new { (0 < owner.old.nodes) × (owner.old.history ≡ []) }
     ensures table { owner.new.table ≡ owner.old.table }
@@ -59,9 +59,10 @@ fn put_named(owner: &mut Owner, nodes: &Nodes, header: u64)
 }
 
 // Puts three images on the nodes 1, 2 and 3 at the end of the empty list.
-fn put_three(owner: &mut Owner, nodes: &Nodes)
+pub(crate) fn put_three(owner: &mut Owner, nodes: &Nodes)
     requires table { owner.old.table ≡ nodes.now }
     requires new { (3 ≤ owner.old.nodes) × (owner.old.history ≡ []) }
+    ensures table { owner.new.table ≡ owner.old.table }
 {
     put(owner, nodes, 0, 1, 0x10);
     put(owner, nodes, 1, 2, 0x20);

@@ -17,12 +17,11 @@ pub struct Store {
     pub value: u64,
 }
 
-/// What a joined seat had seen, and the rights that it had.
+/// What a joined seat had seen, and the pass numbers that it had.
 pub struct Heard {
     pub history: LinkedList<Entry>,
     pub names: LinkedList<LinkedList<u8>>,
     pub numbers: LinkedList<u32>,
-    pub owns: bool,
 }
 
 /// What a seat knows. No value of it is made. All lists have the newest first.
@@ -38,7 +37,7 @@ pub struct View {
     pub owns: bool,
     /// How many pass numbers were given, if the seat owns.
     pub numbered: u32,
-    /// The pass numbers under which the seat may enter and leave.
+    /// The pass numbers under which the seat may enter and leave. An owner has those of the passes that it has joined.
     pub numbers: LinkedList<u32>,
     /// The nodes that a walk was given since the last enter.
     pub given: LinkedList<u32>,

@@ -1,4 +1,4 @@
-use Rattle.std.proofs.Common.{sym, ap, ◌∙◌, subst, arith}
+use Rattle.std.proofs.Common.{refl, sym, ap, ◌∙◌, subst, arith}
 use mathlib.Core.Option.{none}
 use Rattle.atomic_table.specs.Table.{step}
 use Rattle.plcr_nodes.specs.Tokens.{OwnerState, owner_state, IsOwner}
@@ -21,7 +21,7 @@ invariant_of-self c =
     let old = c.self.inside.seat in
     let new = c.load.new.seat in
     let told = (owner_looked old.table_id old.me c.self.invariant.owner (step c.nodes.inside.table.shared.table_id.slots 0 0 0 none) c.load.result new.me c.load.ensures.2) in
-    record { owner = subst (λ z. IsOwner z new.me) (sym c.load.ensures.0) told.0; links = knows_same _ _ _ _ _ (ap (λ (s : OwnerState). s.nodes) told.1.now) (ap (λ (s : OwnerState). live s.history) told.1.now ∙ live_same told.1.past old.me.0.history told.1.sees.own) c.self.invariant.links }
+    record { owner = subst (λ z. IsOwner z new.me) (sym c.load.ensures.0) told.0; links = knows_same _ _ _ _ _ (ap (λ (s : OwnerState). s.nodes) told.1.now) (ap (λ (s : OwnerState). live s.history) told.1.now ∙ live_same told.1.past old.me.0.history (told.1.sees.added.owner refl)) c.self.invariant.links }
 
 pub returns : goal.returns
 returns c =
