@@ -1,0 +1,10 @@
+pub mod Assembled
+pub mod FirstKept
+pub mod FirstOver
+pub mod Framed
+pub mod Fronts
+pub mod Gathered
+pub mod LaidOut
+pub mod Reading
+pub mod Sectioned
+pub mod Segments

@@ -1,0 +1,55 @@
+-- The sections read so far gave what was found, and the rest is still to give.
+use Rattle.std.proofs.Common.{◌≡◌, ◌≤◌, ◌<◌, ℕ, zero, suc, ◌+◌, ◌-◌, ◌*◌, List, [], ◌∷◌, length, take, drop, None, refl, sym, ap, subst, ◌∙◌, arith}
+use Rattle.plcr_macho.specs.declared.kept.Parts.{Parts}
+use Rattle.plcr_macho.specs.Loading.{sections_in}
+use Rattle.plcr_macho.specs.Keeping.{first_parts, parts_in}
+use Rattle.plcr_macho.proofs.FirstKept.{parts_more, parts_twice, parts_none, none_parts}
+
+-- what was found, and the sections from an index on, give what all sections give
+abbrev pub PartsSoFar : ℕ → ℕ → List ℕ → Parts → Type 0
+PartsSoFar count index bytes found = first_parts found (parts_in (sections_in (count - index) (drop (80 * index) bytes))) ≡ parts_in (sections_in count bytes)
+
+drop_none : (m : ℕ) (xs : List ℕ) → length xs ≡ 0 → drop m xs ≡ xs
+drop_none zero xs h = refl
+drop_none (suc m) [] h = refl
+drop_none (suc m) (x ∷ xs) h = absurd (omega arith)
+
+drop_twice : (m n : ℕ) (xs : List ℕ) → drop m (drop n xs) ≡ drop (n + m) xs
+drop_twice m zero xs = let e : m ≡ 0 + m = omega arith in ap (λ (k : ℕ). drop k xs) e
+drop_twice m (suc n) [] = drop_none m [] refl ∙ sym (drop_none (suc n + m) [] refl)
+drop_twice m (suc n) (x ∷ xs) = let e : suc (n + m) ≡ suc n + m = omega arith in drop_twice m n xs ∙ ap (λ (k : ℕ). drop k (x ∷ xs)) e
+
+pub parts_start : (count : ℕ) (bytes : List ℕ) (found : Parts) → found ≡ record { unwind = None; eh_frame = None } → PartsSoFar count 0 bytes found
+parts_start count bytes found none =
+    let left : count - 0 ≡ count = omega arith in
+    let here : 80 * 0 ≡ 0 = omega arith in
+    ap (λ (p : Parts). first_parts p (parts_in (sections_in (count - 0) (drop (80 * 0) bytes)))) none
+    ∙ none_parts (parts_in (sections_in (count - 0) (drop (80 * 0) bytes)))
+    ∙ ap (λ (n : ℕ). parts_in (sections_in n (drop (80 * 0) bytes))) left
+    ∙ ap (λ (n : ℕ). parts_in (sections_in count (drop n bytes))) here
+
+pub parts_move : (count index : ℕ) (bytes section : List ℕ) (old new : Parts) → PartsSoFar count index bytes old → index < count
+    → section ≡ take 80 (drop (80 * index) bytes) → new ≡ first_parts old (parts_in (section ∷ [])) → PartsSoFar count (index + 1) bytes new
+parts_move count index bytes section old new h more is added =
+    let left : count - index ≡ suc (count - (index + 1)) = omega arith in
+    let later : 80 * index + 80 ≡ 80 * (index + 1) = omega arith in
+    let rest = sections_in (count - (index + 1)) (drop (80 * (index + 1)) bytes) in
+    let behind : drop 80 (drop (80 * index) bytes) ≡ drop (80 * (index + 1)) bytes = drop_twice 80 (80 * index) bytes ∙ ap (λ (n : ℕ). drop n bytes) later in
+    let from : first_parts old (parts_in (sections_in (suc (count - (index + 1))) (drop (80 * index) bytes))) ≡ parts_in (sections_in count bytes) = subst (λ (n : ℕ). first_parts old (parts_in (sections_in n (drop (80 * index) bytes))) ≡ parts_in (sections_in count bytes)) left h in
+    let whole : first_parts old (parts_in (section ∷ rest)) ≡ parts_in (sections_in count bytes) =
+    ap (λ (s : List ℕ). first_parts old (parts_in (s ∷ rest))) is
+    ∙ ap (λ (ys : List ℕ). first_parts old (parts_in (take 80 (drop (80 * index) bytes) ∷ sections_in (count - (index + 1)) ys))) (sym behind)
+    ∙ from in
+    ap (λ (p : Parts). first_parts p (parts_in rest)) added
+    ∙ parts_twice old (parts_in (section ∷ [])) (parts_in rest)
+    ∙ ap (first_parts old) (sym (parts_more section rest)) ∙ whole
+
+pub parts_end : (count index : ℕ) (bytes : List ℕ) (found : Parts) → PartsSoFar count index bytes found → count ≤ index → found ≡ parts_in (sections_in count bytes)
+parts_end count index bytes found h none_left =
+    let left : count - index ≡ 0 = omega arith in
+    sym (parts_none found) ∙ subst (λ (n : ℕ). first_parts found (parts_in (sections_in n (drop (80 * index) bytes))) ≡ parts_in (sections_in count bytes)) left h
+
+-- no sections
+pub parts_zero : (count : ℕ) (bytes : List ℕ) → count ≡ 0 → record { unwind = None; eh_frame = None } ≡ parts_in (sections_in count bytes)
+unfolding parts_in
+parts_zero count bytes none = subst (λ (n : ℕ). record { unwind = None; eh_frame = None } ≡ parts_in (sections_in n bytes)) (sym none) refl

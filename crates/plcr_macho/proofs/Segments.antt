@@ -1,0 +1,134 @@
+-- What is kept of one command, by its kind.
+use Rattle.std.proofs.Common.{◌≡◌, ◌≤◌, ◌<◌, ℕ, ◌+◌, ◌*◌, lit≤, Bool, true, false, cond, nat_lt, List, [], ◌∷◌, take, drop, Option, Some, None, Result, Ok, Err, refl, sym, ap, subst, ◌∙◌, arith}
+use Rattle.std.specs.Prelude.{◌≢◌, ◌==◌, codes}
+use Rattle.std.specs.Option.{option_map}
+use Rattle.std.proofs.lemmas.Bool.Decides.{nat_tests}
+use Rattle.plcr_base.specs.Chains.{◌>>=◌, passed, result_map}
+use Rattle.plcr_commands.specs.declared.trouble.Trouble.{Trouble}
+use Rattle.plcr_commands.specs.declared.trouble.Trouble.TheVariants.{Bad}
+use Rattle.plcr_commands.specs.Commands.{Bytes, Command, framed_at, command_at}
+use Rattle.plcr_macho.specs.declared.kept.Segment.{Segment}
+use Rattle.plcr_macho.specs.declared.kept.Parts.{Parts}
+use Rattle.plcr_macho.specs.declared.kept.Text.{Text}
+use Rattle.plcr_macho.specs.declared.kept.Tables.{Tables}
+use Rattle.plcr_macho.specs.declared.kept.Kept.{Kept}
+use Rattle.plcr_macho.specs.declared.gain.Gain.{Gain}
+use Rattle.plcr_macho.specs.Fields as fields
+use Rattle.plcr_macho.specs.Fields.{number, bytes_of, is_named}
+use Rattle.plcr_macho.specs.Loading.{image_trouble, sections_in}
+use Rattle.plcr_macho.specs.Keeping.{gain_of, kept_in, kept_of, nothing, parts_in, segment_in, tables_in, text_of}
+use Rattle.plcr_macho.proofs.FirstKept.{gives, fails}
+use Rattle.plcr_macho.proofs.Fronts.{name_front, sections_are, segment_front}
+
+fits : (size n : ℕ) → n ≤ size → nat_lt size n ≡ false
+fits size n h = grind (arith, nat_tests)
+
+short : (size n : ℕ) → size < n → nat_lt size n ≡ true
+short size n h = grind (arith, nat_tests)
+
+-- what is kept of `__TEXT`
+pub text_is : (s : Segment) (p : Parts) (c : Command) → s ≡ segment_in c.bytes → p ≡ parts_in (sections_in s.sections (drop 72 c.bytes)) → record { segment = s; parts = p } ≡ text_of c
+text_is s p c is parts =
+    let n : s.sections ≡ number fields.nsects c.bytes = sections_are s c.bytes is in
+    let q : p ≡ parts_in (sections_in (number fields.nsects c.bytes) (drop 72 c.bytes)) = parts ∙ ap (λ (k : ℕ). parts_in (sections_in k (drop 72 c.bytes))) n in
+    ap (λ (t : Segment). let x : Text = record { segment = t; parts = p } in x) is ∙ ap (λ (r : Parts). let x : Text = record { segment = segment_in c.bytes; parts = r } in x) q
+
+map_cond : {X Y : Type 0} (f : X → Y) (b : Bool) (x : X) → option_map f (cond b (Some x) None) ≡ cond b (Some (f x)) None
+map_cond f true x = refl
+map_cond f false x = refl
+
+segment_two : (index size place : ℕ) (bytes : List ℕ) → nat_lt size (72 + 80 * number fields.nsects bytes) ≡ false
+    → kept_in index (record { kind = 0x19; size = size; place = place; bytes = bytes })
+    ≡ Ok (record {
+      text = option_map text_of (cond (is_named fields.segment_name (codes "__TEXT") bytes) (Some (record { kind = 0x19; size = size; place = place; bytes = bytes })) None);
+      linkedit = option_map (λ (c : Command). segment_in c.bytes) (cond (is_named fields.segment_name (codes "__LINKEDIT") bytes) (Some (record { kind = 0x19; size = size; place = place; bytes = bytes })) None);
+      symtab = None;
+      uuid = None;
+    })
+unfolding kept_of
+segment_two index size place bytes h = rw h refl
+
+segment_bad_two : (index size place : ℕ) (bytes : List ℕ) → nat_lt size (72 + 80 * number fields.nsects bytes) ≡ true
+    → kept_in index (record { kind = 0x19; size = size; place = place; bytes = bytes }) ≡ Err (Bad index)
+segment_bad_two index size place bytes h = rw h refl
+
+-- a segment that is too short
+pub segment_bad : (index : ℕ) (c : Command) → c.kind ≡ 0x19 → c.size < 72 + 80 * number fields.nsects c.bytes → Err (Bad index) ≡ kept_in index c
+segment_bad index c kind less =
+    subst (λ (k : ℕ). Err (Bad index) ≡ kept_in index (record { kind = k; size = c.size; place = c.place; bytes = c.bytes })) (sym kind)
+    (sym (segment_bad_two index c.size c.place c.bytes (short c.size (72 + 80 * number fields.nsects c.bytes) less)))
+
+-- a segment with its sections
+pub segment_kept_is : (index : ℕ) (c : Command) (front : List ℕ) (s : Segment) (text : Option Text) (linkedit : Option Segment)
+    → c.kind ≡ 0x19 → front ≡ take 72 c.bytes → s ≡ segment_in front → 72 + 80 * s.sections ≤ c.size
+    → text ≡ cond (is_named fields.segment_name (codes "__TEXT") front) (Some (text_of c)) None
+    → linkedit ≡ cond (is_named fields.segment_name (codes "__LINKEDIT") front) (Some s) None
+    → Ok (record { text = text; linkedit = linkedit; symtab = None; uuid = None }) ≡ kept_in index c
+segment_kept_is index c front s text linkedit kind is_front is_segment long is_text is_linkedit =
+    let d : Command = record { kind = 0x19; size = c.size; place = c.place; bytes = c.bytes } in
+    let same : c ≡ d = ap (λ (k : ℕ). let x : Command = record { kind = k; size = c.size; place = c.place; bytes = c.bytes } in x) kind in
+    let is : s ≡ segment_in c.bytes = is_segment ∙ ap segment_in is_front ∙ segment_front c.bytes in
+    let count : s.sections ≡ number fields.nsects c.bytes = sections_are s c.bytes is in
+    let most : 72 + 80 * number fields.nsects c.bytes ≤ c.size = subst (λ (n : ℕ). 72 + 80 * n ≤ c.size) count long in
+    let name = λ (n : List ℕ). ap (is_named fields.segment_name n) is_front ∙ name_front fields.segment_name 72 n c.bytes (lit≤ tt) in
+    let t : text ≡ option_map text_of (cond (is_named fields.segment_name (codes "__TEXT") c.bytes) (Some d) None) =
+    is_text ∙ ap (λ (b : Bool). cond b (Some (text_of c)) None) (name (codes "__TEXT")) ∙ sym (map_cond text_of (is_named fields.segment_name (codes "__TEXT") c.bytes) d) in
+    let l : linkedit ≡ option_map (λ (c : Command). segment_in c.bytes) (cond (is_named fields.segment_name (codes "__LINKEDIT") c.bytes) (Some d) None) =
+    is_linkedit ∙ ap (λ (b : Bool). cond b (Some s) None) (name (codes "__LINKEDIT"))
+    ∙ ap (λ (s : Segment). cond (is_named fields.segment_name (codes "__LINKEDIT") c.bytes) (Some s) None) is
+    ∙ sym (map_cond (λ (c : Command). segment_in c.bytes) (is_named fields.segment_name (codes "__LINKEDIT") c.bytes) d) in
+    ap (λ (o : Option Text). let r : Result Kept Trouble = Ok (record { text = o; linkedit = linkedit; symtab = None; uuid = None }) in r) t
+    ∙ ap (λ (o : Option Segment). let r : Result Kept Trouble = Ok (record { text = option_map text_of (cond (is_named fields.segment_name (codes "__TEXT") c.bytes) (Some d) None); linkedit = o; symtab = None; uuid = None }) in r) l
+    ∙ sym (segment_two index c.size c.place c.bytes (fits c.size (72 + 80 * number fields.nsects c.bytes) most))
+    ∙ ap (kept_in index) (sym same)
+
+symtab_two : (index size place : ℕ) (bytes : List ℕ) → nat_lt size 24 ≡ false
+    → kept_in index (record { kind = 2; size = size; place = place; bytes = bytes }) ≡ Ok (record { text = None; linkedit = None; symtab = Some (tables_in bytes); uuid = None })
+unfolding kept_of
+symtab_two index size place bytes h = rw h refl
+
+-- the tables of the symbols
+pub symtab_kept_is : (index : ℕ) (c : Command) (t : Tables) → c.kind ≡ 2 → 24 ≤ c.size → t ≡ tables_in c.bytes → Ok (record { text = None; linkedit = None; symtab = Some t; uuid = None }) ≡ kept_in index c
+symtab_kept_is index c t kind long is =
+    subst (λ (k : ℕ). Ok (record { text = None; linkedit = None; symtab = Some t; uuid = None }) ≡ kept_in index (record { kind = k; size = c.size; place = c.place; bytes = c.bytes })) (sym kind)
+    (ap (λ (t : Tables). let r : Result Kept Trouble = Ok (record { text = None; linkedit = None; symtab = Some t; uuid = None }) in r) is
+    ∙ sym (symtab_two index c.size c.place c.bytes (fits c.size 24 long)))
+
+uuid_two : (index size place : ℕ) (bytes : List ℕ) → nat_lt size 24 ≡ false
+    → kept_in index (record { kind = 0x1b; size = size; place = place; bytes = bytes }) ≡ Ok (record { text = None; linkedit = None; symtab = None; uuid = Some (bytes_of fields.uuid bytes) })
+unfolding kept_of
+uuid_two index size place bytes h = rw h refl
+
+-- the uuid
+pub uuid_kept_is : (index : ℕ) (c : Command) (u : List ℕ) → c.kind ≡ 0x1b → 24 ≤ c.size → u ≡ bytes_of fields.uuid c.bytes → Ok (record { text = None; linkedit = None; symtab = None; uuid = Some u }) ≡ kept_in index c
+uuid_kept_is index c u kind long is =
+    subst (λ (k : ℕ). Ok (record { text = None; linkedit = None; symtab = None; uuid = Some u }) ≡ kept_in index (record { kind = k; size = c.size; place = c.place; bytes = c.bytes })) (sym kind)
+    (ap (λ (u : List ℕ). let r : Result Kept Trouble = Ok (record { text = None; linkedit = None; symtab = None; uuid = Some u }) in r) is
+    ∙ sym (uuid_two index c.size c.place c.bytes (fits c.size 24 long)))
+
+-- what a command gives that stands there
+pub gain_is : (source : Bytes) (end index at : ℕ) (c : Command) (k : Kept) → Ok c ≡ framed_at source end index at → Ok k ≡ kept_in index c
+    → Ok (record { kept = k; size = c.size }) ≡ result_map gain_of (command_at source image_trouble end index at)
+gain_is source end index at c k frame kept =
+    sym (gives c (image_trouble index c) k kept)
+    ∙ ap (λ (r : Result Command Trouble). result_map gain_of (r >>= λ (c : Command). passed c (image_trouble index c))) frame
+
+-- a command that stands there and has a trouble
+pub gain_fails : (source : Bytes) (end index at : ℕ) (c : Command) (t : Trouble) → Ok c ≡ framed_at source end index at → Err t ≡ kept_in index c
+    → Err t ≡ result_map gain_of (command_at source image_trouble end index at)
+gain_fails source end index at c t frame kept =
+    sym (fails c (image_trouble index c) t kept)
+    ∙ ap (λ (r : Result Command Trouble). result_map gain_of (r >>= λ (c : Command). passed c (image_trouble index c))) frame
+
+not_eq : (a b : ℕ) → a ≢ b → (a == b) ≡ false
+not_eq a b h = grind (arith, nat_tests)
+
+other_two : (index : ℕ) (c : Command) → (c.kind == 0x19) ≡ false → (c.kind == 2) ≡ false → (c.kind == 0x1b) ≡ false → nat_lt c.size 8 ≡ false → kept_in index c ≡ Ok nothing
+unfolding kept_of
+other_two index c p q r s = rw (p, q, r, s) refl
+
+-- a command of another kind
+pub other_kept_is : (index : ℕ) (c : Command) (k : Kept) → k ≡ nothing → c.kind ≢ 0x19 → c.kind ≢ 2 → c.kind ≢ 0x1b → 8 ≤ c.size → Ok k ≡ kept_in index c
+other_kept_is index c k none p q r least =
+    ap (λ (k : Kept). let x : Result Kept Trouble = Ok k in x) none
+    ∙ sym (other_two index c (not_eq c.kind 0x19 p) (not_eq c.kind 2 q) (not_eq c.kind 0x1b r) (fits c.size 8 least))

@@ -1,0 +1,9 @@
+use Rattle.plcr_macho.proofs.Reading.{memory_is_plain}
+use Rattle.plcr_macho.proofs.LaidOut.{images_lie}
+use Rattle.plcr_macho.proofs.laws.images_lie.Goals as goal
+
+pub returns-clause-found : goal.returns-clause-found
+returns-clause-found c = images_lie
+
+pub returns-clause-memory : goal.returns-clause-memory
+returns-clause-memory c = memory_is_plain

@@ -1,0 +1,28 @@
+//! Mach-O images as they lie in the memory of a process, and lists of loaded images.
+#![tactic(auto)]
+
+mod fields;
+mod gain;
+mod header;
+mod image;
+mod images;
+mod kept;
+mod laws;
+mod list;
+mod parsing;
+mod search;
+mod sections;
+mod segment;
+mod source;
+mod standing;
+mod tables;
+
+pub use image::{Image, ImageFault, Part, Symtab};
+pub use images::Images;
+pub use laws::images_lie;
+pub use list::{ListImages, PlainImage};
+pub use parsing::parse;
+pub use search::containing;
+
+#[cfg(test)]
+mod tests;

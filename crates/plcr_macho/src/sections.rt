@@ -1,0 +1,88 @@
+ghost use Rattle.std.specs.Prelude.{◌≡◌, ◌≤◌, ◌+◌, ◌*◌, ◌^◌, [], ◌∷◌, drop, if◌then◌else◌, Some, None, IsSome};
+ghost use Rattle.std.specs.Str.{bytes_eq};
+ghost use Rattle.plcr_memory.specs.Regions.{bytes_at};
+ghost use Rattle.plcr_macho.specs.Fields.{bytes_of, section_name};
+ghost use Rattle.plcr_macho.specs.Loading.{sections_in};
+ghost use Rattle.plcr_macho.specs.Keeping.{Stands, bytes_there, command_of, part_in, parts_in};
+
+use crate::fields::{SECTION_ADDR, SECTION_NAME, SECTION_SIZE, has_name};
+use crate::image::Part;
+use crate::kept::Parts;
+use crate::source::mapped_bytes;
+use crate::standing::Standing;
+use plcr_base::read_u64;
+use plcr_memory::Memory;
+
+/// Names of sections, as their fields have them.
+const UNWIND_INFO: &[u8; 16] = b"__unwind_info\0\0\0";
+
+const EH_FRAME: &[u8; 16] = b"__eh_frame\0\0\0\0\0\0";
+
+#[tactic(auto, unfolding(crate::specs::Keeping::part_in, crate::specs::Fields::number, plcr_base::specs::Numbers::u64_in))]
+fn part_of(section: &[u8; 80]) -> Part
+    ensures { result ≡ part_in section.now }
+{
+    Part {
+        at: read_u64(section, SECTION_ADDR),
+        size: read_u64(section, SECTION_SIZE),
+    }
+}
+
+#[tactic(auto, unfolding(crate::specs::Fields::bytes_of))]
+fn part_named(section: &[u8; 80], name: &[u8; 16]) -> Option<Part>
+    ensures { result ≡ if bytes_eq (bytes_of section_name section.now) name.now then Some (part_in section.now) else None }
+{
+    if has_name(section, SECTION_NAME, name) {
+        Some(part_of(section))
+    } else {
+        None
+    }
+}
+
+#[tactic(auto, unfolding(crate::specs::Keeping::parts_in))]
+fn parts_of(section: &[u8; 80]) -> Parts
+    ensures { result ≡ parts_in (section.now ∷ []) }
+{
+    Parts {
+        unwind: part_named(section, UNWIND_INFO),
+        eh_frame: part_named(section, EH_FRAME),
+    }
+}
+
+// What is kept of so many sections from an address on, which stand within `size` mapped bytes.
+fn parts_at(memory: &Memory, at: u64, size: u64, count: u32) -> Parts
+    requires there { IsSome (bytes_at memory.now at size) }
+    requires ends { at + size ≤ 2 ^ 64 }
+    requires within { 80 * count ≤ size }
+    ensures { result ≡ parts_in (sections_in count (bytes_there memory.now at size)) }
+{
+    let mut found = Parts {
+        unwind: None,
+        eh_frame: None,
+    };
+    for index in 0..count {
+        let section = mapped_bytes(memory, at + 80 * u64::from(index));
+        found = found.or(parts_of(&section));
+    }
+    found
+}
+
+/// What is kept of the sections that stand within the command of a segment.
+pub fn parts_within(command: &Standing, count: u32) -> Parts
+    requires stands { Stands command.now }
+    requires within { 72 + 80 * count ≤ command.now.head.size }
+    ensures { result ≡ parts_in (sections_in count (drop 72 (command_of command.now).bytes)) }
+{
+    if count == 0 {
+        return Parts {
+            unwind: None,
+            eh_frame: None,
+        };
+    }
+    let size = u64::from(command.head.size);
+    // The command is mapped, as was tested before. This tells that it ends within the addresses.
+    if !command.memory.is_mapped(command.address, size) {
+        unreachable!()
+    }
+    parts_at(command.memory, command.address + 72, size - 72, count)
+}

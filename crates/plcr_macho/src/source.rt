@@ -1,0 +1,64 @@
+ghost use Rattle.std.specs.Prelude.{◌≡◌, IsSome, Some};
+ghost use Rattle.plcr_memory.specs.Regions.{bytes_at};
+ghost use Rattle.plcr_macho.specs.Sources.{memory_bytes, plus};
+
+use plcr_base::read_u32;
+use plcr_commands::{Head, Source};
+use plcr_memory::Memory;
+
+/// The memory of a process as what load commands are read from. Places count from an address, modulo 2^64.
+#[derive(Clone, Copy)]
+pub struct MemoryBytes<'a> {
+    pub memory: &'a Memory,
+    pub start: u64,
+}
+
+impl MemoryBytes<'_> {
+    /// The address of a place.
+    pub fn address(&self, place: u64) -> u64
+        ensures { result ≡ plus self.now.start place }
+    {
+        self.start.wrapping_add(place)
+    }
+}
+
+/// The bytes from an address on, where all are mapped.
+pub fn bytes_from<const N: usize>(memory: &Memory, at: u64) -> Option<[u8; N]>
+    ensures { result ≡ bytes_at memory.now at N }
+{
+    let mut bytes = [0; N];
+    if memory.copy(at, &mut bytes) {
+        Some(bytes)
+    } else {
+        None
+    }
+}
+
+/// The bytes from an address on, all of which are mapped.
+pub fn mapped_bytes<const N: usize>(memory: &Memory, at: u64) -> [u8; N]
+    requires { IsSome (bytes_at memory.now at N) }
+    ensures { bytes_at memory.now at N ≡ Some result }
+{
+    let Some(bytes) = bytes_from(memory, at) else {
+        unreachable!()
+    };
+    bytes
+}
+
+impl Source for MemoryBytes<'_> {
+    ghost found = { λ s. memory_bytes s.memory.now s.start };
+
+    #[tactic(auto, unfolding(crate::specs::Sources::memory_bytes))]
+    fn head(&self, at: u64) -> Option<Head> {
+        let head: [u8; 8] = bytes_from(self.memory, self.address(at))?;
+        Some(Head {
+            kind: read_u32(&head, 0),
+            size: read_u32(&head, 4),
+        })
+    }
+
+    #[tactic(auto, unfolding(crate::specs::Sources::memory_bytes))]
+    fn has(&self, at: u64, size: u64) -> bool {
+        self.memory.is_mapped(self.address(at), size)
+    }
+}

@@ -1,0 +1,51 @@
+ghost use Rattle.std.specs.Prelude.{◌≡◌, ◌≤◌, ◌+◌, take, IfOk};
+ghost use Rattle.plcr_base.specs.Chains.{result_map};
+ghost use Rattle.plcr_commands.specs.Commands.{framed_at};
+ghost use Rattle.plcr_macho.specs.Keeping.{Stands, command_of};
+ghost use Rattle.plcr_macho.specs.Sources.{memory_bytes};
+
+use crate::source::{MemoryBytes, mapped_bytes};
+use plcr_commands::{Head, Trouble, frame_at};
+use plcr_memory::Memory;
+
+/// A load command that stands in memory: what it says of itself, its place in the list, and its address.
+#[derive(Clone, Copy)]
+pub struct Standing<'a> {
+    pub memory: &'a Memory,
+    pub head: Head,
+    pub place: u64,
+    pub address: u64,
+}
+
+/// The command at place `at`, which has the index `index` in a list that ends at place `end`.
+pub fn standing_at<'a>(
+    source: &MemoryBytes<'a>,
+    end: u64,
+    index: u32,
+    at: u64,
+) -> Result<Standing<'a>, Trouble>
+    ensures frame { result_map command_of result ≡ framed_at (memory_bytes source.now.memory.now source.now.start) end index at }
+    ensures stands { IfOk result (λ command. Stands command) }
+    ensures least { IfOk result (λ command. 8 ≤ command.head.size) }
+    ensures within { IfOk result (λ command. at + command.head.size ≤ end) }
+{
+    let head = frame_at(source, end, index, at)?;
+    Ok(Standing {
+        memory: source.memory,
+        head,
+        place: at,
+        address: source.address(at),
+    })
+}
+
+impl Standing<'_> {
+    /// Its first bytes.
+    #[tactic(auto, using(crate::proofs::Reading::front_mapped))]
+    pub fn front<const N: usize>(&self) -> [u8; N]
+        requires stands { Stands self.now }
+        requires long { N ≤ self.now.head.size }
+        ensures { result ≡ take N (command_of self.now).bytes }
+    {
+        mapped_bytes(self.memory, self.address)
+    }
+}
