@@ -1,0 +1,14 @@
+pub mod Counted
+pub mod Owned
+pub mod Placed
+pub mod Kept
+pub mod Reading
+pub mod Resting
+pub mod Storing
+pub mod Stepping
+pub mod Finishing
+pub mod Whole
+pub mod Walking
+pub mod Opened
+pub mod Told
+pub mod Reread

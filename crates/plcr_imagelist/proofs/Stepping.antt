@@ -1,0 +1,149 @@
+-- A change between its steps.
+use Rattle.std.proofs.Common.{◌≡◌, ◌≢◌, inl, inr, ℕ, zero, suc, ◌+◌, ◌<◌, ◌≤◌, List, [], ◌∷◌, length, true, false, eqb, refl, sym, ap, ◌∙◌, subst, arith, ne_eqb, slice_index, get_or}
+use Rattle.plcr_machine.specs.declared.image.Image.{Image}
+use Rattle.plcr_machine.specs.Lists.{live, loads, changes}
+use Rattle.plcr_machine.specs.Passes.{owes_count}
+use Rattle.plcr_machine.proofs.Cases.{eqb_same}
+use Rattle.plcr_nodes.specs.Names.{words_of}
+use Rattle.plcr_nodes.specs.Plays.{store}
+use Rattle.plcr_nodes.specs.Tokens.{IsLinked}
+use Rattle.plcr_nodes.specs.Unlinking.{IsUnlinked}
+use Rattle.plcr_imagelist.specs.declared.change.Task.{Task}
+use Rattle.plcr_imagelist.specs.declared.change.Task.TheVariants.{Load, Unload}
+use Rattle.plcr_imagelist.specs.Keeping.{BooksState}
+use Rattle.plcr_imagelist.specs.States.{WriterState, writer_state, change_step, ChangeState}
+use Rattle.plcr_imagelist.specs.Changes.{IsBegunLoad, begun_load}
+use Rattle.plcr_imagelist.specs.Refusing.{FindsRoom}
+use Rattle.plcr_imagelist.specs.Making.{IsMaking, MakesStep, AreStored, doing_of, word_stored, value_stored, IsAtRest}
+use Rattle.plcr_imagelist.proofs.Resting.{loaded_at, unloaded_at, due_linked, due_unlinked, counts-rest}
+use Rattle.plcr_imagelist.proofs.Storing.{stored_more, IsWhole, whole}
+
+-- before the change itself, none is to be counted, and there is room for one more
+pub making_rest : (b : BooksState) (task : Task) (name : List ℕ) (load made : ℕ) → IsMaking b task name load made → made < change_step (doing_of task name) → (owes_count b.owner.history ≡ false) × (changes b.owner.history < 4294967295)
+making_rest b task name load made m early =
+    let due : owes_count b.owner.history ≡ false = m.owes ∙ ne_eqb made (change_step (doing_of task name)) (λ e. omega arith) in
+    let same = counts-rest b.owner.history m.paced due in
+    let few = m.fewer in
+    (due, omega arith)
+
+-- once the change itself was made, it is to be counted
+pub making_due : (b : BooksState) (task : Task) (name : List ℕ) (load made : ℕ) → IsMaking b task name load made → made ≡ change_step (doing_of task name) → owes_count b.owner.history ≡ true
+making_due b task name load made m e = m.owes ∙ ap (λ n. eqb n (change_step (doing_of task name))) e ∙ eqb_same (change_step (doing_of task name))
+
+-- a word was stored
+pub making_stored : (b b' : BooksState) (header : ℕ) (name : List ℕ) (load made : ℕ) → IsMaking b (Load header) name load made → made < 3 + words_of (length name)
+    → b' ≡ record b { owner = record b.owner { filled = store b.spare (word_stored name made) (value_stored header name made) ∷ b.owner.filled } }
+    → MakesStep b b' (Load header) name load made
+making_stored b b' header name load made m early e =
+    let w : ℕ = words_of (length name) in
+    subst (λ (s : BooksState). MakesStep b s (Load header) name load made) (sym e)
+    (record {
+      making = record {
+        known = m.known;
+        paced = m.paced;
+        short = m.short;
+        bytes = m.bytes;
+        most = omega arith;
+        fewer = m.fewer;
+        owes = (making_rest b (Load header) name load made m (omega arith)).0 ∙ sym (ne_eqb (made + 1) (4 + w) (λ q. omega arith));
+        ready = λ _. let r = m.ready (omega arith) in (r.0, r.1, stored_more b.spare header name made b.owner.filled early r.2);
+      };
+      before = λ _. refl;
+      change = λ q. absurd (omega arith);
+    })
+
+-- the words of the whole image are stored
+pub making_whole : (b : BooksState) (header : ℕ) (name : List ℕ) (load made : ℕ) → IsMaking b (Load header) name load made → made ≡ 3 + words_of (length name) → IsWhole b.spare header name b.owner.filled
+making_whole b header name load made m e =
+    let r = m.ready (omega arith) in
+    whole b.spare header name b.owner.filled m.bytes m.short (subst (λ k. AreStored b.spare header name k b.owner.filled) e r.2)
+
+-- the node was linked
+pub making_linked : (b b' : BooksState) (header : ℕ) (name : List ℕ) (load made : ℕ) → IsMaking b (Load header) name load made → made ≡ 3 + words_of (length name)
+    → IsLinked b.owner b.spare b'.owner → MakesStep b b' (Load header) name load made
+making_linked b b' header name load made m e k =
+    let w : ℕ = words_of (length name) in
+    let full = making_whole b header name load made m e in
+    let due = due_linked b.owner b.spare b'.owner k m.paced (making_rest b (Load header) name load made m (omega arith)).0 m.fewer in
+    let last : made + 1 ≡ 4 + w = omega arith in
+    record {
+      making = record {
+        known = k.legal;
+        paced = due.paced;
+        short = m.short;
+        bytes = m.bytes;
+        most = omega arith;
+        fewer = due.fewer;
+        owes = due.owes ∙ sym (ap (λ n. eqb n (4 + w)) last ∙ eqb_same (4 + w));
+        ready = λ early. absurd (omega arith);
+      };
+      before = λ other. absurd (other (omega arith));
+      change = λ _. loaded_at b.owner b.spare header load name b'.owner k (m.ready (omega arith)).1 full.header_is full.name_is;
+    }
+
+-- the image was unlinked
+pub making_unlinked : (b b' : BooksState) (at : ℕ) (image : Image) (name : List ℕ) (load made : ℕ) → IsMaking b (Unload at image) name load made → made < 1
+    → IsUnlinked b.owner image.node b'.owner → MakesStep b b' (Unload at image) name load made
+making_unlinked b b' at image name load made m early k =
+    let due = due_unlinked b.owner image.node b'.owner k m.paced (making_rest b (Unload at image) name load made m early).0 m.fewer in
+    let last : made + 1 ≡ 1 = omega arith in
+    record {
+      making = record {
+        known = k.legal;
+        paced = due.paced;
+        short = m.short;
+        bytes = m.bytes;
+        most = omega arith;
+        fewer = due.fewer;
+        owes = due.owes ∙ sym (ap (λ n. eqb n 1) last);
+        ready = λ early'. absurd (omega arith);
+      };
+      before = λ other. absurd (other (omega arith));
+      change = λ _. unloaded_at b.owner image b'.owner k;
+    }
+
+-- a change that was just begun
+pub making_begun_load : (b : BooksState) (header : ℕ) (name : List ℕ) (load : ℕ) → IsAtRest (writer_state b.owner) → changes b.owner.history < 4294967295 → b.spare ≢ 0 → length name ≤ 1024
+    → ((i : ℕ) → slice_index name i < 256) → load ≡ suc (loads b.owner.history) → IsMaking b (Load header) name load 0
+making_begun_load b header name load r few some short bytes number =
+    let same = counts-rest b.owner.history r.paced r.counted in
+    let w : ℕ = words_of (length name) in
+    record {
+      known = r.known;
+      paced = r.paced;
+      short = short;
+      bytes = bytes;
+      most = omega arith;
+      fewer = omega arith;
+      owes = r.counted ∙ sym (ne_eqb 0 (4 + w) (λ e. omega (arith, e)));
+      ready = λ _. (some, number, λ k below. absurd (omega arith));
+    }
+
+no_bytes : (i : ℕ) → slice_index [] i < 256
+no_bytes zero = omega arith
+no_bytes (suc i) = omega arith
+
+pub making_begun_unload : (b : BooksState) (at : ℕ) (image : Image) (load : ℕ) → IsAtRest (writer_state b.owner) → changes b.owner.history < 4294967295
+    → at < length (live b.owner.history) → image ≡ get_or (live b.owner.history) at image → IsMaking b (Unload at image) [] load 0
+making_begun_unload b at image load r few below is =
+    let same = counts-rest b.owner.history r.paced r.counted in
+    record {
+      known = r.known;
+      paced = r.paced;
+      short = omega arith;
+      bytes = no_bytes;
+      most = omega arith;
+      fewer = omega arith;
+      owes = r.counted;
+      ready = λ _. (below, is);
+    }
+
+pub begun : (old : WriterState) (b b' : BooksState) (header : ℕ) (name : List ℕ) (change : ChangeState) → writer_state b.owner ≡ old → FindsRoom b b' → change ≡ begun_load (writer_state b'.owner) header name
+    → IsBegunLoad old header name change
+begun old b b' header name change view r e =
+    subst (λ (s : WriterState). IsBegunLoad s header name change) view
+    (subst (λ (c : ChangeState). IsBegunLoad (writer_state b.owner) header name c) (sym e)
+    (elim r.how [
+      | inl p ↦ inl (p.0, ap (λ (s : BooksState). begun_load (writer_state s.owner) header name) p.1)
+      | inr q ↦ inr (q.0, q.1, r.free, refl)
+    ]))

@@ -1,0 +1,59 @@
+-- What the first steps of a load have stored in its node.
+use Rattle.std.proofs.Common.{◌≡◌, ◌≢◌, ℕ, suc, ◌+◌, ◌*◌, ◌<◌, ◌≤◌, List, ◌∷◌, length, true, false, cond, eqb, ltb, refl, sym, ap, ◌∙◌, subst, arith, Some, Option, slice_index, ne_eqb}
+use Rattle.std.proofs.lemmas.Bool.{lt-ltb, le-ltb, eqb-true, eqb-false}
+use Rattle.plcr_base.specs.Numbers.{u64_in}
+use Rattle.plcr_machine.proofs.Cases.{by_cases, eqb_same}
+use Rattle.plcr_nodes.specs.declared.view.Store.{Store}
+use Rattle.plcr_nodes.specs.Names.{words_of, payload_word, stored, value_or, header_in, name_in, IsFilled, IsEnded, IsShort}
+use Rattle.plcr_nodes.specs.Plays.{store}
+use Rattle.plcr_nodes.proofs.Spelling.{spelled}
+use Rattle.plcr_imagelist.specs.Making.{word_stored, value_stored, AreStored}
+
+-- different steps store different words
+word_apart : (name : List ℕ) (j k : ℕ) → j < k → k < 3 + words_of (length name) → word_stored name j ≢ word_stored name k
+word_apart name j k below most =
+    let w : ℕ = 2 + words_of (length name) in
+    let early : ltb j w ≡ true = lt-ltb j w (omega arith) in
+    by_cases (ltb k w)
+    (λ t. λ e. let same : j + 1 ≡ k + 1 = rw (early, t) at e in omega (arith, same))
+    (λ t. λ e. let same : j + 1 ≡ 0 = rw (early, t) at e in omega (arith, same))
+
+-- one word more
+pub stored_more : (node header : ℕ) (name : List ℕ) (made : ℕ) (ss : List Store) → made < 3 + words_of (length name) → AreStored node header name made ss
+    → AreStored node header name (made + 1) (store node (word_stored name made) (value_stored header name made) ∷ ss)
+stored_more node header name made ss most before k below =
+    by_cases (eqb made k)
+    (λ e. let m = eqb-true made k e in rw (eqb_same node) (subst (λ j. cond (eqb (word_stored name made) (word_stored name j)) (Some (value_stored header name made)) (stored node (word_stored name j) ss) ≡ Some (value_stored header name j)) m (rw (eqb_same (word_stored name made)) refl)))
+    (λ e. let m = eqb-false made k e in
+    let other : eqb (word_stored name made) (word_stored name k) ≡ false = ne_eqb (word_stored name made) (word_stored name k) (λ q. word_apart name k made (omega arith) most (sym q)) in
+    rw (eqb_same node, other) (before k (omega arith)))
+
+-- once all words are stored, the node is filled, and leads to the end
+pub record IsWhole (node header : ℕ) (name : List ℕ) (ss : List Store) : Type 0 where
+  pub filled : IsFilled node ss
+  pub ended : IsEnded node ss
+  pub header_is : header ≡ header_in node ss
+  pub name_is : name ≡ name_in node ss
+
+pub whole : (node header : ℕ) (name : List ℕ) (ss : List Store) → ((i : ℕ) → slice_index name i < 256) → length name ≤ 1024 → AreStored node header name (3 + words_of (length name)) ss → IsWhole node header name ss
+whole node header name ss bytes short all =
+    let w : ℕ = words_of (length name) in
+    let at : (k : ℕ) → k < 2 + w → stored node (k + 1) ss ≡ Some (payload_word header name k) = λ k below.
+    let t : ltb k (2 + w) ≡ true = lt-ltb k (2 + w) below in let s = all k (omega arith) in rw t at s in
+    let last : stored node 0 ss ≡ Some 0 = let t : ltb (2 + w) (2 + w) ≡ false = le-ltb (2 + w) (2 + w) (omega arith) in let s = all (2 + w) (omega arith) in rw t at s in
+    let head : stored node 1 ss ≡ Some header = at 0 (omega arith) in
+    let size : stored node 2 ss ≡ Some (length name) = at 1 (omega arith) in
+    let words : (k : ℕ) → k < w → stored node (k + 3) ss ≡ Some (u64_in name (8 * k)) = λ k below.
+    let x : suc (suc k) + 1 ≡ k + 3 = omega arith in subst (λ j. stored node j ss ≡ Some (u64_in name (8 * k))) x (at (suc (suc k)) (omega arith)) in
+    let same : name_in node ss ≡ name = spelled node name ss bytes (ap (value_or 0) size) (λ k below. ap (value_or 0) (words k below)) in
+    record {
+      filled = record {
+        header = head ∙ ap (λ (o : Option ℕ). Some (value_or 0 o)) (sym head);
+        short = subst IsShort (sym same) short;
+        len = size ∙ ap (λ (xs : List ℕ). Some (length xs)) (sym same);
+        name = subst (λ (xs : List ℕ). (k : ℕ) → k < words_of (length xs) → stored node (k + 3) ss ≡ Some (u64_in xs (8 * k))) (sym same) words;
+      };
+      ended = last;
+      header_is = sym (ap (value_or 0) head);
+      name_is = sym same;
+    }

@@ -1,0 +1,373 @@
+-- The walk of a hold goes on from image to image.
+use Rattle.std.proofs.Common.{◌≡◌, ◌≢◌, ◌⊎◌, inl, inr, ℕ, zero, suc, ◌-◌, ◌/◌, ◌<◌, ◌≤◌, List, [], ◌∷◌, ◌++◌, length, get_or, Bool, true, false, eqb, refl, sym, ap, ◌∙◌, subst, arith, Some, None, ne_eqb}
+use Rattle.std.proofs.lemmas.Bool.{or_left, or_right, or_cases, eqb-true, eqb-false, false_from_ne_true}
+use Rattle.plcr_machine.specs.declared.image.Image.{Image}
+use Rattle.plcr_machine.specs.declared.entry.Entry.{Entry}
+use Rattle.plcr_machine.specs.declared.entry.Entry.TheVariants.{Enter, Leave, Load, Unload, Count, Look}
+use Rattle.plcr_machine.specs.Lists.{Grows, load_number, loaded, changes, list_after}
+use Rattle.plcr_machine.specs.Walks.{RisesAbove, last_with, follow, last_met, Meets, IsWholeWalk, IsLawfulWalk}
+use Rattle.plcr_machine.specs.Passes.{is_inside, counts, count_below}
+use Rattle.plcr_machine.specs.Histories.{IsLegal, IsHistory}
+use Rattle.plcr_machine.specs.Holds.{may_reach}
+use Rattle.plcr_machine.specs.Links.{link_of, image_at}
+use Rattle.plcr_machine.specs.Parts.{own_entries}
+use Rattle.plcr_machine.proofs.Cases.{by_cases, eqb_same, not_both}
+use Rattle.plcr_machine.proofs.Insiders.{count_below-more, count_below-most, readers_most}
+use Rattle.plcr_machine.proofs.Rising.{first_rises, next_rises}
+use Rattle.plcr_machine.proofs.Growing.{follow-same, meets_until, meets-snoc, list_after-grows, changes-grows, meets-grows}
+use Rattle.plcr_machine.proofs.Lawful.{whole_walk_lawful}
+use Rattle.plcr_machine.proofs.Loaded.{list_after_rises}
+use Rattle.plcr_machine.proofs.Follows.{link-follow, head-follow}
+use Rattle.plcr_machine.proofs.Reach.{reach_busy}
+use Rattle.plcr_nodes.specs.Entries.{among}
+use Rattle.plcr_nodes.specs.Seeing.{AddsOthers, GoesOn}
+use Rattle.plcr_nodes.specs.Tokens.{PassState, SeesMore, IsEntered, IsLeft, IsFollowed}
+use Rattle.plcr_nodes.proofs.Seeing.{own_of}
+use Rattle.plcr_nodes.proofs.Known.{inside_same, own_longer, reach_bound}
+use Rattle.plcr_nodes.proofs.Staying.{reach_stays, image_stays}
+use Rattle.plcr_imagelist.specs.Keeping.{last_of}
+use Rattle.plcr_imagelist.specs.Holds.{walker_state, HoldState, images_on, before_enter, IsHolding, IsHeld, IsNext, IsReleased, IsOut}
+
+-- entries of others leave the hold's enter where it was
+before_enter-step : (p : ℕ) (e : Entry) (past : List Entry) → own_entries p (e ∷ past) ≡ own_entries p past → before_enter p (e ∷ past) ≡ before_enter p past
+before_enter-step p (Enter q) past s =
+    by_cases (eqb q p)
+    (λ t. let longer : Enter q ∷ own_entries p past ≡ own_entries p past = rw t at s in let size = ap length longer in absurd (omega arith))
+    (λ t. rw t refl)
+before_enter-step p (Leave q) past s = refl
+before_enter-step p (Load n i a) past s = refl
+before_enter-step p (Unload n) past s = refl
+before_enter-step p (Count k) past s = refl
+before_enter-step p (Look k) past s = refl
+
+own_cons : (p : ℕ) (e : Entry) (past : List Entry) → (own_entries p (e ∷ past) ≡ own_entries p past) ⊎ (length (own_entries p (e ∷ past)) ≡ suc (length (own_entries p past)))
+own_cons p (Enter q) past = by_cases (eqb q p) (λ t. inr (rw t refl)) (λ t. inl (rw t refl))
+own_cons p (Leave q) past = by_cases (eqb q p) (λ t. inr (rw t refl)) (λ t. inl (rw t refl))
+own_cons p (Load n i a) past = inl refl
+own_cons p (Unload n) past = inl refl
+own_cons p (Count k) past = inl refl
+own_cons p (Look k) past = inl refl
+
+own_apart : (p : ℕ) (e : Entry) (added past : List Entry) → own_entries p (e ∷ added ++ past) ≡ own_entries p past
+    → (own_entries p (e ∷ added ++ past) ≡ own_entries p (added ++ past)) × (own_entries p (added ++ past) ≡ own_entries p past)
+own_apart p e added past s =
+    elim (own_cons p e (added ++ past)) [
+      | inl t ↦ (t, sym t ∙ s)
+      | inr t ↦ absurd (let m = own_longer p added past in let z = ap length s in omega (arith, t))
+    ]
+
+before_enter-added : (p : ℕ) (added past : List Entry) → own_entries p (added ++ past) ≡ own_entries p past → before_enter p (added ++ past) ≡ before_enter p past
+before_enter-added p [] past s = refl
+before_enter-added p (e ∷ added) past s = let t = own_apart p e added past s in before_enter-step p e (added ++ past) t.0 ∙ before_enter-added p added past t.1
+
+pub before_enter-same : (p : ℕ) (old all : List Entry) → AddsOthers false (p ∷ []) old all → before_enter p all ≡ before_enter p old
+before_enter-same p old all a =
+    let own = subst (λ (h : List Entry). own_entries p h ≡ own_entries p old) a.grows.1 (own_of p old all a) in
+    subst (λ (h : List Entry). before_enter p h ≡ before_enter p old) (sym a.grows.1) (before_enter-added p a.grows.0 old own)
+
+-- what follows has a greater number
+pub follow_rises : (nodes passes : ℕ) (h : List Entry) → IsLegal nodes passes h → (i j : ℕ) (x : Image) → follow load_number (list_after h) i j ≡ Some x → i < x.load
+follow_rises nodes passes h l zero j x e = first_rises load_number 0 x (list_after h j) (list_after_rises nodes passes h l j) e
+follow_rises nodes passes h l (suc i) j x e =
+    let k : ℕ = last_with load_number (list_after h) (suc i) j in
+    next_rises load_number 0 (suc i) x (list_after h k) (list_after_rises nodes passes h l k) e
+
+rises-snoc : (b : ℕ) (xs : List Image) (x : Image) → RisesAbove load_number b xs → last_met load_number b xs < x.load → RisesAbove load_number b (xs ++ x ∷ [])
+rises-snoc b [] x r more = (more, tt)
+rises-snoc b (y ∷ ys) x r more = (r.0, rises-snoc y.load ys x r.1 more)
+
+-- nodes whose images rise are different, so there are no more than the table has
+among_rises : (h : List Entry) (b m : ℕ) (ns : List ℕ) → RisesAbove load_number b (images_on ns h) → among m ns ≡ true → b < (loaded m h).load
+among_rises h b m [] r t = not_both false t refl
+among_rises h b m (n ∷ ns) r t =
+    elim (or_cases (eqb n m) (among m ns) t) [
+      | inl e ↦ subst (λ k. b < (loaded k h).load) (eqb-true n m e) r.0
+      | inr later ↦ (let more = among_rises h (loaded n h).load m ns r.1 later in let first = r.0 in omega arith)
+    ]
+
+rises_apart : (h : List Entry) (b n : ℕ) (ns : List ℕ) → RisesAbove load_number b (images_on (n ∷ ns) h) → among n ns ≡ false
+rises_apart h b n ns r = false_from_ne_true (among n ns) (λ t. let more = among_rises h (loaded n h).load n ns r.1 t in omega (arith, more))
+
+length-apart : (nodes : ℕ) (h : List Entry) (b : ℕ) (ns : List ℕ) → RisesAbove load_number b (images_on ns h) → ((n : ℕ) → among n ns ≡ true → (0 < n) × (n ≤ nodes)) → length ns ≡ count_below (λ k. among (suc k) ns) nodes
+length-apart nodes h b [] r within = none nodes
+  where
+    none : (k : ℕ) → 0 ≡ count_below (λ k. false) k
+    none zero = refl
+    none (suc k) = omega (arith, none k)
+length-apart nodes h b (n ∷ ns) r within =
+    let self = or_left (eqb n n) (among n ns) (eqb_same n) in
+    let here = within n self in
+    let p : ℕ = n - 1 in
+    let back : suc p ≡ n = omega arith in
+    let off : among (suc p) ns ≡ false = subst (λ k. among k ns ≡ false) (sym back) (rises_apart h b n ns r) in
+    let on : among (suc p) (n ∷ ns) ≡ true = subst (λ k. among k (n ∷ ns) ≡ true) (sym back) self in
+    let more = count_below-more (λ k. among (suc k) ns) (λ k. among (suc k) (n ∷ ns)) p nodes (omega arith) off on
+    (λ k d. let other : eqb n (suc k) ≡ false = ne_eqb n (suc k) (λ s. eqb-false p k d (omega arith)) in rw other refl) in
+    ap suc (length-apart nodes h (loaded n h).load ns r.1 (λ m t. within m (or_right (eqb n m) (among m ns) t))) ∙ sym more
+
+pub length-images_on : (ns : List ℕ) (h : List Entry) → length (images_on ns h) ≡ length ns
+length-images_on [] h = refl
+length-images_on (n ∷ ns) h = ap suc (length-images_on ns h)
+
+few_met : (nodes : ℕ) (h : List Entry) (ns : List ℕ) → RisesAbove load_number 0 (images_on ns h) → ((n : ℕ) → among n ns ≡ true → (0 < n) × (n ≤ nodes)) → length (images_on ns h) ≤ nodes
+few_met nodes h ns r within =
+    let size = length-apart nodes h 0 ns r within in
+    let most = count_below-most (λ k. among (suc k) ns) nodes in
+    let same = length-images_on ns h in omega arith
+
+pub images_on-snoc : (ns : List ℕ) (n : ℕ) (h : List Entry) → images_on (ns ++ n ∷ []) h ≡ images_on ns h ++ loaded n h ∷ []
+images_on-snoc [] n h = refl
+images_on-snoc (m ∷ ns) n h = ap (λ (xs : List Image). loaded m h ∷ xs) (images_on-snoc ns n h)
+
+among-snoc : (ns : List ℕ) (n m : ℕ) → among m (ns ++ n ∷ []) ≡ true → (among m ns ≡ true) ⊎ (n ≡ m)
+among-snoc [] n m t = elim (or_cases (eqb n m) false t) [ inl e ↦ inr (eqb-true n m e) | inr f ↦ not_both false f refl ]
+among-snoc (k ∷ ns) n m t =
+    elim (or_cases (eqb k m) (among m (ns ++ n ∷ [])) t) [
+      | inl e ↦ inl (or_left (eqb k m) (among m ns) e)
+      | inr later ↦ elim (among-snoc ns n m later) [ inl r ↦ inl (or_right (eqb k m) (among m ns) r) | inr s ↦ inr s ]
+    ]
+
+-- the last node is among them
+among_at : (ns : List ℕ) (i : ℕ) → i < length ns → among (get_or ns i 0) ns ≡ true
+among_at [] i below = absurd (omega arith)
+among_at (n ∷ ns) zero below = or_left (eqb n n) (among n ns) (eqb_same n)
+among_at (n ∷ ns) (suc i) below = or_right (eqb n (get_or ns i 0)) (among (get_or ns i 0) ns) (among_at ns i (omega arith))
+
+pub among_last : (ns : List ℕ) → last_of ns ≢ 0 → among (last_of ns) ns ≡ true
+among_last [] some = absurd (some refl)
+among_last (n ∷ ns) some = among_at (n ∷ ns) (length (n ∷ ns) - 1) (omega arith)
+
+-- the number met last is that of the last node's image
+last_met_at : (h : List Entry) (b : ℕ) (ns : List ℕ) (i : ℕ) → suc i ≡ length ns → last_met load_number b (images_on ns h) ≡ (loaded (get_or ns i 0) h).load
+last_met_at h b [] i e = absurd (omega arith)
+last_met_at h b (n ∷ []) zero e = refl
+last_met_at h b (n ∷ []) (suc i) e = absurd (omega arith)
+last_met_at h b (n ∷ (m ∷ ns)) zero e = absurd (omega arith)
+last_met_at h b (n ∷ (m ∷ ns)) (suc i) e = last_met_at h (loaded n h).load (m ∷ ns) i (omega arith)
+
+-- what follows the image met last is the image to which its node's link leads
+follows_last : (nodes passes p : ℕ) (h : List Entry) (ns : List ℕ) → IsLegal nodes passes h → ((n : ℕ) → among n ns ≡ true → (0 < n) × (may_reach p n h ≡ true))
+    → follow load_number (list_after h) (last_met load_number 0 (images_on ns h)) (changes h) ≡ image_at (link_of (last_of ns) h) h
+follows_last nodes passes p h [] l given = head-follow nodes passes h l
+follows_last nodes passes p h (n ∷ ns) l given =
+    let i : ℕ = length (n ∷ ns) - 1 in
+    let last : ℕ = get_or (n ∷ ns) i 0 in
+    let there = given last (among_at (n ∷ ns) i (omega arith)) in
+    ap (λ k. follow load_number (list_after h) k (changes h)) (last_met_at h 0 (n ∷ ns) i (omega arith))
+    ∙ link-follow nodes passes last h l (reach_busy nodes passes p last h l there.1)
+
+-- the images stay as the history goes on
+pub images_stay : (nodes passes p : ℕ) (old all : List Entry) (old_names names : List (List ℕ)) → GoesOn nodes passes false (p ∷ []) old old_names all names
+    → (ns : List ℕ) → ((n : ℕ) → among n ns ≡ true → may_reach p n old ≡ true) → images_on ns all ≡ images_on ns old
+images_stay nodes passes p old all old_names names g [] reach = refl
+images_stay nodes passes p old all old_names names g (n ∷ ns) reach =
+    let first = image_stays nodes passes p n old all old_names names g (reach n (or_left (eqb n n) (among n ns) (eqb_same n))) in
+    let rest = images_stay nodes passes p old all old_names names g ns (λ m t. reach m (or_right (eqb n m) (among m ns) t)) in
+    λ i. first i ∷ rest i
+
+-- a whole walk is lawful
+lawful_whole : (nodes passes : ℕ) (h : List Entry) → IsLegal nodes passes h → (a b : ℕ) (met : List Image) → IsWholeWalk load_number (list_after h) a b met → IsLawfulWalk load_number (list_after h) a b met
+lawful_whole nodes passes h l a b met w = whole_walk_lawful load_number (list_after h) (list_after_rises nodes passes h l) a b met w
+
+follow_stays : (old all : List Entry) (i j : ℕ) → Grows old all → j ≤ changes old → follow load_number (list_after all) i j ≡ follow load_number (list_after old) i j
+follow_stays old all i j g le = follow-same load_number (list_after all) (list_after old) i j (λ k below. list_after-grows old all k g (omega arith))
+
+-- a pass that has seen more
+abbrev pub on_with : PassState → List Entry → List (List ℕ) → List ℕ → PassState
+on_with s past names given = record s { history = past; names = names; given = given }
+
+abbrev pub hold_of : PassState → List ℕ → Bool → HoldState
+hold_of pass met ended = record { walker = walker_state pass; met = images_on met pass.history; ended = ended }
+
+-- a hold stays one as its pass sees more
+pub holding_stays : (old : PassState) (past : List Entry) (names : List (List ℕ)) (given met : List ℕ) (ended : Bool) (low : ℕ) → SeesMore old past names → ((n : ℕ) → among n old.given ≡ true → among n given ≡ true)
+    → IsHolding old met ended low → IsHolding (on_with old past names given) met ended low
+holding_stays old past names given met ended low g more h =
+    let p : ℕ = old.number in
+    let w = h.walking in
+    let own = own_of p old.history past g.added in
+    let same = images_stay old.nodes old.passes p old.history past old.names names g met (λ n t. (h.given n t).2) in
+    let start : before_enter p past ≡ before_enter p old.history = before_enter-same p old.history past g.added in
+    let later = changes-grows old.history past g.added.grows in
+    record {
+      walking = record {
+        known = g.legal;
+        short = g.short;
+        inside = inside_same p past old.history own ∙ w.inside;
+        meets = subst (λ (xs : List Image). Meets load_number (list_after past) 0 (changes (before_enter p past)) (changes past) xs) (sym same)
+            (subst (λ (b : List Entry). Meets load_number (list_after past) 0 (changes b) (changes past) (images_on met old.history)) (sym start)
+            (meets_until load_number (list_after past) 0 (changes (before_enter p old.history)) (changes old.history) (changes past) (images_on met old.history) later
+            (meets-grows old.history past 0 (changes (before_enter p old.history)) (changes old.history) (images_on met old.history) g.added.grows (omega arith) w.meets)));
+        rises = subst (λ (xs : List Image). RisesAbove load_number 0 xs) (sym same) w.rises;
+        few = subst (λ (xs : List Image). length xs ≤ old.nodes) (sym same) w.few;
+        whole = λ e. let k = w.whole e in
+            let b : ℕ = k.0 in
+            let walk : IsWholeWalk load_number (list_after past) (changes (before_enter p past)) b (images_on met past) =
+            subst (λ (xs : List Image). IsWholeWalk load_number (list_after past) (changes (before_enter p past)) b xs) (sym same)
+            (subst (λ (s : List Entry). IsWholeWalk load_number (list_after past) (changes s) b (images_on met old.history)) (sym start)
+            (record {
+              meets = meets-grows old.history past 0 (changes (before_enter p old.history)) b (images_on met old.history) g.added.grows k.1 k.2.meets;
+              ends = follow_stays old.history past (last_met load_number 0 (images_on met old.history)) b g.added.grows k.1 ∙ k.2.ends;
+            })) in
+            (b, omega (arith, k.1, later), walk, lawful_whole old.nodes old.passes past g.legal.legal (changes (before_enter p past)) b (images_on met past) walk);
+      };
+      given = λ n t. let at = h.given n t in (at.0, more n at.1, reach_stays old.nodes old.passes p n old.history past old.names names g at.2);
+      low_is = h.low_is ∙ ap counts (sym start);
+    }
+
+-- a pass that went in has a hold that has met nothing
+pub holding_entered : (old : PassState) (found : ℕ) (new : PassState) (low : ℕ) → IsEntered old found new → low ≡ found / 4294967296 → IsHolding new [] false low
+holding_entered old found new low e is =
+    let few = e.sees.legal.few_passes in
+    let most = readers_most old.passes e.past in
+    let gate = e.gate in
+    let start : before_enter old.number (Enter old.number ∷ e.past) ≡ e.past = rw (eqb_same old.number) refl in
+    subst (λ (s : PassState). IsHolding s [] false low) (sym e.now)
+    (record {
+      walking = record {
+        known = subst (λ (s : PassState). IsHistory s.nodes s.passes s.history s.names) e.now e.legal;
+        short = e.sees.short;
+        inside = rw (eqb_same old.number) refl;
+        meets = subst (λ (b : List Entry). changes b ≤ changes e.past) (sym start) (omega arith);
+        rises = tt;
+        few = omega arith;
+        whole = λ z. not_both false z refl;
+      };
+      given = λ n t. not_both false t refl;
+      low_is = let l : low ≡ counts e.past = omega arith in l ∙ ap counts (sym start);
+    })
+
+pub held_entered : (old : PassState) (found : ℕ) (new : PassState) → IsEntered old found new → IsHeld (walker_state old) (hold_of new [] false)
+held_entered old found new e = record { past = e.past; names = e.names; sees = e.sees; now = ap (λ (s : PassState). hold_of s [] false) e.now }
+
+-- after a hold the pass is out
+pub out_left : (old : PassState) (found : ℕ) (new : PassState) → IsLeft old found new → IsOut (walker_state new)
+out_left old found new e = record { known = e.legal; outside = subst (λ (s : PassState). is_inside s.number s.history ≡ false) (sym e.now) (rw (eqb_same old.number) refl) }
+
+pub released_left : (old : PassState) (found : ℕ) (new : PassState) (met : List ℕ) (ended : Bool) (low high : ℕ) → IsLeft old found new → IsHolding old met ended low → high ≡ found / 4294967296
+    → IsReleased (hold_of old met ended) (walker_state new) low high
+released_left old found new met ended low high e h is =
+    let few = e.sees.legal.few_passes in
+    let most = readers_most old.passes e.past in
+    let gate = e.gate in
+    record { past = e.past; names = e.names; sees = e.sees; now = ap walker_state e.now; low_is = h.low_is; high_is = omega arith }
+
+image_at-some : (n : ℕ) (h : List Entry) → n ≢ 0 → image_at n h ≡ Some (loaded n h)
+image_at-some zero h some = absurd (some refl)
+image_at-some (suc n) h some = refl
+
+-- a link was followed from the image met last
+abbrev Followed : PassState → List ℕ → ℕ → PassState → Type 0
+Followed old met found new = IsFollowed old (last_of met) found new
+
+went_on : (old : PassState) (met : List ℕ) (found : ℕ) (new : PassState) (low : ℕ) → (f : Followed old met found new) → IsHolding old met false low → IsHolding (on_with old f.past f.names (found ∷ old.given)) met false low
+went_on old met found new low f h = holding_stays old f.past f.names (found ∷ old.given) met false low f.sees (λ n t. or_right (eqb found n) (among n old.given) t) h
+
+followed_image : (old : PassState) (met : List ℕ) (found : ℕ) (new : PassState) (low : ℕ) → (f : Followed old met found new) → IsHolding old met false low
+    → follow load_number (list_after f.past) (last_met load_number 0 (images_on met f.past)) (changes f.past) ≡ image_at found f.past
+followed_image old met found new low f h =
+    let on = went_on old met found new low f h in
+    follows_last old.nodes old.passes old.number f.past met f.sees.legal.legal (λ n t. let at = on.given n t in (at.0, at.2)) ∙ ap (λ k. image_at k f.past) (sym f.link)
+
+same_met : (old : PassState) (met : List ℕ) (found : ℕ) (new : PassState) (low : ℕ) → (f : Followed old met found new) → IsHolding old met false low → images_on met f.past ≡ images_on met old.history
+same_met old met found new low f h = images_stay old.nodes old.passes old.number old.history f.past old.names f.names f.sees met (λ n t. (h.given n t).2)
+
+-- it led to the end
+pub holding_ended : (old : PassState) (met : List ℕ) (found : ℕ) (new : PassState) (low : ℕ) → Followed old met found new → IsHolding old met false low → found ≡ 0 → IsHolding new met true low
+holding_ended old met found new low f h z =
+    let on = went_on old met found new low f h in
+    let w = on.walking in
+    let none = followed_image old met found new low f h ∙ ap (λ k. image_at k f.past) z in
+    subst (λ (s : PassState). IsHolding s met true low) (sym f.now)
+    (record {
+      walking = record {
+        known = w.known;
+        short = w.short;
+        inside = w.inside;
+        meets = w.meets;
+        rises = w.rises;
+        few = w.few;
+        whole = λ _.
+            let walk : IsWholeWalk load_number (list_after f.past) (changes (before_enter old.number f.past)) (changes f.past) (images_on met f.past) = record { meets = w.meets; ends = none } in
+            (changes f.past, omega arith, walk, lawful_whole old.nodes old.passes f.past f.sees.legal.legal (changes (before_enter old.number f.past)) (changes f.past) (images_on met f.past) walk);
+      };
+      given = on.given;
+      low_is = on.low_is;
+    })
+
+pub next_ended : (old : PassState) (met : List ℕ) (found : ℕ) (new : PassState) (low : ℕ) → Followed old met found new → IsHolding old met false low → found ≡ 0 → IsNext (hold_of old met false) false (hold_of new met true)
+next_ended old met found new low f h z =
+    let same = same_met old met found new low f h in
+    let none : follow load_number (list_after f.past) (last_met load_number 0 (images_on met f.past)) (changes f.past) ≡ None = followed_image old met found new low f h ∙ ap (λ k. image_at k f.past) z in
+    record {
+      ended = λ e. not_both false e refl;
+      goes = λ _. record {
+        past = f.past;
+        names = f.names;
+        sees = f.sees;
+        walker = ap walker_state f.now;
+        met = λ m. not_both false m refl;
+        end = λ _. (
+          refl,
+          subst (λ (xs : List Image). follow load_number (list_after f.past) (last_met load_number 0 xs) (changes f.past) ≡ None) same none,
+          ap (λ (s : PassState). images_on met s.history) f.now ∙ same,
+        );
+      };
+    }
+
+-- or to one more image
+pub holding_met : (old : PassState) (met : List ℕ) (found : ℕ) (new : PassState) (low : ℕ) → Followed old met found new → IsHolding old met false low → found ≢ 0 → IsHolding new (met ++ found ∷ []) false low
+holding_met old met found new low f h some =
+    let on = went_on old met found new low f h in
+    let w = on.walking in
+    let x : Image = loaded found f.past in
+    let legal = f.sees.legal.legal in
+    let next : follow load_number (list_after f.past) (last_met load_number 0 (images_on met f.past)) (changes f.past) ≡ Some x = followed_image old met found new low f h ∙ image_at-some found f.past some in
+    let more = images_on-snoc met found f.past in
+    let rises = rises-snoc 0 (images_on met f.past) x w.rises (follow_rises old.nodes old.passes f.past legal (last_met load_number 0 (images_on met f.past)) (changes f.past) x next) in
+    let rises' : RisesAbove load_number 0 (images_on (met ++ found ∷ []) f.past) = subst (λ (xs : List Image). RisesAbove load_number 0 xs) (sym more) rises in
+    let reach : may_reach old.number found f.past ≡ true = f.reach (omega arith) in
+    let given : (n : ℕ) → among n (met ++ found ∷ []) ≡ true → (0 < n) × (among n (found ∷ old.given) ≡ true) × (may_reach old.number n f.past ≡ true) = λ n t.
+    elim (among-snoc met found n t) [
+      | inl before ↦ on.given n before
+      | inr e ↦ (omega (arith, e), or_left (eqb found n) (among n old.given) (ap (eqb found) (sym e) ∙ eqb_same found), subst (λ k. may_reach old.number k f.past ≡ true) e reach)
+    ] in
+    subst (λ (s : PassState). IsHolding s (met ++ found ∷ []) false low) (sym f.now)
+    (record {
+      walking = record {
+        known = w.known;
+        short = w.short;
+        inside = w.inside;
+        meets = subst (λ (xs : List Image). Meets load_number (list_after f.past) 0 (changes (before_enter old.number f.past)) (changes f.past) xs) (sym more)
+            (meets-snoc load_number (list_after f.past) 0 (changes (before_enter old.number f.past)) (changes f.past) (changes f.past) (images_on met f.past) x (omega arith) w.meets next);
+        rises = rises';
+        few = few_met old.nodes f.past (met ++ found ∷ []) rises' (λ n t. reach_bound old.nodes old.passes old.number n f.past legal (given n t).2);
+        whole = λ z. not_both false z refl;
+      };
+      given = given;
+      low_is = on.low_is;
+    })
+
+pub next_met : (old : PassState) (met : List ℕ) (found : ℕ) (new : PassState) (low : ℕ) → Followed old met found new → IsHolding old met false low → found ≢ 0 → IsNext (hold_of old met false) true (hold_of new (met ++ found ∷ []) false)
+next_met old met found new low f h some =
+    let same = same_met old met found new low f h in
+    let x : Image = loaded found f.past in
+    let next : follow load_number (list_after f.past) (last_met load_number 0 (images_on met f.past)) (changes f.past) ≡ Some x = followed_image old met found new low f h ∙ image_at-some found f.past some in
+    record {
+      ended = λ e. not_both false e refl;
+      goes = λ _. record {
+        past = f.past;
+        names = f.names;
+        sees = f.sees;
+        walker = ap walker_state f.now;
+        met = λ _. (
+          refl,
+          (
+            x,
+            subst (λ (xs : List Image). follow load_number (list_after f.past) (last_met load_number 0 xs) (changes f.past) ≡ Some x) same next,
+            ap (λ (s : PassState). images_on (met ++ found ∷ []) s.history) f.now ∙ images_on-snoc met found f.past ∙ ap (λ (xs : List Image). xs ++ x ∷ []) same,
+          ),
+        );
+        end = λ m. not_both true refl m;
+      };
+    }

@@ -1,0 +1,11 @@
+use Rattle.std.proofs.Common.{ap, arith}
+use Rattle.plcr_nodes.specs.Tokens.{OwnerState}
+use Rattle.plcr_imagelist.proofs.Told.{agrees_told}
+use Rattle.plcr_imagelist.proofs.books.Books.told.Goals as goal
+
+pub invariant_of-self : goal.invariant_of-self
+invariant_of-self c =
+    let b = c.self.inside in
+    let nodes = ap (λ (s : OwnerState). s.nodes) c.told.ensures.told.now in
+    let room = c.self.invariant.1 in
+    (agrees_told b.owner c.args.note c.told.new.self b.free.items b.removed.items b.images.items b.changes b.loads c.told.ensures.told c.self.invariant.0, (omega arith, omega arith, omega arith))

@@ -1,0 +1,50 @@
+use Rattle.std.proofs.Common.{◌≡◌, ◌<◌, length, ap, sym, subst, arith}
+use Rattle.plcr_macho.specs.Images.{listed_at}
+use Rattle.plcr_nodes.specs.Names.{AreBytes}
+use Rattle.plcr_nodes.specs.Tokens.{PassState}
+use Rattle.plcr_imagelist.specs.Holds.{HoldState}
+use Rattle.plcr_imagelist.specs.Walk.{images_of, IsSameWalk}
+use Rattle.plcr_imagelist.proofs.Walking.{hold_of}
+use Rattle.plcr_imagelist.proofs.Reread.{readable, length-named, holding_read, same_read, length_read, bytes_read}
+use Rattle.plcr_imagelist.proofs.hold.Hold.name_len_at.Goals as goal
+
+pub index-node-requires : goal.index-node-requires
+index-node-requires c =
+    let h = c.self.inside in
+    let met = subst (λ (s : HoldState). c.args.at < length (images_of s)) (sym c.self.view_is) c.requires.met in
+    let size = length-named h.pass.names h.met.items h.pass.history in let whole = h.met.ok.0 in omega arith
+
+pub payload-requires-clause-known : goal.payload-requires-clause-known
+payload-requires-clause-known c =
+    let h = c.self.inside in
+    let met = subst (λ (s : HoldState). c.args.at < length (images_of s)) (sym c.self.view_is) c.requires.met in
+    let size = length-named h.pass.names h.met.items h.pass.history in
+    let r = readable h.pass h.met.items h.ended h.low c.args.at c.index-node.result.now c.self.invariant.0 (omega arith) c.index-node.ensures in
+    (r.some, r.given)
+
+pub invariant_of-self : goal.invariant_of-self
+invariant_of-self c =
+    let h = c.self.inside in
+    let nodes = ap (λ (s : PassState). s.nodes) c.payload.ensures.word.now in
+    let room = c.self.invariant.1 in
+    (holding_read h.pass c.index-node.result.now 1 c.payload.result c.payload.new.self h.met.items h.ended h.low c.payload.ensures.word c.self.invariant.0, omega arith)
+
+pub returns-clause-same : goal.returns-clause-same
+returns-clause-same c =
+    let h = c.self.inside in
+    subst (λ (s : HoldState). IsSameWalk s (hold_of c.payload.new.self h.met.items h.ended)) c.self.view_is
+    (same_read h.pass c.index-node.result.now 1 c.payload.result c.payload.new.self h.met.items h.ended h.low c.payload.ensures.word c.self.invariant.0)
+
+pub returns-clause-length : goal.returns-clause-length
+returns-clause-length c =
+    let h = c.self.inside in
+    let met = subst (λ (s : HoldState). c.args.at < length (images_of s)) (sym c.self.view_is) c.requires.met in
+    let size = length-named h.pass.names h.met.items h.pass.history in
+    subst (λ (s : HoldState). c.payload.result ≡ length (listed_at (images_of s) c.args.at).name) c.self.view_is
+    (length_read h.pass c.index-node.result.now c.payload.result c.payload.new.self h.met.items c.args.at c.payload.ensures.word (omega arith) c.index-node.ensures)
+
+pub returns-clause-bytes : goal.returns-clause-bytes
+returns-clause-bytes c =
+    let h = c.self.inside in
+    subst (λ (s : HoldState). AreBytes (listed_at (images_of s) c.args.at).name) c.self.view_is
+    (bytes_read h.pass.names c.self.invariant.0.walking.short h.met.items h.pass.history c.args.at)

@@ -1,0 +1,92 @@
+use Rattle.std.proofs.Common.{◌≡◌, inl, inr, ⊎_elim, ℕ, ◌∙◌, Bool, true, false, List, [], ◌∷◌, ◌++◌, length-append, sym, ap, subst, arith}
+use Rattle.std.proofs.lemmas.Bool.{cases_eq}
+use Rattle.plcr_nodes.specs.Entries.{among}
+use Rattle.plcr_nodes.specs.Tokens.{PassState, IsFollowed}
+use Rattle.plcr_imagelist.specs.Keeping.{last_of}
+use Rattle.plcr_imagelist.specs.Holds.{HoldState, IsHolding, IsNext, IsWalking}
+use Rattle.plcr_imagelist.proofs.Walking.{among_last, hold_of, holding_ended, next_ended, holding_met, next_met, length-images_on}
+use Rattle.plcr_imagelist.proofs.hold.Hold.next.Goals as goal
+
+pub next_link-found-requires-clause-known : goal.next_link-found-requires-clause-known
+next_link-found-requires-clause-known c =
+    let h = c.self.inside in
+    let last : c.last_of-last.result ≡ last_of h.met.items = c.last_of-last.ensures ∙ ap last_of c.deref.ensures.value in
+    ⊎_elim (λ (z : c.last_of-last.result ≡ 0). inl z)
+    (λ (n : c.last_of-last.result ≡ 0 → ⊥). inr (c.self.invariant.0.given c.last_of-last.result (ap (λ k. among k h.met.items) last ∙ among_last h.met.items (λ z. n (last ∙ z)))).1)
+    (cases_eq c.last_of-last.result 0)
+
+pub invariant_of-self : goal.invariant_of-self
+invariant_of-self c =
+    let h = c.self.inside in
+    let last : c.last_of-last.result ≡ last_of h.met.items = c.last_of-last.ensures ∙ ap last_of c.deref.ensures.value in
+    let going = subst (λ e. IsHolding h.pass h.met.items e h.low) c.if-self.false c.self.invariant.0 in
+    let followed = subst (λ k. IsFollowed h.pass k c.next_link-found.result c.next_link-found.new.self) last c.next_link-found.ensures.link in
+    let nodes = ap (λ (s : PassState). s.nodes) followed.now in
+    let room = c.self.invariant.1 in
+    (holding_ended h.pass h.met.items c.next_link-found.result c.next_link-found.new.self h.low followed going c.if-found-eq0.true, omega arith)
+
+pub returns-then-found-eq0-clause-next : goal.returns-then-found-eq0-clause-next
+returns-then-found-eq0-clause-next c =
+    let h = c.self.inside in
+    let last : c.last_of-last.result ≡ last_of h.met.items = c.last_of-last.ensures ∙ ap last_of c.deref.ensures.value in
+    let going = subst (λ e. IsHolding h.pass h.met.items e h.low) c.if-self.false c.self.invariant.0 in
+    let followed = subst (λ k. IsFollowed h.pass k c.next_link-found.result c.next_link-found.new.self) last c.next_link-found.ensures.link in
+    subst (λ (s : HoldState). IsNext s false (hold_of c.next_link-found.new.self h.met.items true)) (ap (hold_of h.pass h.met.items) (sym c.if-self.false) ∙ c.self.view_is)
+    (next_ended h.pass h.met.items c.next_link-found.result c.next_link-found.new.self h.low followed going c.if-found-eq0.true)
+
+pub returns-then-found-eq0-clause-walking : goal.returns-then-found-eq0-clause-walking
+returns-then-found-eq0-clause-walking c =
+    let h = c.self.inside in
+    let last : c.last_of-last.result ≡ last_of h.met.items = c.last_of-last.ensures ∙ ap last_of c.deref.ensures.value in
+    let going = subst (λ e. IsHolding h.pass h.met.items e h.low) c.if-self.false c.self.invariant.0 in
+    let followed = subst (λ k. IsFollowed h.pass k c.next_link-found.result c.next_link-found.new.self) last c.next_link-found.ensures.link in
+    (holding_ended h.pass h.met.items c.next_link-found.result c.next_link-found.new.self h.low followed going c.if-found-eq0.true).walking
+
+pub push_reserved-requires : goal.push_reserved-requires
+push_reserved-requires c =
+    let h = c.self.inside in
+    let last : c.last_of-last.result ≡ last_of h.met.items = c.last_of-last.ensures ∙ ap last_of c.deref.ensures.value in
+    let going = subst (λ e. IsHolding h.pass h.met.items e h.low) c.if-self.false c.self.invariant.0 in
+    let followed = subst (λ k. IsFollowed h.pass k c.next_link-found.result c.next_link-found.new.self) last c.next_link-found.ensures.link in
+    let nodes = ap (λ (s : PassState). s.nodes) followed.now in
+    let room = c.self.invariant.1 in
+    let found : ℕ = c.next_link-found.result in
+    let few = (holding_met h.pass h.met.items found c.next_link-found.new.self h.low followed going c.if-found-eq0.false).walking.few in
+    let size = length-images_on (h.met.items ++ found ∷ []) c.next_link-found.new.self.history in
+    let longer = length-append h.met.items (found ∷ []) in
+    let whole = h.met.ok.0 in omega arith
+
+pub invariant_of-self-2 : goal.invariant_of-self-2
+invariant_of-self-2 c =
+    let h = c.self.inside in
+    let last : c.last_of-last.result ≡ last_of h.met.items = c.last_of-last.ensures ∙ ap last_of c.deref.ensures.value in
+    let going = subst (λ e. IsHolding h.pass h.met.items e h.low) c.if-self.false c.self.invariant.0 in
+    let followed = subst (λ k. IsFollowed h.pass k c.next_link-found.result c.next_link-found.new.self) last c.next_link-found.ensures.link in
+    let nodes = ap (λ (s : PassState). s.nodes) followed.now in
+    let room = c.self.invariant.1 in let pushed = c.push_reserved.ensures.capacity in (
+      subst (λ e. IsHolding c.next_link-found.new.self c.push_reserved.new.self.items e h.low) (sym c.if-self.false)
+          (subst (λ (xs : List ℕ). IsHolding c.next_link-found.new.self xs false h.low) (sym c.push_reserved.ensures.items)
+          (holding_met h.pass h.met.items c.next_link-found.result c.next_link-found.new.self h.low followed going c.if-found-eq0.false)),
+      omega arith,
+    )
+
+pub returns-clause-next : goal.returns-clause-next
+returns-clause-next c =
+    let h = c.self.inside in
+    let last : c.last_of-last.result ≡ last_of h.met.items = c.last_of-last.ensures ∙ ap last_of c.deref.ensures.value in
+    let going = subst (λ e. IsHolding h.pass h.met.items e h.low) c.if-self.false c.self.invariant.0 in
+    let followed = subst (λ k. IsFollowed h.pass k c.next_link-found.result c.next_link-found.new.self) last c.next_link-found.ensures.link in
+    subst (λ (e : Bool). IsNext c.args.self.now true (hold_of c.next_link-found.new.self c.push_reserved.new.self.items e)) (sym c.if-self.false)
+    (subst (λ (xs : List ℕ). IsNext c.args.self.now true (hold_of c.next_link-found.new.self xs false)) (sym c.push_reserved.ensures.items)
+    (subst (λ (s : HoldState). IsNext s true (hold_of c.next_link-found.new.self (h.met.items ++ c.next_link-found.result ∷ []) false)) (ap (hold_of h.pass h.met.items) (sym c.if-self.false) ∙ c.self.view_is)
+    (next_met h.pass h.met.items c.next_link-found.result c.next_link-found.new.self h.low followed going c.if-found-eq0.false)))
+
+pub returns-clause-walking : goal.returns-clause-walking
+returns-clause-walking c =
+    let h = c.self.inside in
+    let last : c.last_of-last.result ≡ last_of h.met.items = c.last_of-last.ensures ∙ ap last_of c.deref.ensures.value in
+    let going = subst (λ e. IsHolding h.pass h.met.items e h.low) c.if-self.false c.self.invariant.0 in
+    let followed = subst (λ k. IsFollowed h.pass k c.next_link-found.result c.next_link-found.new.self) last c.next_link-found.ensures.link in
+    subst (λ (e : Bool). IsWalking (hold_of c.next_link-found.new.self c.push_reserved.new.self.items e)) (sym c.if-self.false)
+    (subst (λ (xs : List ℕ). IsWalking (hold_of c.next_link-found.new.self xs false)) (sym c.push_reserved.ensures.items)
+    (holding_met h.pass h.met.items c.next_link-found.result c.next_link-found.new.self h.low followed going c.if-found-eq0.false).walking)

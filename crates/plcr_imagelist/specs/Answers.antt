@@ -1,0 +1,71 @@
+-- What the writer and a change answer: an open change, the writer again, or why a change was refused.
+use Rattle.std.specs.Prelude.{◌≡◌, ◌≢◌, ℕ, suc, ◌<◌, ◌≤◌, List, Option, Some, None, Result, Ok, Err}
+use Rattle.atomic_table.specs.Seated.{TableId}
+use Rattle.plcr_machine.specs.declared.image.Image.{Image}
+use Rattle.plcr_machine.specs.declared.entry.Entry.{Entry}
+use Rattle.plcr_imagelist.specs.declared.refusals.LoadRefused.{LoadRefused}
+use Rattle.plcr_imagelist.specs.declared.refusals.UnloadRefused.{UnloadRefused}
+use Rattle.plcr_imagelist.specs.declared.refusals.UnloadRefused.TheVariants.{NotLoaded}
+use Rattle.plcr_imagelist.specs.declared.change.Progress.{Progress}
+use Rattle.plcr_imagelist.specs.declared.change.Progress.TheVariants.{More, Done}
+use Rattle.plcr_imagelist.specs.Refusing.{RefusesFull}
+use Rattle.plcr_imagelist.specs.States.{WriterState, Unloads, change_step, steps_of, ChangeState}
+use Rattle.plcr_imagelist.specs.Making.{IsAtRest}
+use Rattle.plcr_imagelist.specs.Changes.{IsCountedAt, IsChangedAt, IsBegunLoad}
+
+-- a load began, or no node was free
+abbrev pub BeginsLoad : WriterState → ℕ → List ℕ → Result ChangeState (WriterState × LoadRefused) → Type 0
+BeginsLoad old header name (Ok change) = IsBegunLoad old header name change
+BeginsLoad old header name (Err r) = RefusesFull old r.0 r.1
+
+-- an unload that was begun
+abbrev pub begun_unload : WriterState → Image → ChangeState
+begun_unload s image = record { writer = s; doing = Unloads image; load = image.load; made = 0 }
+
+-- the first image with the header is to go, if there is one
+abbrev pub begins_unload : WriterState → Option Image → Result ChangeState (WriterState × UnloadRefused)
+begins_unload old None = Err (old, NotLoaded)
+begins_unload old (Some image) = Ok (begun_unload old image)
+
+-- one more step was made: the change itself, or a store in the node that it takes, of which nobody else learns
+pub record Advances (old new : ChangeState) : Type 0 where
+  pub doing : new.doing ≡ old.doing
+  pub load : new.load ≡ old.load
+  pub made : new.made ≡ suc old.made
+  pub before : new.made ≢ change_step old.doing → new.writer ≡ old.writer
+  pub change : new.made ≡ change_step old.doing → IsChangedAt old.writer old.doing old.load new.writer
+
+-- what a step says: the last one counts the change
+abbrev pub IsStepped : ChangeState → Progress → Type 0
+IsStepped old (More new) = (suc old.made < steps_of old.doing) × Advances old new
+IsStepped old (Done writer) = (suc old.made ≡ steps_of old.doing) × IsCountedAt old.writer writer × IsAtRest writer
+
+-- a change that came this far: the change itself is still to be made, or it was
+pub record HasCome (start now : ChangeState) : Type 0 where
+  pub table : now.writer.table ≡ start.writer.table
+  pub doing : now.doing ≡ start.doing
+  pub load : now.load ≡ start.load
+  pub most : now.made ≤ change_step start.doing
+  pub before : now.made < change_step start.doing → now.writer ≡ start.writer
+  pub after : now.made ≡ change_step start.doing → IsChangedAt start.writer start.doing start.load now.writer
+
+-- all steps were made: the change itself, and then the count
+pub record IsFinished (start : ChangeState) (writer : WriterState) : Type 0 where
+  pub changed : WriterState
+  pub change : IsChangedAt start.writer start.doing start.load changed
+  pub count : IsCountedAt changed writer
+  pub rest : IsAtRest writer
+
+-- a change of this list of which no step is made yet
+abbrev pub IsOpen : TableId → ChangeState → Type 0
+IsOpen table change = (change.writer.table ≡ table) × (change.made ≡ 0)
+
+-- the list of what is left after a step
+abbrev pub table_of : Progress → TableId
+table_of (More change) = change.writer.table
+table_of (Done writer) = writer.table
+
+-- and the history that it has seen
+abbrev pub history_of : Progress → List Entry
+history_of (More change) = change.writer.history
+history_of (Done writer) = writer.history

@@ -1,0 +1,70 @@
+-- What each call of the writer and of a change says.
+use Rattle.std.specs.Prelude.{◌≡◌, ◌⊎◌, ℕ, suc, ◌<◌, ◌≤◌, true, List, ◌∷◌}
+use Rattle.plcr_machine.specs.declared.image.Image.{Image}
+use Rattle.plcr_machine.specs.declared.entry.Entry.{Entry}
+use Rattle.plcr_machine.specs.declared.entry.Entry.TheVariants.{Load, Unload, Count, Look}
+use Rattle.plcr_machine.specs.Lists.{loads, changes}
+use Rattle.plcr_machine.specs.Nodes.{is_free}
+use Rattle.plcr_machine.specs.Passes.{readers}
+use Rattle.plcr_nodes.specs.Seeing.{GoesOn}
+use Rattle.plcr_nodes.specs.Rule.{gate_of}
+use Rattle.plcr_imagelist.specs.Keeping.{NoneFree}
+use Rattle.plcr_imagelist.specs.States.{WriterState, Doing, Loads, Unloads, ChangeState}
+
+-- the writer saw more of the history, none of it an entry of a writer or of a pass that it had met
+abbrev pub WriterSeesMore : WriterState → List Entry → List (List ℕ) → Type 0
+WriterSeesMore old past names = GoesOn old.nodes old.passes true old.joined old.history old.names past names
+
+-- the gate was looked at
+pub record IsLookedAt (old : WriterState) (found : ℕ) (new : WriterState) : Type 0 where
+  pub past : List Entry
+  pub names : List (List ℕ)
+  pub sees : WriterSeesMore old past names
+  pub now : new ≡ record old { history = Look (readers old.passes past) ∷ past; names = names }
+  pub gate : found ≡ gate_of old.passes past
+
+-- the change was counted
+pub record IsCountedAt (old : WriterState) (new : WriterState) : Type 0 where
+  pub past : List Entry
+  pub names : List (List ℕ)
+  pub sees : WriterSeesMore old past names
+  pub now : new ≡ record old { history = Count (readers old.passes past) ∷ past; names = names }
+
+-- an image with this name stands at the end of the list: the change of a load
+pub record IsLoadedAt (old : WriterState) (header : ℕ) (name : List ℕ) (load : ℕ) (new : WriterState) : Type 0 where
+  pub past : List Entry
+  pub names : List (List ℕ)
+  pub sees : WriterSeesMore old past names
+  pub node : ℕ
+  pub number : load ≡ suc (loads past)
+  pub now : new ≡ record old { history = Load node load header ∷ past; names = name ∷ names }
+
+-- the image was taken out of the list: the change of an unload
+pub record IsUnloadedAt (old : WriterState) (image : Image) (new : WriterState) : Type 0 where
+  pub past : List Entry
+  pub names : List (List ℕ)
+  pub sees : WriterSeesMore old past names
+  pub now : new ≡ record old { history = Unload image.node ∷ past; names = names }
+
+-- the change itself was made
+abbrev pub IsChangedAt : WriterState → Doing → ℕ → WriterState → Type 0
+IsChangedAt old (Loads header name) load new = IsLoadedAt old header name load new
+IsChangedAt old (Unloads image) load new = IsUnloadedAt old image new
+
+-- a node is free
+abbrev pub SomeFree : WriterState → Type 0
+SomeFree s = (n : ℕ) × (0 < n) × (n ≤ s.nodes) × (is_free n s.history ≡ true)
+
+-- as many changes were made as a list takes
+abbrev pub IsWorn : WriterState → Type 0
+IsWorn s = changes s.history ≡ 4294967295
+
+-- a load that was begun
+abbrev pub begun_load : WriterState → ℕ → List ℕ → ChangeState
+begun_load s header name = record { writer = s; doing = Loads header name; load = suc (loads s.history); made = 0 }
+
+-- a load began: where a node was free at once, or else after one look at the gate
+abbrev pub IsBegunLoad : WriterState → ℕ → List ℕ → ChangeState → Type 0
+IsBegunLoad old header name change =
+    (SomeFree old × (change ≡ begun_load old header name))
+    ⊎ (NoneFree old.nodes old.history × ((found : ℕ) × IsLookedAt old found change.writer) × SomeFree change.writer × (change ≡ begun_load change.writer header name))

@@ -1,0 +1,12 @@
+pub mod States
+pub mod Keeping
+pub mod Changes
+pub mod Refusing
+pub mod Making
+pub mod Answers
+pub mod Loading
+pub mod Holds
+pub mod Opening
+pub mod Tellings
+pub mod Walk
+pub mod SameWalk

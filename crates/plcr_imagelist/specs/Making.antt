@@ -1,0 +1,57 @@
+-- What the writer and a change keep between two steps.
+use Rattle.std.specs.Prelude.{◌≡◌, ◌≢◌, ℕ, suc, ◌+◌, ◌<◌, ◌≤◌, false, List, length, slice_index, slice_index_or, Some, nat_lt, ◌==◌, if◌then◌else◌}
+use Rattle.plcr_machine.specs.Lists.{live, loads}
+use Rattle.plcr_machine.specs.Passes.{counts, owes_count, IsPaced}
+use Rattle.plcr_machine.specs.Histories.{IsHistory}
+use Rattle.plcr_nodes.specs.declared.view.Store.{Store}
+use Rattle.plcr_nodes.specs.Names.{words_of, payload_word, stored}
+use Rattle.plcr_imagelist.specs.declared.change.Task.{Task}
+use Rattle.plcr_imagelist.specs.declared.change.Task.TheVariants.{Load, Unload}
+use Rattle.plcr_imagelist.specs.Keeping.{BooksState}
+use Rattle.plcr_imagelist.specs.Changes.{IsChangedAt}
+use Rattle.plcr_imagelist.specs.States.{WriterState, writer_state, Doing, Loads, Unloads, change_step}
+
+-- no change is open: each one was counted
+pub record IsAtRest (s : WriterState) : Type 0 where
+  pub known : IsHistory s.nodes s.passes s.history s.names
+  pub paced : IsPaced s.history
+  pub counted : owes_count s.history ≡ false
+
+-- what a change does, with the name that it keeps
+abbrev pub doing_of : Task → List ℕ → Doing
+doing_of (Load header) name = Loads header name
+doing_of (Unload at image) name = Unloads image
+
+-- the word of the node that a step of a load stores: first the payload, then the link
+abbrev pub word_stored : List ℕ → ℕ → ℕ
+word_stored name made = if nat_lt made (2 + words_of (length name)) then made + 1 else 0
+
+-- and what it stores there
+abbrev pub value_stored : ℕ → List ℕ → ℕ → ℕ
+value_stored header name made = if nat_lt made (2 + words_of (length name)) then payload_word header name made else 0
+
+-- so many steps of a load were made
+abbrev pub AreStored : ℕ → ℕ → List ℕ → ℕ → List Store → Type 0
+AreStored node header name made stores = (k : ℕ) → k < made → stored node (word_stored name k) stores ≡ Some (value_stored header name k)
+
+-- the change itself is still to be made
+abbrev pub IsReady : BooksState → Task → List ℕ → ℕ → ℕ → Type 0
+IsReady b (Load header) name load made = (b.spare ≢ 0) × (load ≡ suc (loads b.owner.history)) × AreStored b.spare header name made b.owner.filled
+IsReady b (Unload at image) name load made = (at < length (live b.owner.history)) × (image ≡ slice_index_or (live b.owner.history) at image)
+
+-- a change between two of its steps
+pub record IsMaking (b : BooksState) (task : Task) (name : List ℕ) (load made : ℕ) : Type 0 where
+  pub known : IsHistory b.owner.nodes b.owner.passes b.owner.history b.owner.names
+  pub paced : IsPaced b.owner.history
+  pub short : length name ≤ 1024
+  pub bytes : (i : ℕ) → slice_index name i < 256
+  pub most : made ≤ change_step (doing_of task name)
+  pub fewer : counts b.owner.history < 4294967295
+  pub owes : owes_count b.owner.history ≡ (made == change_step (doing_of task name))
+  pub ready : made < change_step (doing_of task name) → IsReady b task name load made
+
+-- one more step was made, before the count
+pub record MakesStep (old new : BooksState) (task : Task) (name : List ℕ) (load made : ℕ) : Type 0 where
+  pub making : IsMaking new task name load (made + 1)
+  pub before : suc made ≢ change_step (doing_of task name) → writer_state new.owner ≡ writer_state old.owner
+  pub change : suc made ≡ change_step (doing_of task name) → IsChangedAt (writer_state old.owner) (doing_of task name) load (writer_state new.owner)

@@ -1,0 +1,21 @@
+-- What the tokens of a list that was just opened know.
+use Rattle.std.specs.Prelude.{◌≡◌, ℕ, zero, suc, List, [], ◌∷◌, ◌++◌}
+use Rattle.atomic_table.specs.Seated.{TableId}
+use Rattle.plcr_imagelist.specs.States.{WriterState}
+use Rattle.plcr_imagelist.specs.Holds.{WalkerState}
+
+abbrev pub opened_writer : TableId → ℕ → ℕ → WriterState
+opened_writer table nodes passes = record { table = table; nodes = nodes; passes = passes; history = []; names = []; joined = [] }
+
+abbrev pub opened_walker : TableId → ℕ → ℕ → ℕ → WalkerState
+opened_walker table nodes passes number = record { table = table; nodes = nodes; passes = passes; number = number; history = []; names = [] }
+
+-- the first passes, with the numbers from 0 on
+abbrev pub opened_walkers : TableId → ℕ → ℕ → ℕ → List WalkerState
+opened_walkers table nodes passes zero = []
+opened_walkers table nodes passes (suc count) = opened_walkers table nodes passes count ++ opened_walker table nodes passes count ∷ []
+
+-- the list is empty and nothing has happened yet
+pub record IsOpenedList (nodes passes : ℕ) (table : TableId) (writer : WriterState) (all : List WalkerState) : Type 0 where
+  pub writing : writer ≡ opened_writer table nodes passes
+  pub numbered : all ≡ opened_walkers table nodes passes passes

@@ -1,0 +1,40 @@
+-- What contracts see of the writer and of a change.
+use Rattle.std.specs.Prelude.{ℕ, suc, ◌+◌, List, length}
+use Rattle.atomic_table.specs.Seated.{TableId}
+use Rattle.plcr_machine.specs.declared.entry.Entry.{Entry}
+use Rattle.plcr_machine.specs.declared.image.Image.{Image}
+use Rattle.plcr_nodes.specs.Names.{words_of}
+use Rattle.plcr_nodes.specs.Tokens.{OwnerState}
+
+-- what the writer knows: its list with its sizes, the history that it has seen with the names of its loads, and the numbers of the passes that it has met
+pub record WriterState : Type 0 where
+  pub table : TableId
+  pub nodes : ℕ
+  pub passes : ℕ
+  pub history : List Entry
+  pub names : List (List ℕ)
+  pub joined : List ℕ
+
+abbrev pub writer_state : OwnerState → WriterState
+writer_state o = record { table = o.table; nodes = o.nodes; passes = o.passes; history = o.history; names = o.names; joined = o.joined }
+
+-- what a change does: it loads an image with a header and a name, or unloads an image of the list
+pub data Doing : Type 0 where
+  Loads : (header : ℕ) (name : List ℕ) → Doing
+  Unloads : (image : Image) → Doing
+
+-- the step that makes the change: of a load after its words and the end link, of an unload the first
+abbrev pub change_step : Doing → ℕ
+change_step (Loads header name) = 4 + words_of (length name)
+change_step (Unloads image) = 1
+
+-- how many steps it takes in all: after the change itself comes the count
+abbrev pub steps_of : Doing → ℕ
+steps_of doing = suc (change_step doing)
+
+-- a change that was begun: what its writer knows, what it does, the number of its image's load, and how many steps were made
+pub record ChangeState : Type 0 where
+  pub writer : WriterState
+  pub doing : Doing
+  pub load : ℕ
+  pub made : ℕ

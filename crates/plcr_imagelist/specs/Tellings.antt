@@ -1,0 +1,54 @@
+-- Notes and tellings: what one token of a list has seen, and what another learns of it.
+use Rattle.std.specs.Prelude.{◌≡◌, ℕ, false, List, [], ◌∷◌}
+use Rattle.plcr_machine.specs.declared.entry.Entry.{Entry}
+use Rattle.plcr_machine.specs.Lists.{Grows}
+use Rattle.plcr_nodes.specs.Entries.{WentOn}
+use Rattle.plcr_nodes.specs.Seeing.{AddsOthers}
+use Rattle.plcr_nodes.specs.Tokens.{NoteState}
+use Rattle.plcr_imagelist.specs.States.{WriterState, ChangeState}
+use Rattle.plcr_imagelist.specs.Changes.{WriterSeesMore}
+use Rattle.plcr_imagelist.specs.Holds.{WalkerState, HoldState, WalkerSeesMore}
+
+-- what a token has seen, as a note
+abbrev pub note_of_writer : WriterState → NoteState
+note_of_writer s = record { table = s.table; history = s.history; names = s.names }
+
+abbrev pub note_of_walker : WalkerState → NoteState
+note_of_walker s = record { table = s.table; history = s.history; names = s.names }
+
+-- the writer was told what the note's token had seen: both had seen a beginning of what it has seen now
+pub record IsWriterTold (old : WriterState) (note : NoteState) (new : WriterState) : Type 0 where
+  pub past : List Entry
+  pub names : List (List ℕ)
+  pub sees : WriterSeesMore old past names
+  pub now : new ≡ record old { history = past; names = names }
+  pub told : Grows note.history past
+  pub named : WentOn note.names names
+
+-- a pass was told likewise
+pub record IsWalkerTold (old : WalkerState) (note : NoteState) (new : WalkerState) : Type 0 where
+  pub past : List Entry
+  pub names : List (List ℕ)
+  pub sees : WalkerSeesMore old past names
+  pub now : new ≡ record old { history = past; names = names }
+  pub told : Grows note.history past
+  pub named : WentOn note.names names
+
+-- and so was the writer that a change has, whose steps stay as they were
+pub record IsChangeTold (old : ChangeState) (note : NoteState) (new : ChangeState) : Type 0 where
+  pub writer : IsWriterTold old.writer note new.writer
+  pub same : new ≡ record old { writer = new.writer }
+
+-- and the pass of a hold, whose walk stays as it was
+pub record IsHoldTold (old : HoldState) (note : NoteState) (new : HoldState) : Type 0 where
+  pub walker : IsWalkerTold old.walker note new.walker
+  pub same : new ≡ record old { walker = new.walker }
+
+-- the writer met the pass for good: both had seen a beginning of what the writer has seen now, which has of the pass just the entries that the pass had seen
+pub record IsMet (old : WriterState) (pass : WalkerState) (new : WriterState) : Type 0 where
+  pub past : List Entry
+  pub names : List (List ℕ)
+  pub sees : WriterSeesMore old past names
+  pub now : new ≡ record old { history = past; names = names; joined = pass.number ∷ old.joined }
+  pub met : AddsOthers false (pass.number ∷ []) pass.history past
+  pub named : WentOn pass.names names

@@ -1,0 +1,220 @@
+//! A change that was begun, and its steps. Between any two of them it may be kept as long as its owner likes.
+ghost use Rattle.std.specs.Prelude.{◌≡◌, ◌≢◌, ℕ, suc, ◌+◌, ◌<◌, ◌≤◌, ◌∷◌, false, true, length, slice_index_or};
+ghost use Rattle.plcr_machine.specs.Passes.{IsPaced};
+ghost use Rattle.plcr_nodes.specs.Names.{words_of};
+ghost use Rattle.plcr_nodes.specs.Plays.{store};
+ghost use Rattle.plcr_imagelist.specs.States.{Loads, change_step, steps_of};
+ghost use Rattle.plcr_imagelist.specs.Changes.{IsCountedAt};
+ghost use Rattle.plcr_imagelist.specs.Making.{word_stored, value_stored, doing_of, IsMaking, MakesStep, IsAtRest};
+ghost use Rattle.plcr_imagelist.specs.Answers.{IsStepped, Advances, IsFinished, table_of, history_of};
+
+use crate::books::Books;
+use crate::list::ImageList;
+use crate::words::{payload, words_of};
+use crate::writer::Writer;
+use plcr_machine::Image;
+use plcr_nodes::Nodes;
+use std::marker::Model;
+
+/// What a change does.
+#[derive(Clone, Copy)]
+pub enum Task {
+    /// Loads an image with this header.
+    Load { header: u64 },
+    /// Unloads the image at this place of the list.
+    Unload { at: usize, image: Image },
+}
+
+/// A load or an unload that was begun. It has the writer until its last step.
+#[derive(Drop)]
+pub struct Change {
+    pub(crate) books: Books,
+    pub(crate) name: Vec<u8>,
+    pub(crate) task: Task,
+    pub(crate) load: u32,
+    pub(crate) made: u32,
+}
+
+impl Model for Change {
+    ghost use Rattle.std.specs.Prelude.{◌≤◌, vec_capacity};
+    ghost use Rattle.plcr_imagelist.specs.States.{ChangeState, writer_state};
+
+    ghost Value = { ChangeState };
+
+    ghost use Rattle.plcr_imagelist.specs.Making.{IsMaking, doing_of};
+
+    ghost view = { λ c. record { writer = writer_state c.books.owner; doing = doing_of c.task c.name.items; load = c.load; made = c.made } };
+
+    ghost invariant = { λ c. IsMaking c.books c.task c.name.items c.load c.made × (1024 ≤ vec_capacity c.name) };
+}
+
+/// What is left after a step: the change, or the writer after the last one.
+#[derive(Drop)]
+pub enum Progress {
+    More(Change),
+    Done(Writer),
+}
+
+// The number of the step that makes the change itself.
+fn change_step(task: &Task, name: &[u8]) -> u32
+    requires { length name.now ≤ 1024 }
+    ensures { result ≡ change_step (doing_of task.now name.now) }
+{
+    match task {
+        Task::Load { .. } => 4 + words_of(name.len()) as u32,
+        Task::Unload { .. } => 1,
+    }
+}
+
+// One of the first steps of a load: stores a word of the image, or the end as its node's link.
+fn store_word(books: &mut Books, nodes: &Nodes, header: u64, name: &[u8], made: usize)
+    requires table { books.old.owner.table ≡ nodes.now }
+    requires some { books.old.spare ≢ 0 }
+    requires short { length name.now ≤ 1024 }
+    requires early { made < 3 + words_of (length name.now) }
+    ensures { books.new ≡ record books.old { owner = record books.old.owner { filled = store books.old.spare (word_stored name.now made) (value_stored header name.now made) ∷ books.old.owner.filled } } }
+{
+    if made < 2 + words_of(name.len()) {
+        let value = payload(header, name, made);
+        books.fill(nodes, made as u32, value);
+    } else {
+        books.end_link(nodes);
+    }
+}
+
+// Any step of a load but the count.
+fn load_step(books: &mut Books, nodes: &Nodes, header: u64, name: &[u8], load: u32, made: u32)
+    requires table { books.old.owner.table ≡ nodes.now }
+    requires making { IsMaking books.old (Task.Load header) name.now load made }
+    requires early { made < change_step (Loads header name.now) }
+    ensures { MakesStep books.old books.new (Task.Load header) name.now load made }
+{
+    if (made as usize) < 3 + words_of(name.len()) {
+        store_word(books, nodes, header, name, made as usize);
+    } else {
+        books.link(nodes, header);
+    }
+}
+
+// The step of an unload before the count.
+fn unload_step(
+    books: &mut Books,
+    nodes: &Nodes,
+    at: usize,
+    image: Image,
+    name: &[u8],
+    load: u32,
+    made: u32,
+)
+    requires table { books.old.owner.table ≡ nodes.now }
+    requires making { IsMaking books.old (Task.Unload at image) name.now load made }
+    requires early { made < 1 }
+    ensures { MakesStep books.old books.new (Task.Unload at image) name.now load made }
+{
+    books.unlink(nodes, at, image);
+}
+
+// Any step of a change but the count.
+fn make_step(books: &mut Books, nodes: &Nodes, task: Task, name: &[u8], load: u32, made: u32)
+    requires table { books.old.owner.table ≡ nodes.now }
+    requires making { IsMaking books.old task name.now load made }
+    requires early { made < change_step (doing_of task name.now) }
+    ensures { MakesStep books.old books.new task name.now load made }
+{
+    match task {
+        Task::Load { header } => load_step(books, nodes, header, name, load, made),
+        Task::Unload { at, image } => unload_step(books, nodes, at, image, name, load, made),
+    }
+}
+
+impl Change {
+    /// How many steps the change takes in all. A load whose name has n bytes takes (n + 7) / 8 + 5, an unload 2.
+    pub fn steps(&self) -> u32
+        ensures { result ≡ steps_of self.now.doing }
+    {
+        change_step(&self.task, &self.name) + 1
+    }
+
+    /// How many steps were made.
+    pub fn made(&self) -> u32
+        ensures { result ≡ self.now.made }
+    {
+        self.made
+    }
+
+    /// The number of the load of its image.
+    pub fn load(&self) -> u32
+        ensures { result ≡ self.now.load }
+    {
+        self.load
+    }
+
+    /// Makes one step. The last gives the writer back.
+    pub fn step(self, list: &ImageList) -> Progress
+        requires table { self.writer.table ≡ list.now }
+        ensures step { IsStepped self result }
+        ensures list { table_of result ≡ self.writer.table }
+        ensures paced { IsPaced (history_of result) }
+    {
+        if self.made == change_step(&self.task, &self.name) {
+            Progress::Done(self.count(list))
+        } else {
+            Progress::More(self.advance(list))
+        }
+    }
+
+    /// Makes all its steps.
+    pub(crate) fn finish(self, list: &ImageList) -> Writer
+        requires table { self.writer.table ≡ list.now }
+        requires begun { self.made ≡ 0 }
+        ensures finished { IsFinished self result }
+        ensures list { result.table ≡ self.writer.table }
+    {
+        let mut change = self;
+        loop {
+            match change.step(list) {
+                Progress::More(next) => change = next,
+                Progress::Done(writer) => return writer,
+            }
+        }
+    }
+
+    // The last step, which counts the change.
+    fn count(self, list: &ImageList) -> Writer
+        requires table { self.writer.table ≡ list.now }
+        requires last { self.made ≡ change_step self.doing }
+        ensures counted { IsCountedAt self.writer result }
+        ensures rest { IsAtRest result }
+        ensures list { result.table ≡ self.writer.table }
+    {
+        let Change {
+            mut books,
+            name,
+            task: _,
+            load: _,
+            made: _,
+        } = self;
+        books.count(&list.nodes);
+        Writer { books, name }
+    }
+
+    // Any step before that.
+    fn advance(mut self, list: &ImageList) -> Change
+        requires table { self.writer.table ≡ list.now }
+        requires early { self.made < change_step self.doing }
+        ensures step { Advances self result }
+        ensures list { result.writer.table ≡ self.writer.table }
+        ensures paced { IsPaced result.writer.history }
+    {
+        make_step(
+            &mut self.books,
+            &list.nodes,
+            self.task,
+            &self.name,
+            self.load,
+            self.made,
+        );
+        self.made += 1;
+        self
+    }
+}

@@ -1,0 +1,26 @@
+//! The list of loaded images. One writer loads and unloads, a step at a time and without waiting, while passes walk the
+//! list from other threads. `docs/image-list.md` has the picture.
+#![tactic(auto)]
+
+mod books;
+mod change;
+mod gate;
+mod hold;
+mod list;
+mod refusals;
+#[cfg(test)]
+mod stress_tests;
+mod telling;
+#[cfg(test)]
+mod tests;
+mod walk;
+mod words;
+mod writer;
+
+pub use change::{Change, Progress};
+pub use hold::{Hold, Pass, Window};
+pub use list::{ImageList, OpenError};
+pub use refusals::{LoadRefused, UnloadRefused};
+pub use telling::Note;
+pub use walk::Walk;
+pub use writer::Writer;

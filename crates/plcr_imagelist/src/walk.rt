@@ -1,0 +1,105 @@
+//! The images that a hold has met, as a list.
+ghost use Rattle.std.specs.Prelude.{◌≡◌, ◌*◌, ◌<◌, ◌≤◌, length, All};
+ghost use Rattle.plcr_base.specs.Numbers.{u64_in};
+ghost use Rattle.plcr_macho.specs.Images.{listed_at};
+ghost use Rattle.plcr_nodes.specs.Names.{AreBytes};
+ghost use Rattle.plcr_imagelist.specs.Walk.{images_of, IsSameWalk};
+
+use crate::hold::Hold;
+use crate::list::ImageList;
+use plcr_macho::Images;
+
+/// The images that a hold has met so far. Each is read from the list's words at each call, also after it was unloaded.
+#[derive(Drop)]
+pub struct Walk<'a> {
+    hold: &'a mut Hold,
+    list: &'a ImageList,
+    ghost on_list: { hold.now.walker.table ≡ list.now },
+}
+
+impl Hold {
+    /// The images met so far, as a list. As the walk ends, the hold is as the walk's last value has it.
+    pub fn images<'a>(&'a mut self, list: &'a ImageList) -> Walk<'a>
+        requires { self.old.walker.table ≡ list.now }
+        ensures same_reference { result.hold.ghost_name ≡ self.entry.ghost_name }
+        ensures hold { result.hold.now ≡ self.old }
+        ensures list { result.list.now ≡ list.now }
+        ensures short { All (λ image. length image.name ≤ 1024) (images_of self.old) }
+    {
+        let _ = &self.met;
+        Walk { hold: self, list }
+    }
+
+    // How many images were met.
+    fn count(&self) -> usize
+        ensures { result ≡ length (images_of self.now) }
+    {
+        self.met.len()
+    }
+
+    // The header of an image that was met.
+    fn header_at(&mut self, list: &ImageList, at: usize) -> u64
+        requires list { self.old.walker.table ≡ list.now }
+        requires met { at < length (images_of self.old) }
+        ensures header { result ≡ (listed_at (images_of self.old) at).header }
+        ensures same { IsSameWalk self.old self.new }
+    {
+        let node = self.met[at];
+        self.pass.payload(&list.nodes, node, 0)
+    }
+
+    // The length of its name.
+    fn name_len_at(&mut self, list: &ImageList, at: usize) -> usize
+        requires list { self.old.walker.table ≡ list.now }
+        requires met { at < length (images_of self.old) }
+        ensures length { result ≡ length (listed_at (images_of self.old) at).name }
+        ensures bytes { AreBytes (listed_at (images_of self.old) at).name }
+        ensures same { IsSameWalk self.old self.new }
+    {
+        let node = self.met[at];
+        self.pass.payload(&list.nodes, node, 1) as usize
+    }
+
+    // A word of its name.
+    fn name_word_at(&mut self, list: &ImageList, at: usize, word: usize) -> u64
+        requires list { self.old.walker.table ≡ list.now }
+        requires met { at < length (images_of self.old) }
+        requires word { 8 * word < length (listed_at (images_of self.old) at).name }
+        ensures word { result ≡ u64_in (listed_at (images_of self.old) at).name (8 * word) }
+        ensures same { IsSameWalk self.old self.new }
+    {
+        let node = self.met[at];
+        self.pass.payload(&list.nodes, node, 2 + word as u32)
+    }
+}
+
+impl Images for Walk<'_> {
+    ghost use Rattle.std.specs.Prelude.{◌≡◌};
+    ghost use Rattle.std.proofs.Common.{refl, ◌∙◌};
+    ghost use Rattle.plcr_imagelist.specs.Walk.{images_of, IsSameWalk};
+    ghost use Rattle.plcr_imagelist.specs.SameWalk.{walk_itself, walk_again};
+
+    ghost images = { λ w. images_of w.hold.now };
+
+    ghost follows = { λ x y. (y.hold.ghost_name ≡ x.hold.ghost_name) × (y.list.now ≡ x.list.now) × IsSameWalk x.hold.now y.hold.now };
+
+    fn count(&self) -> usize {
+        self.hold.count()
+    }
+
+    fn header(&mut self, i: usize) -> u64 {
+        self.hold.header_at(self.list, i)
+    }
+
+    fn name_len(&mut self, i: usize) -> usize {
+        self.hold.name_len_at(self.list, i)
+    }
+
+    fn name_word(&mut self, i: usize, j: usize) -> u64 {
+        self.hold.name_word_at(self.list, i, j)
+    }
+
+    ghost follows_itself = { λ x. (refl, refl, walk_itself x.hold.now) };
+
+    ghost follows_on = { λ x y z p q. (q.0 ∙ p.0, q.1 ∙ p.1, walk_again x.hold.now y.hold.now z.hold.now p.2 q.2) };
+}

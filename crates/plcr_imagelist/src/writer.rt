@@ -1,0 +1,203 @@
+//! The writer, which loads and unloads images.
+ghost use Rattle.std.specs.Prelude.{◌≡◌, ◌≢◌, ◌<◌, ◌≤◌, length, slice_index_or, vec_capacity, Err, IfOk, IfErr};
+ghost use Rattle.plcr_machine.specs.Lists.{live, changes};
+ghost use Rattle.plcr_machine.specs.Passes.{IsPaced};
+ghost use Rattle.plcr_nodes.specs.Tokens.{IsSized, opened_owner};
+ghost use Rattle.plcr_imagelist.specs.Keeping.{first_with};
+ghost use Rattle.plcr_imagelist.specs.States.{writer_state};
+ghost use Rattle.plcr_imagelist.specs.Making.{IsAtRest};
+ghost use Rattle.plcr_imagelist.specs.Changes.{IsWorn, begun_load};
+ghost use Rattle.plcr_imagelist.specs.Answers.{BeginsLoad, begins_unload, begun_unload, IsOpen};
+ghost use Rattle.plcr_imagelist.specs.Loading.{LoadsOrRefuses, UnloadsOrRefuses};
+
+use crate::books::Books;
+use crate::change::{Change, Task};
+use crate::list::ImageList;
+use crate::refusals::{LoadRefused, UnloadRefused};
+use plcr_machine::Image;
+use plcr_nodes::Owner;
+use std::alloc::{AllocError, Global};
+use std::marker::Model;
+
+/// Who loads and unloads images. Contracts see what it knows of the history.
+#[derive(Drop)]
+pub struct Writer {
+    pub(crate) books: Books,
+    /// Room for the name of the image that is being loaded.
+    pub(crate) name: Vec<u8>,
+}
+
+impl Model for Writer {
+    ghost use Rattle.std.specs.Prelude.{◌≤◌, vec_capacity};
+    ghost use Rattle.plcr_imagelist.specs.States.{WriterState, writer_state};
+
+    ghost Value = { WriterState };
+
+    ghost use Rattle.plcr_imagelist.specs.Making.{IsAtRest};
+
+    ghost view = { λ w. writer_state w.books.owner };
+
+    ghost invariant = { λ w. IsAtRest (writer_state w.books.owner) × (1024 ≤ vec_capacity w.name) };
+}
+
+// A load in a free node.
+fn start_load(books: Books, kept: Vec<u8>, header: u64, name: &[u8]) -> Change
+    requires rest { IsAtRest (writer_state books.owner) }
+    requires fresh { changes books.owner.history < 4294967295 }
+    requires free { books.spare ≢ 0 }
+    requires short { length name.now ≤ 1024 }
+    requires room { 1024 ≤ vec_capacity kept }
+    ensures { result ≡ begun_load (writer_state books.owner) header name.now }
+{
+    let load = books.loads() + 1;
+    let mut kept = kept;
+    kept.clear();
+    match kept.extend_from_slice(name) {
+        Ok(()) => {}
+        Err(_) => unreachable!(),
+    }
+    Change {
+        books,
+        name: kept,
+        task: Task::Load { header },
+        load,
+        made: 0,
+    }
+}
+
+// An unload of an image of the list.
+fn start_unload(books: Books, kept: Vec<u8>, at: usize, image: Image) -> Change
+    requires rest { IsAtRest (writer_state books.owner) }
+    requires fresh { changes books.owner.history < 4294967295 }
+    requires image { (at < length (live books.owner.history)) × (image ≡ slice_index_or (live books.owner.history) at image) }
+    requires room { 1024 ≤ vec_capacity kept }
+    ensures { result ≡ begun_unload (writer_state books.owner) image }
+{
+    let mut kept = kept;
+    kept.clear();
+    Change {
+        books,
+        name: kept,
+        task: Task::Unload { at, image },
+        load: image.load,
+        made: 0,
+    }
+}
+
+impl Writer {
+    /// The writer of a table that was just opened. All room is taken here.
+    pub(crate) fn open(alloc: Global, owner: Owner, nodes: u32) -> Result<Writer, AllocError>
+        requires { IsSized nodes owner.passes × (owner ≡ opened_owner owner.table nodes owner.passes) }
+        ensures { IfOk result (λ w. w ≡ writer_state owner) }
+    {
+        let books = Books::open(alloc, owner, nodes)?;
+        let name = Vec::with_capacity(alloc, 1024)?;
+        Ok(Writer { books, name })
+    }
+
+    /// Begins a load, of which no step is made yet. It looks at the gate once where no node is free. `Worn` comes exactly
+    /// where 4,294,967,295 changes were made, then `NameTooLong` exactly above 1,024 bytes, and `Full` exactly where no
+    /// node is free after that look.
+    pub fn begin_load(
+        self,
+        list: &ImageList,
+        header: u64,
+        name: &[u8],
+    ) -> Result<Change, (Writer, LoadRefused)>
+        requires { self.table ≡ list.now }
+        ensures worn { IsWorn self → result ≡ Err (self, LoadRefused.Worn 4294967295) }
+        ensures long { ¬ IsWorn self → 1024 < length name.now → result ≡ Err (self, LoadRefused.NameTooLong (length name.now)) }
+        ensures begins { ¬ IsWorn self → length name.now ≤ 1024 → BeginsLoad self header name.now result }
+        ensures open { IfOk result (IsOpen self.table) }
+        ensures back { IfErr result (λ r. (r.0.table ≡ self.table) × IsAtRest r.0) }
+        ensures paced { IfOk result (λ change. IsPaced change.writer.history) }
+    {
+        let Writer {
+            mut books,
+            name: kept,
+        } = self;
+        let changes = books.changes();
+        if changes == u32::MAX {
+            return Err((Writer { books, name: kept }, LoadRefused::Worn { changes }));
+        }
+        if name.len() > 1024 {
+            return Err((
+                Writer { books, name: kept },
+                LoadRefused::NameTooLong { len: name.len() },
+            ));
+        }
+        match books.find_room(&list.nodes) {
+            Some(refused) => Err((Writer { books, name: kept }, refused)),
+            None => Ok(start_load(books, kept, header, name)),
+        }
+    }
+
+    /// Begins an unload of the first image with the header. `Worn` comes exactly where 4,294,967,295 changes were made, and
+    /// otherwise `NotLoaded` exactly where no image of the list has the header.
+    pub fn begin_unload(
+        self,
+        list: &ImageList,
+        header: u64,
+    ) -> Result<Change, (Writer, UnloadRefused)>
+        requires { self.table ≡ list.now }
+        ensures worn { IsWorn self → result ≡ Err (self, UnloadRefused.Worn 4294967295) }
+        ensures begins { ¬ IsWorn self → result ≡ begins_unload self (first_with header (live self.history)) }
+        ensures open { IfOk result (IsOpen self.table) }
+        ensures back { IfErr result (λ r. (r.0.table ≡ self.table) × IsAtRest r.0) }
+        ensures paced { IfOk result (λ change. IsPaced change.writer.history) }
+    {
+        let _ = list;
+        let Writer { books, name: kept } = self;
+        let changes = books.changes();
+        if changes == u32::MAX {
+            return Err((
+                Writer { books, name: kept },
+                UnloadRefused::Worn { changes },
+            ));
+        }
+        match books.find(header) {
+            Some((at, image)) => Ok(start_unload(books, kept, at, image)),
+            None => Err((Writer { books, name: kept }, UnloadRefused::NotLoaded)),
+        }
+    }
+
+    /// Loads an image: makes all steps. Gives the number of the load.
+    pub fn load(
+        self,
+        list: &ImageList,
+        header: u64,
+        name: &[u8],
+    ) -> (Writer, Result<u32, LoadRefused>)
+        requires { self.table ≡ list.now }
+        ensures worn { IsWorn self → (result.0 ≡ self) × (result.1 ≡ Err (LoadRefused.Worn 4294967295)) }
+        ensures long { ¬ IsWorn self → 1024 < length name.now → (result.0 ≡ self) × (result.1 ≡ Err (LoadRefused.NameTooLong (length name.now))) }
+        ensures list { result.0.table ≡ self.table }
+        ensures rest { IsAtRest result.0 }
+        ensures loads { ¬ IsWorn self → length name.now ≤ 1024 → LoadsOrRefuses self header name.now result.0 result.1 }
+    {
+        match self.begin_load(list, header, name) {
+            Ok(change) => {
+                let load = change.load();
+                (change.finish(list), Ok(load))
+            }
+            Err((writer, refused)) => (writer, Err(refused)),
+        }
+    }
+
+    /// Unloads the first image with the header: makes all steps. Gives the number of its load.
+    pub fn unload(self, list: &ImageList, header: u64) -> (Writer, Result<u32, UnloadRefused>)
+        requires { self.table ≡ list.now }
+        ensures worn { IsWorn self → (result.0 ≡ self) × (result.1 ≡ Err (UnloadRefused.Worn 4294967295)) }
+        ensures list { result.0.table ≡ self.table }
+        ensures rest { IsAtRest result.0 }
+        ensures unloads { ¬ IsWorn self → UnloadsOrRefuses self (first_with header (live self.history)) result.0 result.1 }
+    {
+        match self.begin_unload(list, header) {
+            Ok(change) => {
+                let load = change.load();
+                (change.finish(list), Ok(load))
+            }
+            Err((writer, refused)) => (writer, Err(refused)),
+        }
+    }
+}
