@@ -1,6 +1,7 @@
 pub mod Smaller
 pub mod Scans
 pub mod Listed
+pub mod Kept
 pub mod Again
 pub mod Bounded
 pub mod AgainLeaves
@@ -9,3 +10,4 @@ pub mod AgainReport
 pub mod Bounds
 pub mod Lines
 pub mod Ends
+pub mod AnyEnd

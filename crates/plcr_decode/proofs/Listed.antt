@@ -1,9 +1,10 @@
 -- One field of a message at a time.
-use Rattle.std.proofs.Common.{◌≡◌, ℕ, zero, suc, ◌≤◌, ◌==◌, List, [], ◌∷◌, ◌++◌, length, Result, Ok, Err, Bool, cond, true, false, refl, sym, ap, ◌∙◌, append-nil, arith}
-use Rattle.plcr_wire.specs.Message.{Field, value_bytes}
+use Rattle.std.proofs.Common.{◌≡◌, ◌≢◌, ℕ, zero, suc, ◌≤◌, ◌==◌, List, [], ◌∷◌, ◌++◌, length, Some, None, Result, Ok, Err, Bool, cond, true, false, refl, sym, ap, ◌∙◌, append-nil, arith}
+use Rattle.std.proofs.lemmas.Bool.Decides.{nat_tests}
+use Rattle.plcr_wire.specs.Message.{Value, Field, value_bytes}
 use Rattle.plcr_wire.specs.Reading.{field_at, number_at}
 use Rattle.plcr_wire.specs.declared.fields.WireFault.{WireFault}
-use Rattle.plcr_decode.specs.Fields.{front_of, fields_within, fields_of, messages_in, together, joined}
+use Rattle.plcr_decode.specs.Fields.{front_of, fields_within, fields_of, messages_in, together, joined, last_or, is_there, has}
 use Rattle.plcr_decode.proofs.Smaller.{field_smaller}
 
 -- what follows a field may be listed by any number of steps that is enough
@@ -60,3 +61,33 @@ pub next_part : (n : ℕ) (f : Field) (part outer rest new : List ℕ) → field
     → fields_of new ++ joined n (fields_of rest) ≡ fields_of part ++ joined n (fields_of outer)
 next_part n f part outer rest new done begins e =
     rw (done, begins) (ap (λ l. fields_of l ++ joined n (fields_of rest)) e ∙ sym (joined_step n f (fields_of rest)))
+
+chosen_some : (b : Bool) (v w : Value) → cond b (Some v) (Some w) ≡ Some (cond b v w)
+chosen_some true v w = refl
+chosen_some false v w = refl
+
+-- once there, a value stays
+stays : (v : Value) (n : ℕ) (fs : List Field) → is_there (last_or (Some v) n fs) ≡ true
+stays v n [] = refl
+stays v n (f ∷ fs) = ap (λ o. is_there (last_or o n fs)) (chosen_some (f.number == n) f.value v) ∙ stays (cond (f.number == n) f.value v) n fs
+
+has_either : (b : Bool) (v : Value) (n : ℕ) (fs : List Field) → is_there (last_or (cond b (Some v) None) n fs) ≡ cond b true (has n fs)
+has_either true v n fs = stays v n fs
+has_either false v n fs = refl
+
+-- whether a field is there shows at the first one that is
+pub has_step : (n : ℕ) (f : Field) (fs : List Field) → has n (f ∷ fs) ≡ cond (f.number == n) true (has n fs)
+has_step n f fs = has_either (f.number == n) f.value n fs
+
+same_number : (m n : ℕ) → m ≡ n → (m == n) ≡ true
+same_number m n h = grind (arith, nat_tests)
+
+pub has_here : (n : ℕ) (f : Field) (fs : List Field) → f.number ≡ n → has n (f ∷ fs) ≡ true
+has_here n f fs h = has_step n f fs ∙ ap (λ (b : Bool). cond b true (has n fs)) (same_number f.number n h)
+
+other_number : (m n : ℕ) → m ≢ n → (m == n) ≡ false
+other_number m n h = grind (arith, nat_tests)
+
+-- a field of another number holds no part of a message
+pub messages_step : (n : ℕ) (f : Field) (fs : List Field) → f.number ≢ n → joined n (f ∷ fs) ≡ joined n fs
+messages_step n f fs h = rw (other_number f.number n h) refl

@@ -20,7 +20,7 @@ pub bind_same : {A B E : Type 0} (r : Result A E) (f g : A → Result B E) → (
 bind_same (Ok x) f g h = h x refl
 bind_same (Err e) f g h = refl
 
-lifted_ok : {A : Type 0} (r : Result A WireFault) (x : A) → lifted r ≡ Ok x → r ≡ Ok x
+pub lifted_ok : {A : Type 0} (r : Result A WireFault) (x : A) → lifted r ≡ Ok x → r ≡ Ok x
 lifted_ok (Ok y) x h = cc
 lifted_ok (Err e) x h = absurd (cc)
 

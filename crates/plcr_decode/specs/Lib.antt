@@ -6,4 +6,6 @@ pub mod Values
 pub mod Reads
 pub mod Fits
 pub mod Text
+pub mod FaultTexts
 pub mod Words
+pub mod Covered

@@ -1,8 +1,9 @@
 -- What stands in memory, as contracts see it.
-use Rattle.std.specs.Prelude.{ℕ, ◌+◌, List, ◌++◌, length, Option, Some, None}
+use Rattle.std.specs.Prelude.{◌≡◌, ℕ, ◌+◌, ◌<◌, List, ◌++◌, length, slice_index_or, Option, Some, None}
 use Rattle.std.specs.Borrow.{Bor}
-use Rattle.plcr_wire.specs.Message.{Field}
-use Rattle.plcr_decode.specs.Fields.{fields_of, joined}
+use Rattle.plcr_wire.specs.Message.{Value, Field}
+use Rattle.plcr_decode.specs.Fields.{fields_of, joined, shown}
+use Rattle.plcr_wire.specs.declared.pieces.Content.{Content}
 use Rattle.plcr_decode.specs.declared.fields.Fields.{Fields}
 use Rattle.plcr_decode.specs.Scan as spec
 use Rattle.plcr_decode.specs.declared.scanning.Step.{Step}
@@ -23,3 +24,11 @@ size f = length f.part.now + length f.outer.now
 abbrev pub told : Option (Bor (List ℕ)) → Option (List ℕ)
 told None = None
 told (Some text) = Some text.now
+
+-- the value that is kept under a number
+abbrev pub kept : List (Option Content) → ℕ → Option Value
+kept lasts n = shown (slice_index_or lasts n None)
+
+-- under each number below 10 its value is kept
+abbrev pub Keeps : List (Option Content) → (ℕ → Option Value) → Type 0
+Keeps lasts value = (n : ℕ) → n < 10 → kept lasts n ≡ value n

@@ -8,7 +8,7 @@ ghost use Rattle.plcr_decode.specs.Fields as spec;
 ghost use Rattle.plcr_decode.specs.Views.{left, size};
 
 use crate::scanning::text_of;
-use plcr_wire::{Content, Piece, field_of};
+use plcr_wire::{Piece, field_of};
 
 /// The fields that are left of a message: those of its present part, and those of the parts that stand in the
 /// fields of one number of the message around it.
@@ -43,22 +43,27 @@ fn part_of<'a>(piece: Piece<'a>, number: u32) -> &'a [u8]
     }
 }
 
-/// The later of two values: that of this field, if it is of this number.
-fn later<'a>(before: Option<Content<'a>>, piece: Piece<'a>, number: u32) -> Option<Content<'a>>
-    ensures { shown result ≡ (if piece.entry.number == number then Some (content piece.entry.value) else shown before.entry) }
+/// What is left of a message from its first field of this number on.
+#[tactic(auto, using(crate::proofs::Listed::messages_step))]
+fn from_first(bytes: &[u8], number: u32) -> &[u8]
+    ensures { joined number (fields_of result.now) ≡ joined number (fields_of bytes.now) }
 {
-    if piece.number == number {
-        Some(piece.value)
-    } else {
-        before
+    let mut rest = bytes;
+    while let Some(piece) = first(rest) {
+        if piece.number == number {
+            return rest;
+        }
+        rest = piece.rest;
     }
+    rest
 }
 
 impl<'a> Fields<'a> {
     /// The fields of a message that stands in one place.
     #[tactic(auto, using(crate::proofs::Listed::fields_alone))]
     pub(crate) fn of(bytes: &'a [u8]) -> Fields<'a>
-        ensures { left result ≡ fields_of bytes.now }
+        ensures fields { left result ≡ fields_of bytes.now }
+        ensures size { size result ≡ length bytes.now }
     {
         Fields {
             part: bytes,
@@ -74,7 +79,7 @@ impl<'a> Fields<'a> {
     {
         Fields {
             part: &[],
-            outer,
+            outer: from_first(outer, number),
             number,
         }
     }
@@ -99,64 +104,18 @@ impl<'a> Fields<'a> {
         }
     }
 
-    /// The value of the last field of this number.
-    fn last(self, number: u32) -> Option<Content<'a>>
-        ensures { shown result ≡ last_value number (left self.entry) }
-    {
-        let mut left = self;
-        let mut last = None;
-        while let Some(piece) = left.next() {
-            last = later(last, piece, number);
-        }
-        last
-    }
-
     /// Whether a field of this number stands there.
+    #[tactic(auto, using(crate::proofs::Listed::has_step))]
     pub(crate) fn has(self, number: u32) -> bool
         ensures { result ≡ has number (left self.entry) }
     {
-        self.last(number).is_some()
-    }
-
-    /// The number that stands in the last field of this number.
-    pub(crate) fn number(self, number: u32) -> Option<u64>
-        ensures { result ≡ number_in number (left self.entry) }
-    {
-        match self.last(number) {
-            None => None,
-            Some(Content::Number(value)) => Some(value),
-            Some(_) => Some(0),
+        let mut left = self;
+        while let Some(piece) = left.next() {
+            if piece.number == number {
+                return true;
+            }
         }
-    }
-
-    /// The number that stands in the last field of this number, 0 where there is none.
-    pub(crate) fn number_or_zero(self, number: u32) -> u64
-        ensures { result ≡ or_zero (number_in number (left self.entry)) }
-    {
-        match self.number(number) {
-            None => 0,
-            Some(value) => value,
-        }
-    }
-
-    /// The text or bytes that stand in the last field of this number.
-    pub(crate) fn text(self, number: u32) -> Option<&'a [u8]>
-        ensures { told result ≡ text_in number (left self.entry) }
-    {
-        match self.last(number) {
-            None => None,
-            Some(value) => Some(text_of(value)),
-        }
-    }
-
-    /// The same, empty where there is none.
-    pub(crate) fn text_or_empty(self, number: u32) -> &'a [u8]
-        ensures { result.now ≡ or_empty (text_in number (left self.entry)) }
-    {
-        match self.text(number) {
-            None => &[],
-            Some(text) => text,
-        }
+        false
     }
 
     /// The bytes of the next message that stands in a field of this number.

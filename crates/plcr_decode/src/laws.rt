@@ -1,7 +1,8 @@
-//! What is spelled is read again.
+//! Laws of reading: what is spelled is read again, and nothing of a message without a fault is left out.
 ghost use Rattle.std.specs.Prelude.{◌≡◌, Ok};
 ghost use Rattle.plcr_report.specs.Spelling.{spelling_of};
 ghost use Rattle.plcr_report.specs.declared.messages.Report as value;
+ghost use Rattle.plcr_decode.specs.Covered.{FieldsCover};
 ghost use Rattle.plcr_decode.specs.Fits.{HasFile};
 ghost use Rattle.plcr_decode.specs.Reads.{reads};
 
@@ -10,4 +11,10 @@ ghost use Rattle.plcr_decode.specs.Reads.{reads};
 #[tactic(auto, using(crate::proofs::Bounds::file_again))]
 pub fn reads_again()
     ensures { (r : value.Report) → HasFile r → reads (spelling_of r) ≡ Ok r }
+{}
+
+/// Where a message has no fault in reading order, its fields are all its bytes: their list doesn't end before them.
+#[tactic(auto, using(crate::proofs::AnyEnd::fields_cover))]
+pub fn fields_cover()
+    ensures { FieldsCover }
 {}

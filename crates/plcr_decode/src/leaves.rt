@@ -4,7 +4,8 @@ ghost use Rattle.plcr_decode.specs.Values.{symbol_of, register_of, system_of, ap
 
 use crate::faults::DecodeFault;
 use crate::fields::Fields;
-use crate::messages::{Part, Row, needs};
+use crate::found::Found;
+use crate::messages::{Part, Row, has_all};
 use crate::numbers::{low, owned, owned_where};
 use plcr_report::{Application, Info, Kind, Process, Processor, Register, Signal, Symbol, System};
 use std::alloc::{AllocError, Global};
@@ -16,15 +17,16 @@ impl Part for Symbol {
 
     #[tactic(auto, unfolding(crate::specs::Required::symbol_whole))]
     fn judge(fields: Fields<'_>) -> Result<(), DecodeFault> {
-        needs(Kind::Symbol, &[1, 2], fields)
+        has_all(Kind::Symbol, fields)
     }
 
     #[tactic(auto, unfolding(crate::specs::Values::symbol_of))]
     fn build(alloc: Global, fields: Fields<'_>) -> Result<Symbol, AllocError> {
+        let found = Found::of(fields);
         Ok(Symbol {
-            name: owned(alloc, fields.text_or_empty(Symbol::NAME))?,
-            start_address: fields.number_or_zero(Symbol::START_ADDRESS),
-            end_address: fields.number(Symbol::END_ADDRESS),
+            name: owned(alloc, found.text_or_empty(Symbol::NAME))?,
+            start_address: found.number_or_zero(Symbol::START_ADDRESS),
+            end_address: found.number(Symbol::END_ADDRESS),
         })
     }
 }
@@ -36,15 +38,15 @@ impl Row for Register {
 
     #[tactic(auto, unfolding(crate::specs::Required::register_whole))]
     fn judge(bytes: &[u8]) -> Result<(), DecodeFault> {
-        needs(Kind::Register, &[1, 2], Fields::of(bytes))
+        has_all(Kind::Register, Fields::of(bytes))
     }
 
     #[tactic(auto, unfolding(crate::specs::Values::register_of))]
     fn build(alloc: Global, bytes: &[u8]) -> Result<Register, AllocError> {
-        let fields = Fields::of(bytes);
+        let found = Found::of(Fields::of(bytes));
         Ok(Register {
-            name: owned(alloc, fields.text_or_empty(Register::NAME))?,
-            value: fields.number_or_zero(Register::VALUE),
+            name: owned(alloc, found.text_or_empty(Register::NAME))?,
+            value: found.number_or_zero(Register::VALUE),
         })
     }
 }
@@ -56,17 +58,18 @@ impl Part for System {
 
     #[tactic(auto, unfolding(crate::specs::Required::system_whole))]
     fn judge(fields: Fields<'_>) -> Result<(), DecodeFault> {
-        needs(Kind::System, &[1, 2, 3, 4], fields)
+        has_all(Kind::System, fields)
     }
 
     #[tactic(auto, unfolding(crate::specs::Values::system_of))]
     fn build(alloc: Global, fields: Fields<'_>) -> Result<System, AllocError> {
+        let found = Found::of(fields);
         Ok(System {
-            operating_system: low(fields.number_or_zero(System::OPERATING_SYSTEM)),
-            os_version: owned(alloc, fields.text_or_empty(System::OS_VERSION))?,
-            architecture: low(fields.number_or_zero(System::ARCHITECTURE)),
-            timestamp: fields.number_or_zero(System::TIMESTAMP).cast_signed(),
-            os_build: owned_where(alloc, fields.text(System::OS_BUILD))?,
+            operating_system: low(found.number_or_zero(System::OPERATING_SYSTEM)),
+            os_version: owned(alloc, found.text_or_empty(System::OS_VERSION))?,
+            architecture: low(found.number_or_zero(System::ARCHITECTURE)),
+            timestamp: found.number_or_zero(System::TIMESTAMP).cast_signed(),
+            os_build: owned_where(alloc, found.text(System::OS_BUILD))?,
         })
     }
 }
@@ -78,14 +81,15 @@ impl Part for Application {
 
     #[tactic(auto, unfolding(crate::specs::Required::application_whole))]
     fn judge(fields: Fields<'_>) -> Result<(), DecodeFault> {
-        needs(Kind::Application, &[1, 2], fields)
+        has_all(Kind::Application, fields)
     }
 
     #[tactic(auto, unfolding(crate::specs::Values::application_of))]
     fn build(alloc: Global, fields: Fields<'_>) -> Result<Application, AllocError> {
+        let found = Found::of(fields);
         Ok(Application {
-            identifier: owned(alloc, fields.text_or_empty(Application::IDENTIFIER))?,
-            version: owned(alloc, fields.text_or_empty(Application::VERSION))?,
+            identifier: owned(alloc, found.text_or_empty(Application::IDENTIFIER))?,
+            version: owned(alloc, found.text_or_empty(Application::VERSION))?,
         })
     }
 }
@@ -97,15 +101,16 @@ impl Part for Processor {
 
     #[tactic(auto, unfolding(crate::specs::Required::processor_whole))]
     fn judge(fields: Fields<'_>) -> Result<(), DecodeFault> {
-        needs(Kind::Processor, &[1, 2, 3], fields)
+        has_all(Kind::Processor, fields)
     }
 
     #[tactic(auto, unfolding(crate::specs::Values::processor_of))]
     fn build(_alloc: Global, fields: Fields<'_>) -> Result<Processor, AllocError> {
+        let found = Found::of(fields);
         Ok(Processor {
-            encoding: low(fields.number_or_zero(Processor::ENCODING)),
-            cpu: fields.number_or_zero(Processor::CPU),
-            subtype: fields.number_or_zero(Processor::SUBTYPE),
+            encoding: low(found.number_or_zero(Processor::ENCODING)),
+            cpu: found.number_or_zero(Processor::CPU),
+            subtype: found.number_or_zero(Processor::SUBTYPE),
         })
     }
 }
@@ -117,15 +122,16 @@ impl Part for Signal {
 
     #[tactic(auto, unfolding(crate::specs::Required::signal_whole))]
     fn judge(fields: Fields<'_>) -> Result<(), DecodeFault> {
-        needs(Kind::Signal, &[1, 2, 3], fields)
+        has_all(Kind::Signal, fields)
     }
 
     #[tactic(auto, unfolding(crate::specs::Values::signal_of))]
     fn build(alloc: Global, fields: Fields<'_>) -> Result<Signal, AllocError> {
+        let found = Found::of(fields);
         Ok(Signal {
-            name: owned(alloc, fields.text_or_empty(Signal::NAME))?,
-            code: owned(alloc, fields.text_or_empty(Signal::CODE))?,
-            address: fields.number_or_zero(Signal::ADDRESS),
+            name: owned(alloc, found.text_or_empty(Signal::NAME))?,
+            code: owned(alloc, found.text_or_empty(Signal::CODE))?,
+            address: found.number_or_zero(Signal::ADDRESS),
         })
     }
 }
@@ -137,18 +143,19 @@ impl Part for Process {
 
     #[tactic(auto, unfolding(crate::specs::Required::process_whole))]
     fn judge(fields: Fields<'_>) -> Result<(), DecodeFault> {
-        needs(Kind::Process, &[2, 5, 6], fields)
+        has_all(Kind::Process, fields)
     }
 
     #[tactic(auto, unfolding(crate::specs::Values::process_of))]
     fn build(alloc: Global, fields: Fields<'_>) -> Result<Process, AllocError> {
+        let found = Found::of(fields);
         Ok(Process {
-            name: owned_where(alloc, fields.text(Process::NAME))?,
-            id: low(fields.number_or_zero(Process::ID)),
-            path: owned_where(alloc, fields.text(Process::PATH))?,
-            parent_name: owned_where(alloc, fields.text(Process::PARENT_NAME))?,
-            parent_id: low(fields.number_or_zero(Process::PARENT_ID)),
-            native: fields.number_or_zero(Process::NATIVE) != 0,
+            name: owned_where(alloc, found.text(Process::NAME))?,
+            id: low(found.number_or_zero(Process::ID)),
+            path: owned_where(alloc, found.text(Process::PATH))?,
+            parent_name: owned_where(alloc, found.text(Process::PARENT_NAME))?,
+            parent_id: low(found.number_or_zero(Process::PARENT_ID)),
+            native: found.number_or_zero(Process::NATIVE) != 0,
         })
     }
 }
@@ -160,14 +167,15 @@ impl Part for Info {
 
     #[tactic(auto, unfolding(crate::specs::Required::info_whole))]
     fn judge(fields: Fields<'_>) -> Result<(), DecodeFault> {
-        needs(Kind::Info, &[1], fields)
+        has_all(Kind::Info, fields)
     }
 
     #[tactic(auto, unfolding(crate::specs::Values::info_of))]
     fn build(alloc: Global, fields: Fields<'_>) -> Result<Info, AllocError> {
+        let found = Found::of(fields);
         Ok(Info {
-            user_requested: fields.number_or_zero(Info::USER_REQUESTED) != 0,
-            uuid: owned_where(alloc, fields.text(Info::UUID))?,
+            user_requested: found.number_or_zero(Info::USER_REQUESTED) != 0,
+            uuid: owned_where(alloc, found.text(Info::UUID))?,
         })
     }
 }

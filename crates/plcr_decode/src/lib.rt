@@ -1,8 +1,10 @@
 //! Reads the file of a crash report: the report that its bytes spell, or their first fault with its place.
 #![tactic(auto)]
 
+mod display;
 mod faults;
 mod fields;
+mod found;
 mod ink;
 mod laws;
 mod leaves;
@@ -15,7 +17,7 @@ mod table;
 mod text;
 
 pub use faults::DecodeFault;
-pub use laws::reads_again;
+pub use laws::{fields_cover, reads_again};
 pub use reader::decode;
 pub use text::write_text;
 

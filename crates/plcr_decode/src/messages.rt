@@ -1,5 +1,5 @@
 //! Messages of a report: the first field that they lack, and their values.
-ghost use Rattle.std.specs.Prelude.{◌≡◌, ◌≢◌, ℕ, List, Result, ◌∷◌, ◌++◌, map, IfOk, OnOk, IfErr};
+ghost use Rattle.std.specs.Prelude.{◌≡◌, ◌≢◌, List, Result, length, map, IfOk, IfErr};
 ghost use Rattle.plcr_wire.specs.Message.{Field};
 ghost use Rattle.plcr_decode.specs.declared.faults.DecodeFault.{DecodeFault};
 ghost use Rattle.plcr_decode.specs.Fields.{fields_of, messages_in, joined};
@@ -10,6 +10,7 @@ ghost use Rattle.plcr_decode.specs.Views.{left};
 
 use crate::faults::DecodeFault;
 use crate::fields::Fields;
+use crate::table::required;
 use plcr_report::{Kind, Rows};
 use std::alloc::{AllocError, Global};
 
@@ -45,8 +46,16 @@ pub(crate) trait Row: Sized {
         ensures { IfOk result (λ x. x ≡ value (fields_of bytes.now)) };
 }
 
+/// The first field that a message of this kind lacks.
+pub(crate) fn has_all(kind: Kind, fields: Fields<'_>) -> Result<(), DecodeFault>
+    ensures exact { result ≡ spec.has_all kind (left fields.entry) }
+    ensures real { IfErr result (λ e. e ≢ DecodeFault.Memory) }
+{
+    needs(kind, required(kind), fields)
+}
+
 /// The first of these fields that lacks.
-pub(crate) fn needs(kind: Kind, numbers: &[u32], fields: Fields<'_>) -> Result<(), DecodeFault>
+fn needs(kind: Kind, numbers: &[u32], fields: Fields<'_>) -> Result<(), DecodeFault>
     ensures exact { result ≡ spec.needs kind numbers.now (left fields.entry) }
     ensures real { IfErr result (λ e. e ≢ DecodeFault.Memory) }
 {
@@ -100,7 +109,19 @@ pub(crate) fn judge_rows<T: Row>(bytes: &[u8], number: u32) -> Result<(), Decode
     Ok(())
 }
 
-/// The messages in the fields of this number.
+/// How many messages stand in the fields of this number.
+fn count_rows(bytes: &[u8], number: u32) -> usize
+    ensures { result ≡ length (messages_in number (fields_of bytes.now)) }
+{
+    let mut count = 0;
+    let mut left = Fields::of(bytes);
+    while let Some(_) = left.next_message(number) {
+        count += 1;
+    }
+    count
+}
+
+/// The messages in the fields of this number. Takes the room of so many before the first.
 pub(crate) fn build_rows<T: Row + Drop>(
     alloc: Global,
     bytes: &[u8],
@@ -108,10 +129,10 @@ pub(crate) fn build_rows<T: Row + Drop>(
 ) -> Result<Rows<T>, AllocError>
     ensures { IfOk result (λ xs. xs ≡ map T.value (messages_in number (fields_of bytes.now))) }
 {
-    let mut rows = Vec::new(alloc);
+    let mut rows = Vec::with_capacity(alloc, count_rows(bytes, number))?;
     let mut left = Fields::of(bytes);
     while let Some(text) = left.next_message(number) {
-        rows.push(T::build(alloc, text)?)?;
+        rows.push_reserved(T::build(alloc, text)?);
     }
     Ok(Rows::new(rows))
 }

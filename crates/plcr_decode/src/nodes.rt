@@ -6,7 +6,8 @@ ghost use Rattle.plcr_decode.specs.Values.{frame_of, thread_of, image_of, report
 
 use crate::faults::DecodeFault;
 use crate::fields::Fields;
-use crate::messages::{Part, Row, build_one, build_rows, judge_one, judge_rows, needs};
+use crate::found::Found;
+use crate::messages::{Part, Row, build_one, build_rows, has_all, judge_one, judge_rows};
 use crate::numbers::{low, owned, owned_where};
 use plcr_report::{
     Application, Frame, Image, Info, Kind, Process, Processor, Register, Report, Signal, Symbol,
@@ -21,14 +22,14 @@ impl Row for Frame {
 
     #[tactic(auto, unfolding(crate::specs::Required::frame_whole))]
     fn judge(bytes: &[u8]) -> Result<(), DecodeFault> {
-        needs(Kind::Frame, &[3], Fields::of(bytes))?;
+        has_all(Kind::Frame, Fields::of(bytes))?;
         judge_one::<Symbol>(bytes, Frame::SYMBOL)
     }
 
     #[tactic(auto, unfolding(crate::specs::Values::frame_of))]
     fn build(alloc: Global, bytes: &[u8]) -> Result<Frame, AllocError> {
         Ok(Frame {
-            pc: Fields::of(bytes).number_or_zero(Frame::PC),
+            pc: Found::of(Fields::of(bytes)).number_or_zero(Frame::PC),
             symbol: build_one::<Symbol>(alloc, bytes, Frame::SYMBOL)?,
         })
     }
@@ -41,18 +42,18 @@ impl Row for Thread {
 
     #[tactic(auto, unfolding(crate::specs::Required::thread_whole))]
     fn judge(bytes: &[u8]) -> Result<(), DecodeFault> {
-        needs(Kind::Thread, &[1, 3], Fields::of(bytes))?;
+        has_all(Kind::Thread, Fields::of(bytes))?;
         judge_rows::<Frame>(bytes, Thread::FRAMES)?;
         judge_rows::<Register>(bytes, Thread::REGISTERS)
     }
 
     #[tactic(auto, unfolding(crate::specs::Values::thread_of))]
     fn build(alloc: Global, bytes: &[u8]) -> Result<Thread, AllocError> {
-        let fields = Fields::of(bytes);
+        let found = Found::of(Fields::of(bytes));
         Ok(Thread {
-            thread_number: low(fields.number_or_zero(Thread::THREAD_NUMBER)),
+            thread_number: low(found.number_or_zero(Thread::THREAD_NUMBER)),
             frames: build_rows::<Frame>(alloc, bytes, Thread::FRAMES)?,
-            crashed: fields.number_or_zero(Thread::CRASHED) != 0,
+            crashed: found.number_or_zero(Thread::CRASHED) != 0,
             registers: build_rows::<Register>(alloc, bytes, Thread::REGISTERS)?,
         })
     }
@@ -65,18 +66,18 @@ impl Row for Image {
 
     #[tactic(auto, unfolding(crate::specs::Required::image_whole))]
     fn judge(bytes: &[u8]) -> Result<(), DecodeFault> {
-        needs(Kind::Image, &[1, 2, 3], Fields::of(bytes))?;
+        has_all(Kind::Image, Fields::of(bytes))?;
         judge_one::<Processor>(bytes, Image::CODE_TYPE)
     }
 
     #[tactic(auto, unfolding(crate::specs::Values::image_of))]
     fn build(alloc: Global, bytes: &[u8]) -> Result<Image, AllocError> {
-        let fields = Fields::of(bytes);
+        let found = Found::of(Fields::of(bytes));
         Ok(Image {
-            base_address: fields.number_or_zero(Image::BASE_ADDRESS),
-            size: fields.number_or_zero(Image::SIZE),
-            name: owned(alloc, fields.text_or_empty(Image::NAME))?,
-            uuid: owned_where(alloc, fields.text(Image::UUID))?,
+            base_address: found.number_or_zero(Image::BASE_ADDRESS),
+            size: found.number_or_zero(Image::SIZE),
+            name: owned(alloc, found.text_or_empty(Image::NAME))?,
+            uuid: owned_where(alloc, found.text(Image::UUID))?,
             code_type: build_one::<Processor>(alloc, bytes, Image::CODE_TYPE)?,
         })
     }
@@ -89,7 +90,7 @@ impl Row for Report {
 
     #[tactic(auto, unfolding(crate::specs::Required::report_whole))]
     fn judge(bytes: &[u8]) -> Result<(), DecodeFault> {
-        needs(Kind::Root, &[1, 2, 6], Fields::of(bytes))?;
+        has_all(Kind::Root, Fields::of(bytes))?;
         judge_one::<System>(bytes, Report::SYSTEM_INFO)?;
         judge_one::<Application>(bytes, Report::APPLICATION_INFO)?;
         judge_rows::<Thread>(bytes, Report::THREADS)?;

@@ -1,8 +1,10 @@
 use super::*;
 use plcr_io::MemOut;
-use plcr_report::Kind;
 use std::alloc::Global;
 use std::test::Fail;
+
+mod bad_input;
+mod damage;
 
 /// The report of one x86-64 thread, which crashed with rsp 0x7000 and rip 0x100000f50, all else 0.
 const FILE: [u8; 271] = [
@@ -107,48 +109,3 @@ image 0x0000000000000000 0 o \\- - -
 signal s \\x7f 0x0000000000000001
 process - 5 2 1
 ";
-
-#[test]
-fn faults_are_told_with_their_places(rt: HostRuntime) -> Result<(), Fail> {
-    let alloc = rt.alloc();
-    let rows = [
-        (
-            FILE.as_slice().split_at(270).0,
-            DecodeFault::Truncated { at: 270 },
-        ),
-        (b"plcra".as_slice(), DecodeFault::Magic),
-        (b"plcrash".as_slice(), DecodeFault::Truncated { at: 7 }),
-        (b"plcrash\x02".as_slice(), DecodeFault::Version { found: 2 }),
-        (
-            b"plcrash\x01".as_slice(),
-            DecodeFault::Missing {
-                message: Kind::Root,
-                field: 1,
-            },
-        ),
-        (
-            b"plcrash\x01\x78\x05\x08\x00".as_slice(),
-            DecodeFault::WrongWire { field: 1, at: 10 },
-        ),
-        (b"plcrash\x01\x0b".as_slice(), DecodeFault::BadTag { at: 8 }),
-        (
-            b"plcrash\x01\x78\xff\xff\xff\xff\xff\xff\xff\xff\xff\x02".as_slice(),
-            DecodeFault::BadVarint { at: 9 },
-        ),
-        (
-            b"plcrash\x01\x1a\x02\x12\x05\x78\x05".as_slice(),
-            DecodeFault::Truncated { at: 12 },
-        ),
-        (
-            b"plcrash\x01\x0a\x00\x12\x00\x1a\x00\x32\x00".as_slice(),
-            DecodeFault::Missing {
-                message: Kind::System,
-                field: 1,
-            },
-        ),
-    ];
-    for (bytes, fault) in rows {
-        assert_eq!(rt; decode(alloc, bytes).err(), Some(fault));
-    }
-    Ok(())
-}
