@@ -1,4 +1,6 @@
 pub mod Files
 pub mod Lengths
+pub mod Parsed
 pub mod Roots
 pub mod Rows
+pub mod Words

@@ -1,5 +1,6 @@
 -- How a loop writes the rows of a repeated field, one after the other.
-use Rattle.std.proofs.Common.{◌≡◌, ℕ, suc, ◌+◌, ◌-◌, ◌<◌, ◌≤◌, List, [], ◌∷◌, ◌++◌, length, map, drop, get_or, refl, ap, sym, subst, ◌∙◌, append_assoc, append-nil, length-append, drop-cons, add-one, arith, if◌then◌else◌}
+use Rattle.std.proofs.Common.{◌≡◌, ℕ, suc, ◌+◌, ◌-◌, ◌*◌, ◌<◌, ◌≤◌, List, [], ◌∷◌, ◌++◌, length, map, drop, get_or, refl, ap, sym, subst, ◌∙◌, append_assoc, append-nil, length-append, drop-cons, add-one, arith, if◌then◌else◌}
+use Rattle.std.proofs.Math.Nat.{mul-suc}
 use Rattle.std.specs.List.{range_with_len, enumerate_from}
 use Rattle.plcr_wire.specs.Pen.{Pen, Wrote}
 use Rattle.plcr_wire.specs.Message.{Field, spelling, field_spelling, number_field, message_field}
@@ -77,6 +78,18 @@ module _ {A : Type 0} (field : ℕ) (message : A → List Field) where
   -- the first of the rows that are left of a list's numbered items
   pub numbered_left : {B : Type 0} (at : ℕ × B → A) (xs : List B) (i : ℕ) (d : B) → i < length xs → rows_of (map at (enumerate_from i (drop i xs))) ≡ field_spelling (message_field field (message (at (i, get_or xs i d)))) ++ rows_of (map at (enumerate_from (i + 1) (drop (i + 1) xs)))
   numbered_left at xs i d h = ap (λ ys. rows_of (map at ys)) (numbered_step xs i d h)
+
+  -- the first of the rows that are left of a list's items
+  pub items_left : {B : Type 0} (at : B → A) (xs : List B) (i : ℕ) (d : B) → i < length xs → rows_of (map at (drop i xs)) ≡ field_spelling (message_field field (message (at (get_or xs i d)))) ++ rows_of (map at (drop (i + 1) xs))
+  items_left at xs i d h = let e : drop i xs ≡ get_or xs i d ∷ drop (i + 1) xs = rw (add-one, drop-cons xs i d) refl in ap (λ ys. rows_of (map at ys)) e
+
+  -- one more row of a list's items, each of at most so many bytes
+  pub items_more : {B : Type 0} (old mid new : Pen) (bytes : List ℕ) (at : B → A) (xs : List B) (i most : ℕ) (d : B) → i < length xs → WroteUpTo old mid bytes (rows_of (map at (drop i xs))) (most * i) → Wrote mid new (field_spelling (message_field field (message (at (get_or xs i d))))) → length (field_spelling (message_field field (message (at (get_or xs i d))))) ≤ most → WroteUpTo old new bytes (rows_of (map at (drop (i + 1) xs))) (most * (i + 1))
+  items_more old mid new bytes at xs i most d h before wrote short =
+      let row : List ℕ = field_spelling (message_field field (message (at (get_or xs i d)))) in
+      let rest : List ℕ = rows_of (map at (drop (i + 1) xs)) in
+      let e : most * i + most ≡ most * (i + 1) = rw (add-one, mul-suc) refl in
+      subst (WroteUpTo old new bytes rest) e (up_to_more old mid new bytes row rest (most * i) most (up_to_same old mid bytes (rows_of (map at (drop i xs))) (row ++ rest) (most * i) (items_left at xs i d h) before) wrote short)
 
 -- four pieces are no longer than all of their bounds together
 pub four_short : (a b c d : List ℕ) (p q r s most : ℕ) → length a ≤ p → length b ≤ q → length c ≤ r → length d ≤ s → p + (q + (r + s)) ≤ most → length (a ++ (b ++ (c ++ d))) ≤ most

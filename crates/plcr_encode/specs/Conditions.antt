@@ -1,8 +1,9 @@
 -- What can be written as a report.
-use Rattle.std.specs.Prelude.{◌≡◌, ◌^◌, ◌<◌, ◌≤◌, List, length, All}
+use Rattle.std.specs.Prelude.{◌^◌, ◌<◌, ◌≤◌, List, length, All}
 use Rattle.plcr_regs.specs.declared.arch.Arch.{Arch}
 use Rattle.plcr_regs.specs.declared.registers.Registers.{Registers}
 use Rattle.plcr_regs.specs.States.{IsWhole}
+use Rattle.plcr_macho.specs.Images.{Listed}
 use Rattle.plcr_encode.specs.declared.context.Context.{Context}
 
 -- whole states of one architecture, fewer than 2^32
@@ -20,3 +21,12 @@ pub record IsWritable (context : Context) : Type 0 where
   pub signal : length context.signal.now < 2 ^ 32
   pub code : length context.code.now < 2 ^ 32
   pub process : length context.process.now < 2 ^ 32
+
+-- a loaded image whose name has at most 1,024 bytes
+abbrev pub IsNamable : Listed → Type 0
+IsNamable listed = length listed.name ≤ 1024
+
+-- loaded images with such names, fewer than 2^32
+pub record AreNamable (listed : List Listed) : Type 0 where
+  pub each : All IsNamable listed
+  pub few : length listed < 2 ^ 32

@@ -15,7 +15,10 @@ use Rattle.plcr_report.specs.declared.messages.Image.{Image}
 use Rattle.plcr_report.specs.declared.messages.Signal.{Signal}
 use Rattle.plcr_report.specs.declared.messages.Process.{Process}
 use Rattle.plcr_report.specs.declared.messages.Info.{Info}
+use Rattle.plcr_memory.specs.Regions.{Contents}
+use Rattle.plcr_macho.specs.Images.{Listed}
 use Rattle.plcr_encode.specs.declared.context.Context.{Context}
+use Rattle.plcr_encode.specs.Images.{images_of}
 
 -- the number by which crash_report.proto names an architecture; it has none for arm64, which is written as 6
 abbrev pub architecture_number : Arch → ℕ
@@ -39,18 +42,26 @@ register_at state i = record { name = slice_index_or (register_names state.arch)
 abbrev pub registers_of : Registers → List Register
 registers_of state = map (register_at state) (range_with_len 0 (register_count state.arch))
 
--- the frames of a thread that was stopped in this state: today the one that it was stopped in, with no symbol
-abbrev pub frames_of : Registers → List Frame
-frames_of state = record { pc = value_at state (pc_place state.arch); symbol = None } ∷ []
+-- the program counters of the frames of a thread that was stopped in this state: today that of the one that it was stopped in
+abbrev pub pcs_of : Registers → List ℕ
+pcs_of state = value_at state (pc_place state.arch) ∷ []
 
--- a thread by its number and its state, where `crashed` is the number of the thread that crashed
-abbrev pub thread_of : ℕ → ℕ × Registers → Thread
-thread_of crashed thread = record {
-  thread_number = thread.0;
-  frames = frames_of thread.1;
-  crashed = thread.0 == crashed;
-  registers = registers_of thread.1;
+-- a frame by its program counter, with no symbol
+abbrev pub frame_at : ℕ → Frame
+frame_at pc = record { pc = pc; symbol = None }
+
+-- a thread by its number, its frames' program counters and its state, where `crashed` is the number of the thread that crashed
+abbrev pub thread_with : ℕ → ℕ → List ℕ → Registers → Thread
+thread_with crashed number pcs state = record {
+  thread_number = number;
+  frames = map frame_at pcs;
+  crashed = number == crashed;
+  registers = registers_of state;
 }
+
+-- a thread by its number and its state
+abbrev pub thread_of : ℕ → ℕ × Registers → Thread
+thread_of crashed thread = thread_with crashed thread.0 (pcs_of thread.1) thread.1
 
 -- the threads in these states, numbered from 0
 abbrev pub threads_of : ℕ → List Registers → List Thread
@@ -95,3 +106,7 @@ report_of context threads images = record {
   process_info = Some (process_of context);
   report_info = Some (info_of context);
 }
+
+-- the report of a process with these threads, this memory and these loaded images
+abbrev pub process_report : Context → List Registers → Contents → List Listed → Report
+process_report context threads memory listed = report_of context threads (images_of memory context.arch listed)

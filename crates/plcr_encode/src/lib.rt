@@ -3,6 +3,9 @@
 
 mod context;
 mod fields;
+mod frames;
+mod images;
+mod names;
 mod parts;
 mod report;
 #[cfg(test)]
@@ -10,4 +13,4 @@ mod tests;
 mod threads;
 
 pub use context::Context;
-pub use report::write_report;
+pub use report::capture;

@@ -1,5 +1,5 @@
 //! A whole report.
-ghost use Rattle.std.specs.Prelude.{◌≡◌, ◌+◌, ◌^◌, ◌<◌, ◌≤◌, [], length, IfOk, OnOk, OnErr};
+ghost use Rattle.std.specs.Prelude.{◌≡◌, ◌+◌, ◌^◌, ◌<◌, ◌≤◌, length, IfOk, OnOk, OnErr};
 ghost use Rattle.std.specs.Io.KnownBytes.{append_known};
 ghost use Rattle.plcr_base.specs.Causes.{Rose};
 ghost use Rattle.plcr_base.specs.Told.{AppendsProperFront};
@@ -7,14 +7,17 @@ ghost use Rattle.plcr_wire.specs.Message.{spelling};
 ghost use Rattle.plcr_wire.specs.Pen.{Wrote};
 ghost use Rattle.plcr_report.specs.Messages.{report_message};
 ghost use Rattle.plcr_report.specs.Spelling.{spelling_of};
-ghost use Rattle.plcr_encode.specs.Conditions.{AreWhole, IsWritable};
-ghost use Rattle.plcr_encode.specs.Values.{report_of};
+ghost use Rattle.plcr_encode.specs.Conditions.{AreWhole, AreNamable, IsWritable};
+ghost use Rattle.plcr_encode.specs.Values.{process_report};
 
 use crate::context::Context;
 use crate::fields::put_message;
+use crate::images::put_images;
 use crate::parts::{ApplicationPart, InfoPart, ProcessPart, SignalPart, SystemPart};
 use crate::threads::put_threads;
 use plcr_io::{PutFailed, Sink};
+use plcr_macho::Images;
+use plcr_memory::Memory;
 use plcr_regs::Registers;
 use plcr_report::Report;
 use plcr_wire::{Buffered, Ink};
@@ -22,43 +25,60 @@ use plcr_wire::{Buffered, Ink};
 /// What a report file begins with: its magic text and its version, 1.
 const HEAD: [u8; 8] = *b"plcrash\x01";
 
-/// Writes the fields of a report without images, and gives the length of what was written.
-fn put_root<W: Ink>(ink: &mut W, threads: &[Registers], context: &Context) -> u64
+/// Writes the fields of a report, and gives the length of what was written.
+fn put_root<I: Images, W: Ink>(
+    ink: &mut W,
+    images: &mut I,
+    memory: &Memory,
+    threads: &[Registers],
+    context: &Context,
+) -> u64
     requires few { length threads.now < 2 ^ 32 }
     requires context { IsWritable context.now }
-    ensures wrote { Wrote (W.pen ink.old) (W.pen ink.new) (spelling (report_message (report_of context.now threads.now []))) }
-    ensures size { result ≡ length (spelling (report_message (report_of context.now threads.now []))) }
+    requires images { AreNamable (I.images images.old) }
+    ensures wrote { Wrote (W.pen ink.old) (W.pen ink.new) (spelling (report_message (process_report context.now threads.now memory.now (I.images images.old)))) }
+    ensures size { result ≡ length (spelling (report_message (process_report context.now threads.now memory.now (I.images images.old)))) }
     ensures short { result < 2 ^ 60 }
+    ensures same { I.images images.new ≡ I.images images.old }
+    ensures follows { I.follows images.old images.new }
 {
     let system = put_message(ink, Report::SYSTEM_INFO, &SystemPart { context });
     let application = put_message(ink, Report::APPLICATION_INFO, &ApplicationPart { context });
     let threads = put_threads(ink, threads, context.crashed);
+    let images = put_images(ink, images, memory, context.arch);
     let signal = put_message(ink, Report::SIGNAL, &SignalPart { context });
     let process = put_message(ink, Report::PROCESS_INFO, &ProcessPart { context });
     let info = put_message(ink, Report::REPORT_INFO, &InfoPart { context });
-    system + application + threads + signal + process + info
+    system + application + threads + images + signal + process + info
 }
 
-/// Writes the report of a process with these threads and no images, and gives its length in bytes. At
-/// `PutFailed` the sink has a front of it, and not all. File format: PLCrashReporter's
-/// crash_report.proto, behind the text `plcrash` and the version 1.
-pub fn write_report<K: Sink>(
+/// Writes the report of a process with these images, this memory and these threads, and gives its
+/// length in bytes. At `PutFailed` the sink has a front of it, and not all. File format:
+/// PLCrashReporter's crash_report.proto, behind the text `plcrash` and the version 1.
+///
+/// It takes no memory. The sink is given pieces of at most 256 bytes.
+pub fn capture<I: Images, K: Sink>(
+    images: &mut I,
+    memory: &Memory,
     threads: &[Registers],
     context: &Context,
     sink: &mut K,
 ) -> Result<u64, PutFailed>
     requires threads { AreWhole context.now.arch threads.now }
     requires context { IsWritable context.now }
-    ensures written { OnOk result (K.written sink.new ≡ append_known (K.written sink.old) (spelling_of (report_of context.now threads.now []))) }
-    ensures length { IfOk result (λ n. n ≡ length (spelling_of (report_of context.now threads.now []))) }
-    ensures err { OnErr result (AppendsProperFront (K.written sink.old) (K.written sink.new) (spelling_of (report_of context.now threads.now []))) }
+    requires images { AreNamable (I.images images.old) }
+    ensures written { OnOk result (K.written sink.new ≡ append_known (K.written sink.old) (spelling_of (process_report context.now threads.now memory.now (I.images images.old)))) }
+    ensures length { IfOk result (λ n. n ≡ length (spelling_of (process_report context.now threads.now memory.now (I.images images.old)))) }
+    ensures err { OnErr result (AppendsProperFront (K.written sink.old) (K.written sink.new) (spelling_of (process_report context.now threads.now memory.now (I.images images.old)))) }
     ensures cause { OnErr result (Rose (K.faults sink.old) (K.faults sink.new)) }
     ensures later { K.faults sink.old ≤ K.faults sink.new }
     ensures mark { K.mark sink.new ≡ K.mark sink.old }
+    ensures same { I.images images.new ≡ I.images images.old }
+    ensures follows { I.follows images.old images.new }
 {
     let mut buffered = Buffered::new(sink);
     buffered.raw(&HEAD);
-    let length = put_root(&mut buffered, threads, context);
+    let length = put_root(&mut buffered, images, memory, threads, context);
     buffered.finish()?;
     Ok(HEAD.len() as u64 + length)
 }

@@ -1,10 +1,16 @@
-ghost use Rattle.std.specs.Prelude.{◌≡◌};
+ghost use Rattle.std.specs.Prelude.{◌≡◌, ◌≤◌, All, IsTrue, length};
+ghost use Rattle.plcr_memory.specs.Regions.{IsBacked};
 ghost use Rattle.plcr_regs.specs.States.{IsWhole};
-ghost use Rattle.plcr_encode.specs.Conditions.{IsWritable};
+ghost use Rattle.plcr_macho.specs.Images.{all_listed};
+ghost use Rattle.plcr_encode.specs.Conditions.{IsWritable, AreNamable};
 
 use super::*;
-use plcr_io::{MemOut, PutFailed};
+use arrayvec::ArrayVec;
+use plcr_io::{MemOut, PutFailed, Sink};
+use plcr_macho::{ListImages, PlainImage};
+use plcr_memory::{Memory, MemoryFault, Region};
 use plcr_regs::{Arch, Registers};
+use std::alloc::Global;
 use std::test::Fail;
 
 /// The report of one x86-64 thread, which crashed with rsp 0x7000 and rip 0x100000f50, all else 0.
@@ -27,6 +33,41 @@ const EXPECTED: [u8; 271] = [
     0x07, 0x53, 0x49, 0x47, 0x41, 0x42, 0x52, 0x54, 0x12, 0x02, 0x23, 0x30, 0x18, 0x00, 0x3a, 0x0b,
     0x0a, 0x03, 0x61, 0x70, 0x70, 0x10, 0x00, 0x28, 0x00, 0x30, 0x01, 0x4a, 0x02, 0x08, 0x00,
 ];
+
+/// An x86-64 dylib of subtype 3, made for 0x100000000: a header, a segment `__TEXT` of 0x4000 bytes and no
+/// sections, and a uuid of zeros.
+const IMAGE: [u8; 128] = [
+    0xcf, 0xfa, 0xed, 0xfe, 0x07, 0x00, 0x00, 0x01, 0x03, 0x00, 0x00, 0x00, 0x06, 0x00, 0x00, 0x00,
+    0x02, 0x00, 0x00, 0x00, 0x60, 0x00, 0x00, 0x00, 0x00, 0x00, 0x00, 0x00, 0x00, 0x00, 0x00, 0x00,
+    0x19, 0x00, 0x00, 0x00, 0x48, 0x00, 0x00, 0x00, 0x5f, 0x5f, 0x54, 0x45, 0x58, 0x54, 0x00, 0x00,
+    0x00, 0x00, 0x00, 0x00, 0x00, 0x00, 0x00, 0x00, 0x00, 0x00, 0x00, 0x00, 0x01, 0x00, 0x00, 0x00,
+    0x00, 0x40, 0x00, 0x00, 0x00, 0x00, 0x00, 0x00, 0x00, 0x00, 0x00, 0x00, 0x00, 0x00, 0x00, 0x00,
+    0x00, 0x40, 0x00, 0x00, 0x00, 0x00, 0x00, 0x00, 0x05, 0x00, 0x00, 0x00, 0x05, 0x00, 0x00, 0x00,
+    0x00, 0x00, 0x00, 0x00, 0x00, 0x00, 0x00, 0x00, 0x1b, 0x00, 0x00, 0x00, 0x18, 0x00, 0x00, 0x00,
+    0x00, 0x00, 0x00, 0x00, 0x00, 0x00, 0x00, 0x00, 0x00, 0x00, 0x00, 0x00, 0x00, 0x00, 0x00, 0x00,
+];
+
+/// What a report says of that image at 0x100000000 under the name `x`: base address, size, name, uuid, code type.
+const FIRST: [u8; 44] = [
+    0x22, 0x2a, 0x08, 0x80, 0x80, 0x80, 0x80, 0x10, 0x10, 0x80, 0x80, 0x01, 0x1a, 0x01, 0x78, 0x22,
+    0x10, 0x00, 0x00, 0x00, 0x00, 0x00, 0x00, 0x00, 0x00, 0x00, 0x00, 0x00, 0x00, 0x00, 0x00, 0x00,
+    0x00, 0x2a, 0x09, 0x08, 0x01, 0x10, 0x87, 0x80, 0x80, 0x08, 0x18, 0x03,
+];
+
+/// The same of an image at 0x100004000 with a uuid that ends with 1, under the name `yz`.
+const SECOND: [u8; 45] = [
+    0x22, 0x2b, 0x08, 0x80, 0x80, 0x81, 0x80, 0x10, 0x10, 0x80, 0x80, 0x01, 0x1a, 0x02, 0x79, 0x7a,
+    0x22, 0x10, 0x00, 0x00, 0x00, 0x00, 0x00, 0x00, 0x00, 0x00, 0x00, 0x00, 0x00, 0x00, 0x00, 0x00,
+    0x00, 0x01, 0x2a, 0x09, 0x08, 0x01, 0x10, 0x87, 0x80, 0x80, 0x08, 0x18, 0x03,
+];
+
+/// The same of 0x5000, where nothing is mapped, under the name `x`: no more than base address, size 0 and name.
+const UNKNOWN: [u8; 11] = [
+    0x22, 0x09, 0x08, 0x80, 0xa0, 0x01, 0x10, 0x00, 0x1a, 0x01, 0x78,
+];
+
+/// Where the images stand in the report.
+const IMAGES: usize = 237;
 
 fn stopped() -> Registers
     ensures { IsWhole Arch.X86_64 result }
@@ -94,19 +135,92 @@ fn context(crashed: u32, user: bool) -> Context<'static>
     }
 }
 
-fn write(context: &Context, out: &mut MemOut) -> Result<u64, PutFailed>
+fn all_backed(file: &[u8], regions: &[Region]) -> bool
+    ensures { IsTrue result → All (IsBacked file.now) regions.now }
+{
+    for region in regions {
+        let Region {
+            size,
+            from,
+            len,
+            ..
+        } = *region;
+        let held = from <= file.len() && len <= file.len() - from;
+        if !held || size == 0 || size < len as u64 {
+            return false;
+        }
+    }
+    true
+}
+
+/// The memory of two images.
+fn memory(alloc: Global) -> Result<Memory, MemoryFault> {
+    let mut second = IMAGE;
+    second[57] = 0x40;
+    second[127] = 1;
+    let mut file = IMAGE.to_vec(alloc)?;
+    file.extend_from_slice(&second)?;
+    let mut regions = Vec::new(alloc);
+    for (start, from) in [(0x1_0000_0000, 0), (0x1_0000_4000, 128)] {
+        regions.push(Region {
+            start,
+            size: 0x4000,
+            from,
+            len: 128,
+        })?;
+    }
+    if all_backed(file.as_slice(), regions.as_slice()) {
+        Memory::new(alloc, file, regions)
+    } else {
+        Err(MemoryFault::Memory)
+    }
+}
+
+fn image(header: u64, name: &[u8]) -> PlainImage {
+    let mut bytes = ArrayVec::new();
+    let _ = bytes.try_extend_from_slice(name);
+    PlainImage {
+        header,
+        name: bytes,
+    }
+}
+
+fn are_short(images: &[PlainImage]) -> bool
+    ensures { IsTrue result → All (λ image. length image.name.items ≤ 1024) images.now }
+{
+    images.iter().all(|image| image.name.len() <= 1024)
+}
+
+fn are_namable(images: &[PlainImage]) -> bool
+    ensures { IsTrue result → AreNamable (all_listed images.now) }
+{
+    are_short(images) && images.len() < 1000
+}
+
+fn write<K: Sink>(
+    images: &[PlainImage],
+    memory: &Memory,
+    context: &Context,
+    out: &mut K,
+) -> Result<u64, PutFailed>
     requires writable { IsWritable context.now }
     requires arch { context.now.arch ≡ Arch.X86_64 }
 {
-    write_report(&[stopped()], context, out)
+    if are_namable(images) {
+        let mut list = ListImages::new(images);
+        capture(&mut list, memory, &[stopped()], context, out)
+    } else {
+        Ok(0)
+    }
 }
 
 #[test]
 fn the_bytes_of_a_report(rt: HostRuntime) -> Result<(), Fail> {
     let alloc = rt.alloc();
+    let memory = memory(alloc)?;
     for most in [1000, 100] {
         let mut out = MemOut::new(alloc, 271, most, Vec::new(alloc))?;
-        assert_eq!(rt; write(&context(0, false), &mut out), Ok(271));
+        assert_eq!(rt; write(&[], &memory, &context(0, false), &mut out), Ok(271));
         assert_eq!(rt; out.bytes(), EXPECTED.as_slice());
     }
 
@@ -114,19 +228,128 @@ fn the_bytes_of_a_report(rt: HostRuntime) -> Result<(), Fail> {
     other[43] = 0;
     other[270] = 1;
     let mut out = MemOut::new(alloc, 271, 1000, Vec::new(alloc))?;
-    assert_eq!(rt; write(&context(1, true), &mut out), Ok(271));
+    assert_eq!(rt; write(&[], &memory, &context(1, true), &mut out), Ok(271));
     assert_eq!(rt; out.bytes(), other.as_slice());
     Ok(())
 }
 
-/// The first piece has 256 bytes, and the second the rest.
+#[test]
+fn the_bytes_of_images(rt: HostRuntime) -> Result<(), Fail> {
+    let alloc = rt.alloc();
+    let memory = memory(alloc)?;
+    let images = [
+        image(0x1_0000_0000, b"x"),
+        image(0x5000, b"x"),
+        image(0x1_0000_4000, b"yz"),
+    ];
+    let mut out = MemOut::new(alloc, 371, 1000, Vec::new(alloc))?;
+    assert_eq!(rt;
+        write(&images, &memory, &context(0, false), &mut out),
+        Ok(371)
+    );
+    let mut want = EXPECTED.as_slice().split_at(IMAGES).0.to_vec(alloc)?;
+    want.extend_from_slice(&FIRST)?;
+    want.extend_from_slice(&UNKNOWN)?;
+    want.extend_from_slice(&SECOND)?;
+    want.extend_from_slice(EXPECTED.as_slice().split_at(IMAGES).1)?;
+    assert_eq!(rt; out.bytes(), want.as_slice());
+    Ok(())
+}
+
+#[test]
+fn the_lengths_of_reports_with_images(rt: HostRuntime) -> Result<(), Fail> {
+    let alloc = rt.alloc();
+    let memory = memory(alloc)?;
+    let one = [image(0x1_0000_0000, b"x")];
+    let unnamed = [image(0x1_0000_0000, b"")];
+    let nine = [image(0x1_0000_0000, b"eight or9")];
+    let unknown = [image(0x5000, b"x")];
+    let rows = [
+        (one.as_slice(), 271 + 44),
+        (unnamed.as_slice(), 271 + 43),
+        (nine.as_slice(), 271 + 52),
+        (unknown.as_slice(), 271 + 11),
+    ];
+    for (images, want) in rows {
+        let mut out = MemOut::new(alloc, 400, 1000, Vec::new(alloc))?;
+        assert_eq!(rt;
+            write(images, &memory, &context(0, false), &mut out),
+            Ok(want)
+        );
+        assert_eq!(rt; out.bytes().len() as u64, want);
+    }
+    Ok(())
+}
+
+/// A sink that takes all, and remembers its largest piece.
+#[derive(Drop)]
+struct Largest {
+    largest: usize,
+    total: u64,
+}
+
+impl Sink for Largest {
+    ghost use Rattle.std.specs.Prelude.{None, []};
+
+    ghost written = { λ sink. None };
+
+    ghost faults = { λ sink. 0 };
+
+    ghost mark = { λ sink. [] };
+
+    fn put(&mut self, piece: &[u8]) -> Result<usize, PutFailed> {
+        self.largest = self.largest.max(piece.len());
+        self.total = self.total.saturating_add(piece.len() as u64);
+        Ok(piece.len())
+    }
+}
+
+#[test]
+fn pieces_are_small(rt: HostRuntime) -> Result<(), Fail> {
+    let alloc = rt.alloc();
+    let memory = memory(alloc)?;
+    let name = [0x61; 1024];
+    let images = [
+        image(0x1_0000_0000, &name),
+        image(0x5000, &name),
+        image(0x1_0000_4000, &name),
+        image(0x1_0000_0000, &name),
+    ];
+    let mut sink = Largest {
+        largest: 0,
+        total: 0,
+    };
+    let written = write(&images, &memory, &context(0, false), &mut sink);
+    assert!(rt; written == Ok(sink.total));
+    assert!(rt; sink.total > 4000);
+    assert!(rt; sink.largest <= 256);
+    Ok(())
+}
+
+/// The first two pieces have 256 bytes each, and the third the rest.
 #[test]
 fn a_sink_that_fails(rt: HostRuntime) -> Result<(), Fail> {
     let alloc = rt.alloc();
-    for (failing, written) in [(1, 0), (2, 256)] {
-        let mut out = MemOut::new(alloc, 271, 1000, vec![in alloc; failing]?)?;
-        assert_eq!(rt; write(&context(0, false), &mut out), Err(PutFailed));
-        assert_eq!(rt; out.bytes(), EXPECTED.as_slice().split_at(written).0);
+    let memory = memory(alloc)?;
+    let mut images = Vec::new(alloc);
+    let mut want = EXPECTED.as_slice().split_at(IMAGES).0.to_vec(alloc)?;
+    for letter in *b"ABCDEFGH" {
+        images.push(image(0x1_0000_0000, &[letter]))?;
+        let mut message = FIRST;
+        message[14] = letter;
+        want.extend_from_slice(&message)?;
     }
+    want.extend_from_slice(EXPECTED.as_slice().split_at(IMAGES).1)?;
+    assert_eq!(rt; want.len(), 623);
+    for (failing, written) in [(1, 0), (2, 256), (3, 512)] {
+        let mut out = MemOut::new(alloc, 623, 1000, vec![in alloc; failing]?)?;
+        let result = write(images.as_slice(), &memory, &context(0, false), &mut out);
+        assert_eq!(rt; result, Err(PutFailed));
+        assert_eq!(rt; out.bytes(), want.as_slice().split_at(written).0);
+    }
+    let mut out = MemOut::new(alloc, 623, 1000, Vec::new(alloc))?;
+    let result = write(images.as_slice(), &memory, &context(0, false), &mut out);
+    assert_eq!(rt; result, Ok(623));
+    assert_eq!(rt; out.bytes(), want.as_slice());
     Ok(())
 }

@@ -1,14 +1,15 @@
-//! The threads of a report: their frames and registers.
+//! The threads of a report, with their registers.
 ghost use Rattle.std.specs.Prelude.{◌≡◌, ◌*◌, ◌^◌, ◌<◌, ◌≤◌, length};
 ghost use Rattle.plcr_wire.specs.Pen.{Wrote};
 ghost use Rattle.plcr_wire.specs.Message.{spelling};
-ghost use Rattle.plcr_report.specs.Messages.{frame_message, register_message, thread_message};
+ghost use Rattle.plcr_report.specs.Messages.{register_message, thread_message};
 ghost use Rattle.plcr_encode.specs.Rows.{message_fields};
-ghost use Rattle.plcr_encode.specs.Values.{pc_place, value_at, frames_of, registers_of, threads_of};
+ghost use Rattle.plcr_encode.specs.Values.{registers_of, threads_of};
 
 use crate::fields::{Message, put_flag, put_message, put_number, put_text};
-use plcr_regs::{Arch, Registers, count, name};
-use plcr_report::{Frame, Register, Report, Thread};
+use crate::frames::{find_frames, put_frames, value};
+use plcr_regs::{Registers, count, name};
+use plcr_report::{Register, Report, Thread};
 use plcr_wire::Ink;
 
 /// A register and its value.
@@ -38,61 +39,6 @@ impl Message for RegisterPart {
     ghost moderate = { lit< tt };
 }
 
-/// A frame with no symbol.
-#[derive(Drop)]
-struct FramePart {
-    pc: u64,
-}
-
-impl Message for FramePart {
-    ghost use Rattle.std.specs.Prelude.{None};
-    ghost use Rattle.std.proofs.Common.{lit<};
-    ghost use Rattle.plcr_report.specs.Messages.{frame_message};
-
-    ghost fields = { λ part. frame_message (record { pc = part.pc; symbol = None }) };
-
-    ghost fits = { λ part. Unit {0} };
-
-    ghost most = { 20 };
-
-    #[tactic(auto, using(plcr_wire::proofs::Writing::wrote_twice, plcr_wire::proofs::Writing::wrote_none), unfolding(plcr_report::specs::Messages::frame_message))]
-    fn put<W: Ink>(&self, ink: &mut W) {
-        put_number(ink, Frame::PC, self.pc);
-    }
-
-    ghost moderate = { lit< tt };
-}
-
-/// A register's value. In the states that are written each register is known.
-fn value(state: &Registers, i: usize) -> u64
-    requires { i < 34 }
-    ensures { result ≡ value_at state.now i }
-{
-    state.value[i].unwrap_or(0)
-}
-
-/// The place of the program counter among the registers.
-fn pc(arch: Arch) -> usize
-    ensures place { result ≡ pc_place arch }
-    ensures within { result < 34 }
-{
-    match arch {
-        Arch::X86_64 => 16,
-        Arch::Arm64 => 32,
-    }
-}
-
-/// Writes a thread's frames: the one that it was stopped in.
-fn put_frames<W: Ink>(ink: &mut W, state: &Registers)
-    ensures wrote { Wrote (W.pen ink.old) (W.pen ink.new) (spelling (message_fields 2 frame_message (frames_of state.now))) }
-    ensures short { length (spelling (message_fields 2 frame_message (frames_of state.now))) ≤ 40 }
-{
-    let part = FramePart {
-        pc: value(state, pc(state.arch)),
-    };
-    put_message(ink, Thread::FRAMES, &part);
-}
-
 /// Writes a thread's registers, in the order of its state.
 fn put_registers<W: Ink>(ink: &mut W, state: &Registers)
     ensures wrote { Wrote (W.pen ink.old) (W.pen ink.new) (spelling (message_fields 4 register_message (registers_of state.now))) }
@@ -107,30 +53,31 @@ fn put_registers<W: Ink>(ink: &mut W, state: &Registers)
     }
 }
 
-/// A thread: its number, that of the thread that crashed, and its state.
+/// A thread: its number, that of the thread that crashed, the program counters of its frames, and its state.
 #[derive(Drop)]
 struct ThreadPart<'a> {
     number: u32,
     crashed: u32,
+    pcs: &'a [u64],
     state: &'a Registers,
 }
 
 impl Message for ThreadPart<'_> {
-    ghost use Rattle.std.specs.Prelude.{◌^◌};
+    ghost use Rattle.std.specs.Prelude.{◌^◌, ◌≤◌, length};
     ghost use Rattle.std.proofs.Common.{lit<};
     ghost use Rattle.plcr_report.specs.Messages.{thread_message};
-    ghost use Rattle.plcr_encode.specs.Values.{thread_of};
+    ghost use Rattle.plcr_encode.specs.Values.{thread_with};
 
-    ghost fields = { λ part. thread_message (thread_of part.crashed (part.number, part.state.now)) };
+    ghost fields = { λ part. thread_message (thread_with part.crashed part.number part.pcs.now part.state.now) };
 
-    ghost fits = { λ part. Unit {0} };
+    ghost fits = { λ part. length part.pcs.now ≤ 512 };
 
-    ghost most = { 2 ^ 12 };
+    ghost most = { 2 ^ 15 };
 
     #[tactic(auto, using(plcr_wire::proofs::Writing::wrote_twice, plcr_wire::proofs::Writing::wrote_none))]
     fn put<W: Ink>(&self, ink: &mut W) {
         put_number(ink, Thread::THREAD_NUMBER, self.number as u64);
-        put_frames(ink, self.state);
+        put_frames(ink, self.pcs);
         put_flag(ink, Thread::CRASHED, self.number == self.crashed);
         put_registers(ink, self.state);
     }
@@ -138,7 +85,8 @@ impl Message for ThreadPart<'_> {
     ghost moderate = { lit< tt };
 }
 
-/// Writes the threads in these states, numbered from 0, and gives the length of what was written.
+/// Writes the threads in these states, numbered from 0, and gives the length of what was written. The
+/// frames of a thread are found once, and kept while it is sized and written.
 pub(crate) fn put_threads<W: Ink>(ink: &mut W, states: &[Registers], crashed: u32) -> u64
     requires { length states.now < 2 ^ 32 }
     ensures wrote { Wrote (W.pen ink.old) (W.pen ink.new) (spelling (message_fields 3 thread_message (threads_of crashed states.now))) }
@@ -147,9 +95,11 @@ pub(crate) fn put_threads<W: Ink>(ink: &mut W, states: &[Registers], crashed: u3
 {
     let mut length = 0;
     for (number, state) in states.iter().enumerate() {
+        let pcs = find_frames(state);
         let part = ThreadPart {
             number: number as u32,
             crashed,
+            pcs: pcs.as_slice(),
             state,
         };
         length += put_message(ink, Report::THREADS, &part);

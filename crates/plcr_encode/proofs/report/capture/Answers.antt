@@ -1,7 +1,7 @@
 use Rattle.std.proofs.Common.{rules, arith}
 use Rattle.plcr_report.specs.Spelling.{spelling_of}
 use Rattle.plcr_encode.proofs.Files.{file_ended, file_cut}
-use Rattle.plcr_encode.proofs.report.write_report.Goals as goal
+use Rattle.plcr_encode.proofs.report.capture.Goals as goal
 
 pub returns-in_err-finish-clause-err : goal.returns-in_err-finish-clause-err
 unfolding spelling_of

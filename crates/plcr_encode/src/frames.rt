@@ -1,0 +1,81 @@
+//! The frames of a thread.
+ghost use Rattle.std.specs.Prelude.{◌≡◌, ◌*◌, ◌<◌, ◌≤◌, length, map};
+ghost use Rattle.plcr_wire.specs.Pen.{Wrote};
+ghost use Rattle.plcr_wire.specs.Message.{spelling};
+ghost use Rattle.plcr_report.specs.Messages.{frame_message};
+ghost use Rattle.plcr_encode.specs.Rows.{message_fields};
+ghost use Rattle.plcr_encode.specs.Values.{pc_place, value_at, pcs_of, frame_at};
+
+use crate::fields::{Message, put_message, put_number};
+use arrayvec::ArrayVec;
+use plcr_regs::{Arch, Registers};
+use plcr_report::{Frame, Thread};
+use plcr_wire::Ink;
+
+/// How many frames of a thread are written.
+const FRAMES: usize = 512;
+
+/// A frame with no symbol.
+#[derive(Drop)]
+struct FramePart {
+    pc: u64,
+}
+
+impl Message for FramePart {
+    ghost use Rattle.std.proofs.Common.{lit<};
+    ghost use Rattle.plcr_report.specs.Messages.{frame_message};
+    ghost use Rattle.plcr_encode.specs.Values.{frame_at};
+
+    ghost fields = { λ part. frame_message (frame_at part.pc) };
+
+    ghost fits = { λ part. Unit {0} };
+
+    ghost most = { 20 };
+
+    #[tactic(auto, using(plcr_wire::proofs::Writing::wrote_twice, plcr_wire::proofs::Writing::wrote_none), unfolding(plcr_report::specs::Messages::frame_message))]
+    fn put<W: Ink>(&self, ink: &mut W) {
+        put_number(ink, Frame::PC, self.pc);
+    }
+
+    ghost moderate = { lit< tt };
+}
+
+/// A register's value. In the states that are written each register is known.
+pub(crate) fn value(state: &Registers, i: usize) -> u64
+    requires { i < 34 }
+    ensures { result ≡ value_at state.now i }
+{
+    state.value[i].unwrap_or(0)
+}
+
+/// The place of the program counter among the registers.
+fn pc(arch: Arch) -> usize
+    ensures place { result ≡ pc_place arch }
+    ensures within { result < 34 }
+{
+    match arch {
+        Arch::X86_64 => 16,
+        Arch::Arm64 => 32,
+    }
+}
+
+/// The program counters of a thread's frames: today that of the one that it was stopped in.
+pub(crate) fn find_frames(state: &Registers) -> ArrayVec<u64, FRAMES>
+    ensures found { result.items ≡ pcs_of state.now }
+    ensures few { length (pcs_of state.now) ≤ 512 }
+{
+    let mut pcs = ArrayVec::new();
+    pcs.push(value(state, pc(state.arch)));
+    pcs
+}
+
+/// Writes the frames with these program counters.
+pub(crate) fn put_frames<W: Ink>(ink: &mut W, pcs: &[u64])
+    requires { length pcs.now ≤ 512 }
+    ensures wrote { Wrote (W.pen ink.old) (W.pen ink.new) (spelling (message_fields 2 frame_message (map frame_at pcs.now))) }
+    ensures short { length (spelling (message_fields 2 frame_message (map frame_at pcs.now))) ≤ 40 * 512 }
+{
+    for pc in pcs {
+        put_message(ink, Thread::FRAMES, &FramePart { pc: *pc });
+    }
+}

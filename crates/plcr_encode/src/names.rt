@@ -1,0 +1,41 @@
+//! The names of images, read word by word.
+ghost use Rattle.std.specs.Prelude.{◌≡◌, ◌+◌, ◌<◌, ◌≤◌, ◌++◌, length, take};
+ghost use Rattle.std.specs.Int.{w64, to_le_bytes};
+ghost use Rattle.arrayvec.specs.ArrayVec.{array_vec_len};
+ghost use Rattle.plcr_macho.specs.Images.{listed_at};
+
+use arrayvec::ArrayVec;
+use plcr_macho::Images;
+
+/// How many bytes the name of an image has at most.
+const NAME: usize = 1024;
+
+/// Appends the first bytes of a word, the lowest first.
+fn push_front(name: &mut ArrayVec<u8, NAME>, word: u64, count: usize)
+    requires within { count ≤ 8 }
+    requires room { array_vec_len name.old + count ≤ 1024 }
+    ensures { name.new.items ≡ name.old.items ++ take count (to_le_bytes w64 word) }
+{
+    let bytes = word.to_le_bytes();
+    match name.try_extend_from_slice(&bytes[..count]) {
+        Ok(()) => {}
+        Err(_) => unreachable!(),
+    }
+}
+
+/// The name of the image at an index.
+pub(crate) fn name_of<I: Images>(images: &mut I, i: usize) -> ArrayVec<u8, NAME>
+    requires inside { i < length (I.images images.old) }
+    requires short { length (listed_at (I.images images.old) i).name ≤ 1024 }
+    ensures name { result.items ≡ (listed_at (I.images images.old) i).name }
+    ensures same { I.images images.new ≡ I.images images.old }
+    ensures follows { I.follows images.old images.new }
+{
+    let len = images.name_len(i);
+    let mut name = ArrayVec::new();
+    for j in 0..len.div_ceil(8) {
+        let word = images.name_word(i, j);
+        push_front(&mut name, word, (len - 8 * j).min(8));
+    }
+    name
+}
