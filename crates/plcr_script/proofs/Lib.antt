@@ -1,6 +1,10 @@
 pub mod Cutting
 pub mod Digits
 pub mod Naming
+pub mod Numbering
 pub mod Steps
+pub mod Lawfulness
 pub mod SameContexts
 pub mod WholeScripts
+pub mod SaidScripts
+pub mod WorkedRuns

@@ -1,14 +1,11 @@
 -- Contexts that say the same make the same report.
-use Rattle.std.proofs.Common.{◌≡◌, List, arith, refl}
-use Rattle.plcr_regs.specs.declared.arch.Arch.{Arch}
+use Rattle.std.proofs.Common.{◌≡◌, List, refl}
 use Rattle.plcr_regs.specs.declared.registers.Registers.{Registers}
 use Rattle.plcr_report.specs.declared.messages.Image.{Image}
 use Rattle.plcr_encode.specs.declared.context.Context.{Context}
 use Rattle.plcr_encode.specs.Values.{report_of}
 use Rattle.plcr_encode.specs.Conditions.{IsWritable}
-use Rattle.plcr_script.specs.declared.statements.NumberedStatement.{NumberedStatement}
-use Rattle.plcr_script.specs.Reading.{script_of}
-use Rattle.plcr_script.specs.Contexts.{SaysSame, context_of}
+use Rattle.plcr_script.specs.Contexts.{SaysSame}
 
 -- they make the same report
 pub same_report : (a b : Context) (threads : List Registers) (images : List Image) → SaysSame a b → report_of a threads images ≡ report_of b threads images
@@ -26,17 +23,4 @@ same_writable a b h w = record {
   signal = rw h.signal w.signal;
   code = rw h.code w.code;
   process = rw h.process w.process;
-}
-
--- the default values can be written
-pub default_writable : (statements : List NumberedStatement) (arch : Arch) → IsWritable (context_of (script_of statements) arch)
-default_writable statements arch = record {
-  os = omega arith;
-  timestamp = omega arith;
-  os_version = omega arith;
-  identifier = omega arith;
-  version = omega arith;
-  signal = omega arith;
-  code = omega arith;
-  process = omega arith;
 }

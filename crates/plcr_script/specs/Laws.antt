@@ -1,35 +1,80 @@
 -- What the meaning of a script says of its lines as a whole.
-use Rattle.std.specs.Prelude.{◌≡◌, ◌≢◌, ℕ, ◌+◌, List, [], Option, Some, None, Ok, Err, take, filter_map, AllPairs, slice_get, if◌then◌else◌}
-use Rattle.std.specs.List.{enumerate_from}
+use Rattle.std.specs.Prelude.{◌≡◌, ◌≢◌, ℕ, ◌+◌, Bool, true, false, List, [], ◌∷◌, Option, Some, None, Ok, Err, take, drop, fold, All, AllPairs, IsFalse, slice_get, if◌then◌else◌}
+use Rattle.std.specs.List.{enumerate_from, filter_map}
 use Rattle.std.specs.Option.{option_map}
 use Rattle.std.specs.Result.{result_ok}
 use Rattle.plcr_script.specs.declared.faults.Kind.{Kind}
 use Rattle.plcr_script.specs.declared.statements.NumberedStatement.{NumberedStatement}
-use Rattle.plcr_script.specs.Splits.{words}
+use Rattle.plcr_script.specs.declared.values.DescriptiveValues.{DescriptiveValues}
+use Rattle.plcr_script.specs.Keys.{with_number, with_text}
+use Rattle.plcr_script.specs.Values.{default_values}
 use Rattle.plcr_script.specs.Refusals.{Refusal, kind_number}
 use Rattle.plcr_script.specs.Scripts.{ScriptValue}
-use Rattle.plcr_script.specs.Reading.{says_nothing, statement_in, file_of, with_line, with_lines, script_of}
+use Rattle.plcr_script.specs.Sayings.{Saying, Sizes, Number, Words, States, says_nothing, saying_in}
+use Rattle.plcr_script.specs.Reading.{DraftValue, no_lines, files_of, with_line, with_lines}
 
--- the statement of a numbered line by itself, if it has one
-abbrev pub told_by : ℕ → ℕ × List ℕ → Option NumberedStatement
-told_by passes line = if says_nothing line.1 then None else option_map (λ s. record { line = line.0; statement = s }) (result_ok (statement_in passes (words line.1)))
+-- what a line says, with the line's number
+pub record NumberedSaying : Type 0 where
+  pub line : ℕ
+  pub saying : Saying
 
--- the statements of all lines, each read by itself
-abbrev pub statements_of : List (List ℕ) → List NumberedStatement
-statements_of texts = filter_map (told_by 16) (enumerate_from 1 texts)
+-- what a numbered line says by itself, if anything
+abbrev pub said_by : ℕ → ℕ × List ℕ → Option NumberedSaying
+said_by passes line = if says_nothing line.1 then None else option_map (λ s. record { line = line.0; saying = s }) (result_ok (saying_in passes line.1))
 
--- no two statements write one file
-abbrev pub WriteApart : List NumberedStatement → Type 0
-WriteApart statements = AllPairs (λ s t. file_of s.statement ≢ file_of t.statement) statements
+-- what the lines from a number on say, each by itself, where there are this many passes
+abbrev pub sayings_from : ℕ → ℕ → List (List ℕ) → List NumberedSaying
+sayings_from number passes texts = filter_map (said_by passes) (enumerate_from number texts)
+
+-- the statement of a numbered saying, if it is one
+abbrev pub statement_by : ℕ → Saying → Option NumberedStatement
+statement_by line (Sizes nodes passes) = None
+statement_by line (Number key number) = None
+statement_by line (Words key text) = None
+statement_by line (States statement) = Some (record { line = line; statement = statement })
+
+-- the values after a saying
+abbrev pub values_by : DescriptiveValues → Saying → DescriptiveValues
+values_by values (Sizes nodes passes) = values
+values_by values (Number key number) = with_number key number values
+values_by values (Words key text) = with_text key text values
+values_by values (States statement) = values
+
+-- whether a saying names sizes
+abbrev pub is_sizes : Saying → Bool
+is_sizes (Sizes nodes passes) = true
+is_sizes (Number key number) = false
+is_sizes (Words key text) = false
+is_sizes (States statement) = false
+
+-- the sizes where this is said first: those that it names, else 1024 nodes and 16 passes
+abbrev pub sizes_by : Saying → ℕ × ℕ
+sizes_by (Sizes nodes passes) = (nodes, passes)
+sizes_by (Number key number) = (1024, 16)
+sizes_by (Words key text) = (1024, 16)
+sizes_by (States statement) = (1024, 16)
+
+abbrev pub sizes_in : List NumberedSaying → ℕ × ℕ
+sizes_in [] = (1024, 16)
+sizes_in (first ∷ others) = sizes_by first.saying
+
+-- a script is what its lines say, each read by itself: its statements in order, the sizes that the first saying names and no other does, and the values one after the other, so that the last of a key counts. No two statements write one file
+pub record IsSaidBy (sayings : List NumberedSaying) (script : ScriptValue) : Type 0 where
+  pub statements : script.statements ≡ filter_map (λ s. statement_by s.line s.saying) sayings
+  pub nodes : script.nodes ≡ (sizes_in sayings).0
+  pub passes : script.passes ≡ (sizes_in sayings).1
+  pub once : All (λ (s : NumberedSaying). IsFalse (is_sizes s.saying)) (drop 1 sayings)
+  pub values : script.values ≡ fold (λ values s. values_by values s.saying) default_values sayings
+  pub apart : AllPairs (λ f g. f ≢ g) (files_of script.statements)
 
 -- a line is the first that is refused: those before it make a script, after which this line is refused
 pub record IsFirstRefused (texts : List (List ℕ)) (refusal : Refusal) : Type 0 where
   pub before : ℕ
-  pub script : ScriptValue
+  pub draft : DraftValue
   pub text : List ℕ
   pub kind : Kind
   pub number : refusal.line ≡ before + 1
-  pub accepted : with_lines (script_of []) 1 (take before texts) ≡ Ok script
+  pub accepted : with_lines no_lines 1 (take before texts) ≡ Ok draft
   pub stands : slice_get texts before ≡ Some text
-  pub refused : with_line script refusal.line text ≡ Err kind
+  pub refused : with_line draft refusal.line text ≡ Err kind
   pub told : refusal.kind ≡ kind_number kind

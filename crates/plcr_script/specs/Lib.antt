@@ -1,11 +1,17 @@
 pub mod Splits
 pub mod Numerals
 pub mod Values
+pub mod Keys
 pub mod Refusals
 pub mod Scripts
+pub mod Sayings
 pub mod Reading
 pub mod Wording
 pub mod Names
 pub mod Log
 pub mod Contexts
+pub mod Lawful
 pub mod Laws
+pub mod Changes
+pub mod Runs
+pub mod Worked

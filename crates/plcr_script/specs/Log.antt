@@ -1,7 +1,7 @@
 -- The lines of a run's log.
 use Rattle.std.specs.Prelude.{ℕ, List, [], ◌∷◌, ◌++◌, Option, Some, None, codes, decimal}
 use Rattle.plcr_script.specs.declared.outcomes.Outcome.{Outcome}
-use Rattle.plcr_script.specs.declared.outcomes.Outcome.TheVariants.{Reported}
+use Rattle.plcr_script.specs.declared.outcomes.Outcome.TheVariants.{Busy, NotImage, Worn, Long, Full, NotLoaded, Loaded, Unloaded, Reported}
 
 -- each number in decimal after a space
 abbrev pub numbers : List ℕ → List ℕ
@@ -19,6 +19,14 @@ report_text file ns = codes " report " ++ file ++ numbers ns
 
 -- what stands after the place: a space and the outcome
 abbrev pub outcome_text : Outcome → List ℕ
+outcome_text Busy = codes " busy"
+outcome_text (NotImage kind) = codes " notimage" ++ numbers (kind ∷ [])
+outcome_text (Worn changes) = codes " worn" ++ numbers (changes ∷ [])
+outcome_text (Long len) = codes " long" ++ numbers (len ∷ [])
+outcome_text (Full live held seen) = codes " full" ++ numbers (live ∷ held ∷ seen ∷ [])
+outcome_text NotLoaded = codes " notloaded"
+outcome_text (Loaded load) = codes " load" ++ numbers (load ∷ [])
+outcome_text (Unloaded load) = codes " unload" ++ numbers (load ∷ [])
 outcome_text (Reported file bytes images low high) = report_text file.now (bytes ∷ images ∷ low ∷ high ∷ [])
 
 -- the line of an outcome, with its newline

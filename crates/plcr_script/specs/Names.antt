@@ -1,4 +1,4 @@
--- The set of the files that the statements so far name.
+-- The set of the files that the statements so far write.
 use Rattle.std.specs.Prelude.{◌≡◌, ℕ, Bool, List}
 use Rattle.std.specs.Ordering.{nat_cmp}
 use Rattle.std.specs.Cmp.Lexicographic.{slice_cmp}
@@ -11,6 +11,6 @@ use Rattle.plcr_script.specs.Reading.{is_named}
 abbrev pub has : BTreeSet (Bor (List ℕ)) → List ℕ → Bool
 has names name = contains_by (λ k. slice_cmp nat_cmp name k.now) names
 
--- the set has just the files that the statements name
+-- the set has just the files that the statements write
 abbrev pub IsIndex : BTreeSet (Bor (List ℕ)) → List NumberedStatement → Type 0
 IsIndex names statements = (name : List ℕ) → has names name ≡ is_named name statements

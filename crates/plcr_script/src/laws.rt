@@ -3,14 +3,12 @@ ghost use Rattle.std.specs.Prelude.{◌≡◌, ℕ, List, Ok, Err};
 ghost use Rattle.plcr_script.specs.Splits.{lines};
 ghost use Rattle.plcr_script.specs.Refusals.{Refusal};
 ghost use Rattle.plcr_script.specs.Scripts.{ScriptValue};
-ghost use Rattle.plcr_script.specs.Reading.{script_in, script_of};
-ghost use Rattle.plcr_script.specs.Laws.{IsFirstRefused, WriteApart, statements_of};
+ghost use Rattle.plcr_script.specs.Reading.{script_in};
+ghost use Rattle.plcr_script.specs.Laws.{IsFirstRefused, IsSaidBy, sayings_from};
 
-/// A law of the definitions, which needs no work: a script that is read has the statements of its
-/// lines, each read by itself, and no two of them write one file; a line that is refused is the
-/// first that is.
+/// A law of the definitions, which needs no work: a script that is read is what its lines say,
+/// each read by itself; a line that is refused is the first that is.
 pub fn scripts_are_read_line_by_line()
-    ensures statements { (bytes : List ℕ) (script : ScriptValue) → script_in bytes ≡ Ok script → script ≡ script_of (statements_of (lines bytes)) }
-    ensures apart { (bytes : List ℕ) (script : ScriptValue) → script_in bytes ≡ Ok script → WriteApart script.statements }
+    ensures said { (bytes : List ℕ) (script : ScriptValue) → script_in bytes ≡ Ok script → IsSaidBy (sayings_from 1 script.passes (lines bytes)) script }
     ensures refused { (bytes : List ℕ) (refusal : Refusal) → script_in bytes ≡ Err refusal → IsFirstRefused (lines bytes) refusal }
 {}

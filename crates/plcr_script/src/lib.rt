@@ -1,11 +1,14 @@
 //! Scripts, which say what a run does, and the lines of a run's log.
 #![tactic(auto)]
 
+mod drafts;
 mod faults;
 mod gathering;
+mod keys;
 mod laws;
 mod numerals;
 mod outcomes;
+mod process;
 mod reading;
 mod scripts;
 mod splitting;
@@ -14,12 +17,15 @@ mod statements;
 mod tests;
 mod values;
 mod wording;
+mod worked;
 
 pub use faults::ScriptFault;
 pub use gathering::{add_bytes, add_decimal, put_parts};
 pub use laws::scripts_are_read_line_by_line;
 pub use outcomes::{Outcome, write_outcome};
+pub use process::Process;
 pub use reading::{Mode, read_script};
 pub use scripts::Script;
 pub use statements::{NumberedStatement, Statement, Text};
 pub use values::DescriptiveValues;
+pub use worked::worked_runs;

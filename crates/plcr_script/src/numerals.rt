@@ -1,5 +1,5 @@
 //! Numbers as scripts write them.
-ghost use Rattle.std.specs.Prelude.{◌≡◌, ◌≤◌, ◌^◌, length};
+ghost use Rattle.std.specs.Prelude.{◌≡◌, ◌<◌, ◌≤◌, ◌^◌, length, IfSome};
 ghost use Rattle.std.specs.Option.{SomeIff};
 ghost use Rattle.std.specs.Str.Parse.{AllDigits, digits_value};
 ghost use Rattle.plcr_script.specs.Numerals.{IsBase, numeral_in, number_in, below};
@@ -15,6 +15,22 @@ pub(crate) fn small_number(word: &[u8]) -> Option<u32>
     ensures { result ≡ below (2 ^ 32) (number_in word.now) }
 {
     u32::try_from(number(word)?).ok()
+}
+
+/// The number below 2^64 that a word writes.
+pub(crate) fn long_number(word: &[u8]) -> Option<u64>
+    ensures { result ≡ below (2 ^ 64) (number_in word.now) }
+{
+    u64::try_from(number(word)?).ok()
+}
+
+/// The number below a limit that a word writes.
+pub(crate) fn number_below(limit: u128, word: &[u8]) -> Option<u128>
+    ensures number { result ≡ below limit (number_in word.now) }
+    ensures below { IfSome result (λ number. number < limit) }
+{
+    let number = number(word)?;
+    if number < limit { Some(number) } else { None }
 }
 
 /// The number that a word writes.

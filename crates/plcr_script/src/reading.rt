@@ -1,24 +1,21 @@
 //! A script is read from its bytes.
-ghost use Rattle.std.specs.Prelude.{◌≡◌, ◌<◌, ◌^◌, [], List, ℕ, ◌||◌, not, length, IfOk, OnOk, IfErr, Ok};
+ghost use Rattle.std.specs.Prelude.{◌≡◌, ◌<◌, ◌^◌, [], List, ℕ, ◌||◌, false, not, length, IfOk, OnOk, IfErr, Ok};
 ghost use Rattle.std.specs.Str.{bytes_eq};
 ghost use Rattle.plcr_script.specs.Refusals.{refused_at};
-ghost use Rattle.plcr_script.specs.Reading.{with_line, script_of, script_in, Tells, IsAnswer};
+ghost use Rattle.plcr_script.specs.Splits.{lines};
+ghost use Rattle.plcr_script.specs.Reading as reading;
+ghost use Rattle.plcr_script.specs.Reading.{no_lines, with_saying, with_line, with_lines, script_in, Tells, IsAnswer};
 ghost use Rattle.plcr_script.specs.Names.{has, IsIndex};
+ghost use Rattle.plcr_script.specs.Wording.{said};
+ghost use Rattle.plcr_script.specs.Lawful.{IsLawful};
 
+use crate::drafts::Draft;
 use crate::faults::{Kind, ScriptFault, refused};
 use crate::scripts::Script;
 use crate::splitting::first_line;
-use crate::statements::NumberedStatement;
-use crate::values::DescriptiveValues;
-use crate::wording::{says_nothing, wording_of};
+use crate::wording::{Wording, says_nothing, wording_of};
 use std::alloc::{AllocError, Global};
 use std::collections::BTreeSet;
-
-/// The nodes of the image list where a script names no sizes.
-const NODES: u32 = 1024;
-
-/// The passes where a script names no sizes.
-const PASSES: u32 = 16;
 
 /// What a script is read for.
 #[derive(Clone, Copy, Debug)]
@@ -33,6 +30,7 @@ pub enum Mode {
 ///
 /// `Refused` has the first refused line, from 1, and what is wrong with it. `Memory` is want of
 /// memory.
+#[tactic(auto, unfolding(crate::specs::Reading::script_in))]
 pub fn read_script(
     alloc: Global,
     bytes: &[u8],
@@ -42,67 +40,87 @@ pub fn read_script(
     requires short { length bytes.now < 2 ^ 32 }
     requires first { before.now ≡ [] }
     ensures exact { IsAnswer result (script_in bytes.now) }
+    ensures lawful { IfOk result IsLawful }
 {
     let Mode::Single = mode;
     let _ = before;
-    let values = DescriptiveValues::defaults(alloc)?;
-    let statements = read_statements(alloc, bytes)?;
-    Ok(Script {
-        statements,
-        nodes: NODES,
-        passes: PASSES,
-        values,
-    })
+    match read_lines(alloc, bytes) {
+        Ok(draft) => Ok(draft.finish()),
+        Err(fault) => Err(fault),
+    }
 }
 
-/// The statements of a script with the numbers of their lines.
-fn read_statements(alloc: Global, bytes: &[u8]) -> Result<Vec<NumberedStatement>, ScriptFault>
+/// What the lines of a script make.
+fn read_lines(alloc: Global, bytes: &[u8]) -> Result<Draft, ScriptFault>
     requires { length bytes.now < 2 ^ 32 }
-    ensures read { IfOk result (λ statements. script_in bytes.now ≡ Ok (script_of statements.items)) }
-    ensures refused { IfErr result (λ fault. Tells fault (script_in bytes.now)) }
+    ensures read { IfOk result (λ draft. with_lines no_lines 1 (lines bytes.now) ≡ Ok draft) }
+    ensures refused { IfErr result (λ fault. Tells fault (with_lines no_lines 1 (lines bytes.now))) }
+    ensures lawful { IfOk result (λ draft. IsLawful draft.script) }
 {
-    let mut statements = Vec::new(alloc);
+    let mut draft = Draft::new(alloc)?;
     let mut names = BTreeSet::new(alloc);
     let mut rest = bytes;
     let mut number: u64 = 1;
     while !rest.is_empty() {
         let (line, after) = first_line(rest);
-        add_line(alloc, &mut statements, &mut names, number as u32, line)?;
+        add_line(alloc, &mut draft, &mut names, number as u32, line)?;
         number += 1;
         rest = after;
     }
-    Ok(statements)
+    Ok(draft)
 }
 
-/// Adds the statement of a line, if it has one. `names` are the files that the statements name.
+/// Adds what a line says, if anything. `names` are the files that the statements write.
 fn add_line<'a>(
     alloc: Global,
-    statements: &mut Vec<NumberedStatement>,
+    draft: &mut Draft,
     names: &mut BTreeSet<&'a [u8]>,
     number: u32,
     line: &'a [u8],
 ) -> Result<(), ScriptFault>
-    requires { IsIndex names.old statements.old.items }
-    ensures added { OnOk result (with_line (script_of statements.old.items) number line.now ≡ Ok (script_of statements.new.items)) }
-    ensures index { OnOk result (IsIndex names.new statements.new.items) }
-    ensures refused { IfErr result (λ fault. Tells fault (refused_at number (with_line (script_of statements.old.items) number line.now))) }
+    requires index { IsIndex names.old draft.old.script.statements }
+    requires lawful { IsLawful draft.old.script }
+    requires short { length line.now < 2 ^ 32 }
+    ensures added { OnOk result (with_line draft.old number line.now ≡ Ok draft.new) }
+    ensures index { OnOk result (IsIndex names.new draft.new.script.statements) }
+    ensures lawful { OnOk result (IsLawful draft.new.script) }
+    ensures refused { IfErr result (λ fault. Tells fault (refused_at number (with_line draft.old number line.now))) }
 {
     if says_nothing(line) {
         return Ok(());
     }
-    let wording = match wording_of(PASSES, line) {
+    let wording = match wording_of(draft.passes(), line) {
         Ok(wording) => wording,
         Err(kind) => return Err(refused(number, kind)),
     };
-    if !add_name(names, wording.file())? {
+    if is_out_of_place(draft, names, wording)? {
         return Err(refused(number, Kind::OutOfPlace));
     }
-    let statement = wording.own(alloc)?;
-    statements.push(NumberedStatement {
-        line: number,
-        statement,
-    })?;
+    draft.add(alloc, number, wording)?;
     Ok(())
+}
+
+/// Whether this may not be said behind the lines so far. The file of a report joins the names.
+fn is_out_of_place<'a>(
+    draft: &Draft,
+    names: &mut BTreeSet<&'a [u8]>,
+    wording: Wording<'a>,
+) -> Result<bool, AllocError>
+    requires { IsIndex names.old draft.now.script.statements }
+    ensures out { IfOk result (λ out. out ≡ reading.is_out_of_place draft.now (said wording.entry)) }
+    ensures index { IfOk result (λ out. out ≡ false → (line : ℕ) → IsIndex names.new (with_saying draft.now.script line (said wording.entry)).statements) }
+{
+    match wording {
+        Wording::Sizes {
+            nodes: _,
+            passes: _,
+        } => Ok(draft.has_begun()),
+        Wording::Number { key: _, number: _ } => Ok(draft.has_statements()),
+        Wording::Words { key: _, text: _ } => Ok(draft.has_statements()),
+        Wording::Load { header: _, name: _ } => Ok(false),
+        Wording::Unload { header: _ } => Ok(false),
+        Wording::Report { pass: _, file } => Ok(!add_name(names, file)?),
+    }
 }
 
 /// Adds a name to a set, and tells whether it is new.

@@ -37,6 +37,10 @@ impl Text {
 /// One statement of a script.
 #[derive(Drop)]
 pub enum Statement {
+    /// An image is loaded: all steps of it.
+    Load { header: u64, name: Text },
+    /// The first image with the header is unloaded: all steps of it.
+    Unload { header: u64 },
     /// The pass enters if it is out, walks to the end, captures into the file, and leaves.
     Report { pass: u32, file: Text },
 }

@@ -1,6 +1,7 @@
 //! The descriptive values of reports, which a script may set.
-ghost use Rattle.std.specs.Prelude.{◌≡◌, IfOk};
+ghost use Rattle.std.specs.Prelude.{◌≡◌, ◌<◌, IfOk, OnOk};
 
+use crate::keys::{NumberKey, TextKey};
 use crate::statements::Text;
 use std::alloc::{AllocError, Global};
 
@@ -23,6 +24,7 @@ pub struct DescriptiveValues {
 }
 
 impl DescriptiveValues {
+    ghost use Rattle.plcr_script.specs.Keys.{limit_of, with_number, with_text};
     ghost use Rattle.plcr_script.specs.Values.{default_values};
 
     /// The values of a script that sets none.
@@ -44,5 +46,42 @@ impl DescriptiveValues {
             crashed: 0,
             user: false,
         })
+    }
+
+    /// Sets the number of a key.
+    pub(crate) fn set_number(&mut self, key: NumberKey, number: u64)
+        requires { number < limit_of key }
+        ensures { self.new ≡ with_number key number self.old }
+    {
+        match key {
+            NumberKey::Os => self.os = number as u32,
+            NumberKey::Timestamp => self.timestamp = number,
+            NumberKey::Address => self.address = number,
+            NumberKey::Pid => self.pid = number as u32,
+            NumberKey::Ppid => self.ppid = number as u32,
+            NumberKey::Crashed => self.crashed = number as u32,
+            NumberKey::User => self.user = number == 1,
+        }
+    }
+
+    /// Sets the text of a key.
+    pub(crate) fn set_text(
+        &mut self,
+        alloc: Global,
+        key: TextKey,
+        text: &[u8],
+    ) -> Result<(), AllocError>
+        ensures { OnOk result (self.new ≡ with_text key text.now self.old) }
+    {
+        let text = Text::new(alloc, text)?;
+        match key {
+            TextKey::OsVersion => self.os_version = text,
+            TextKey::Identifier => self.identifier = text,
+            TextKey::Version => self.version = text,
+            TextKey::Signal => self.signal = text,
+            TextKey::Code => self.code = text,
+            TextKey::Process => self.process = text,
+        }
+        Ok(())
     }
 }

@@ -1,88 +1,228 @@
-//! The statements of single lines.
-ghost use Rattle.std.specs.Prelude.{◌≡◌, [], ◌∷◌, IfOk};
+//! What single lines say.
+ghost use Rattle.std.specs.Prelude.{◌≡◌, ◌<◌, ◌≤◌, ◌^◌, [], ◌∷◌, length, IfOk, IfSome};
 ghost use Rattle.std.specs.List.{list_all};
 ghost use Rattle.std.specs.Option.{option_copied};
-ghost use Rattle.plcr_script.specs.Splits.{words, parts_after};
-ghost use Rattle.plcr_script.specs.Reading as reading;
-ghost use Rattle.plcr_script.specs.Reading.{report_in, statement_in};
-ghost use Rattle.plcr_script.specs.Wording.{IsWorded};
+ghost use Rattle.plcr_script.specs.Splits.{words};
+ghost use Rattle.plcr_script.specs.Sayings as sayings;
+ghost use Rattle.plcr_script.specs.Sayings.{table_in, set_in, load_in, unload_in, report_in, saying_of, saying_in, value_in, number_to};
+ghost use Rattle.plcr_script.specs.Lawful.{IsFit};
+ghost use Rattle.plcr_script.specs.Keys.{number_key_in, text_key_in};
+ghost use Rattle.plcr_script.specs.Wording.{IsWorded, said};
 
 use crate::faults::Kind;
-use crate::numerals::small_number;
-use crate::splitting::cut;
-use crate::statements::{Statement, Text};
-use std::alloc::{AllocError, Global};
+use crate::keys::{NumberKey, TextKey, limit_of, number_key, text_key};
+use crate::numerals::{long_number, number_below, small_number};
+use crate::splitting::first_word;
+
+/// The most nodes of an image list.
+const MOST_NODES: u32 = 4096;
+
+/// The most passes over an image list.
+const MOST_PASSES: u32 = 1024;
 
 /// The most bytes of a file's name.
 const FILE_NAME_BYTES: usize = 255;
 
-/// A statement as a line writes it.
+/// What a line says, as it is written.
 #[derive(Clone, Copy)]
 pub(crate) enum Wording<'a> {
+    Sizes { nodes: u32, passes: u32 },
+    Number { key: NumberKey, number: u64 },
+    Words { key: TextKey, text: &'a [u8] },
+    Load { header: u64, name: &'a [u8] },
+    Unload { header: u64 },
     Report { pass: u32, file: &'a [u8] },
 }
 
-impl<'a> Wording<'a> {
-    ghost use Rattle.plcr_script.specs.Reading.{file_of};
-    ghost use Rattle.plcr_script.specs.Wording.{statement_of};
-
-    /// The statement, with texts of its own.
-    pub(crate) fn own(self, alloc: Global) -> Result<Statement, AllocError>
-        ensures { IfOk result (λ statement. statement ≡ statement_of self.entry) }
-    {
-        match self {
-            Wording::Report { pass, file } => Ok(Statement::Report {
-                pass,
-                file: Text::new(alloc, file)?,
-            }),
-        }
-    }
-
-    /// The file that the statement writes.
-    pub(crate) fn file(self) -> &'a [u8]
-        ensures { result.now ≡ file_of (statement_of self.entry) }
-    {
-        match self {
-            Wording::Report { pass: _, file } => file,
-        }
-    }
-}
-
-/// The statement of a line that says something, by all tests but those of its place.
-#[tactic(auto, unfolding(crate::specs::Reading::statement_in))]
+/// What a line says, by all tests but those of its place.
 pub(crate) fn wording_of(passes: u32, line: &[u8]) -> Result<Wording<'_>, Kind>
-    ensures { IsWorded result (statement_in passes (words line.now)) }
+    requires { length line.now < 2 ^ 32 }
+    ensures worded { IsWorded result (saying_in passes line.now) }
+    ensures fits { IfOk result (λ wording. IsFit (said wording)) }
 {
-    let (word, others) = cut(b' ', line);
-    if word != b"report".as_slice() {
-        return Err(Kind::BadWord);
-    }
-    report(passes, others)
+    let (word, arguments) = first_word(line);
+    worded(passes, word, arguments)
 }
 
-/// The statement that begins with `report`, by what stands after this word.
-#[tactic(auto, unfolding(crate::specs::Reading::report_in))]
-fn report<'a>(passes: u32, arguments: Option<&'a [u8]>) -> Result<Wording<'a>, Kind>
-    ensures { IsWorded result (report_in passes (parts_after 32 (option_copied arguments.entry))) }
+/// What a line says, by its first word and what stands behind it.
+#[tactic(auto, unfolding(crate::specs::Sayings::saying_of))]
+fn worded<'a>(passes: u32, word: &[u8], arguments: Option<&'a [u8]>) -> Result<Wording<'a>, Kind>
+    requires { IfSome arguments (λ text. length text.now < 2 ^ 32) }
+    ensures worded { IsWorded result (saying_of passes word.now (option_copied arguments.entry)) }
+    ensures fits { IfOk result (λ wording. IsFit (said wording)) }
+{
+    if word == b"table".as_slice() {
+        return table(arguments);
+    }
+    if word == b"set".as_slice() {
+        return set(arguments);
+    }
+    if word == b"load".as_slice() {
+        return load(arguments);
+    }
+    if word == b"unload".as_slice() {
+        return unload(arguments);
+    }
+    if word == b"report".as_slice() {
+        return report(passes, arguments);
+    }
+    Err(Kind::BadWord)
+}
+
+/// `table`, by what stands after this word.
+#[tactic(auto, unfolding(crate::specs::Sayings::table_in))]
+fn table<'a>(arguments: Option<&'a [u8]>) -> Result<Wording<'a>, Kind>
+    ensures worded { IsWorded result (table_in (words (option_copied arguments.entry))) }
+    ensures fits { IfOk result (λ wording. IsFit (said wording)) }
 {
     let Some(arguments) = arguments else {
         return Err(Kind::TooFew);
     };
-    let (pass, others) = cut(b' ', arguments);
+    let (nodes, others) = first_word(arguments);
     let Some(others) = others else {
         return Err(Kind::TooFew);
     };
-    let (file, more) = cut(b' ', others);
+    let (passes, more) = first_word(others);
     if more.is_some() {
+        return Err(Kind::TooMany);
+    }
+    table_of(nodes, passes)
+}
+
+/// The sizes that two words write.
+#[tactic(auto, unfolding(crate::specs::Sayings::table_in))]
+fn table_of<'a>(nodes: &[u8], passes: &[u8]) -> Result<Wording<'a>, Kind>
+    ensures worded { IsWorded result (table_in (nodes.now ∷ passes.now ∷ [])) }
+    ensures fits { IfOk result (λ wording. IsFit (said wording)) }
+{
+    match size(MOST_NODES, nodes) {
+        Err(kind) => Err(kind),
+        Ok(nodes) => match size(MOST_PASSES, passes) {
+            Err(kind) => Err(kind),
+            Ok(passes) => Ok(Wording::Sizes { nodes, passes }),
+        },
+    }
+}
+
+/// The size that a word writes, from 1 to the greatest.
+fn size(most: u32, word: &[u8]) -> Result<u32, Kind>
+    ensures size { result ≡ number_to most word.now }
+    ensures within { IfOk result (λ number. (1 ≤ number) × (number ≤ most)) }
+{
+    match number_below(u128::from(most) + 1, word) {
+        None => Err(Kind::BadNumber),
+        Some(number) => {
+            if number < 1 {
+                Err(Kind::BadNumber)
+            } else {
+                Ok(number as u32)
+            }
+        }
+    }
+}
+
+/// `set`, by what stands after this word.
+#[tactic(auto, unfolding(crate::specs::Sayings::set_in))]
+fn set<'a>(arguments: Option<&'a [u8]>) -> Result<Wording<'a>, Kind>
+    requires { IfSome arguments (λ text. length text.now < 2 ^ 32) }
+    ensures worded { IsWorded result (set_in (option_copied arguments.entry)) }
+    ensures fits { IfOk result (λ wording. IsFit (said wording)) }
+{
+    let Some(arguments) = arguments else {
+        return Err(Kind::TooFew);
+    };
+    let (key, value) = first_word(arguments);
+    let Some(value) = value else {
+        return Err(Kind::TooFew);
+    };
+    setting(key, value)
+}
+
+/// The value of a key.
+fn setting<'a>(key: &[u8], value: &'a [u8]) -> Result<Wording<'a>, Kind>
+    requires { length value.now < 2 ^ 32 }
+    ensures worded { IsWorded result (value_in (number_key_in key.now) (text_key_in key.now) value.now) }
+    ensures fits { IfOk result (λ wording. IsFit (said wording)) }
+{
+    if let Some(key) = number_key(key) {
+        return match number_below(limit_of(key), value) {
+            None => Err(Kind::BadNumber),
+            Some(number) => Ok(Wording::Number {
+                key,
+                number: number as u64,
+            }),
+        };
+    }
+    match text_key(key) {
+        None => Err(Kind::BadWord),
+        Some(key) => Ok(Wording::Words { key, text: value }),
+    }
+}
+
+/// `load`, by what stands after this word.
+#[tactic(auto, unfolding(crate::specs::Sayings::load_in))]
+fn load<'a>(arguments: Option<&'a [u8]>) -> Result<Wording<'a>, Kind>
+    requires { IfSome arguments (λ text. length text.now < 2 ^ 32) }
+    ensures worded { IsWorded result (load_in (option_copied arguments.entry)) }
+    ensures fits { IfOk result (λ wording. IsFit (said wording)) }
+{
+    let Some(arguments) = arguments else {
+        return Err(Kind::TooFew);
+    };
+    let (header, name) = first_word(arguments);
+    let Some(header) = long_number(header) else {
+        return Err(Kind::BadNumber);
+    };
+    match name {
+        None => Ok(Wording::Load { header, name: &[] }),
+        Some(name) => Ok(Wording::Load { header, name }),
+    }
+}
+
+/// `unload`, by what stands after this word.
+#[tactic(auto, unfolding(crate::specs::Sayings::unload_in))]
+fn unload<'a>(arguments: Option<&'a [u8]>) -> Result<Wording<'a>, Kind>
+    ensures worded { IsWorded result (unload_in (words (option_copied arguments.entry))) }
+    ensures fits { IfOk result (λ wording. IsFit (said wording)) }
+{
+    let Some(arguments) = arguments else {
+        return Err(Kind::TooFew);
+    };
+    let (header, more) = first_word(arguments);
+    if more.is_some() {
+        return Err(Kind::TooMany);
+    }
+    match long_number(header) {
+        None => Err(Kind::BadNumber),
+        Some(header) => Ok(Wording::Unload { header }),
+    }
+}
+
+/// `report`, by what stands after this word.
+#[tactic(auto, unfolding(crate::specs::Sayings::report_in))]
+fn report<'a>(passes: u32, arguments: Option<&'a [u8]>) -> Result<Wording<'a>, Kind>
+    ensures worded { IsWorded result (report_in passes (words (option_copied arguments.entry))) }
+    ensures fits { IfOk result (λ wording. IsFit (said wording)) }
+{
+    let Some(arguments) = arguments else {
+        return Err(Kind::TooFew);
+    };
+    let (pass, others) = first_word(arguments);
+    let Some(others) = others else {
+        return Err(Kind::TooFew);
+    };
+    let (file, surplus) = first_word(others);
+    if surplus.is_some() {
         return Err(Kind::TooMany);
     }
     report_of(passes, pass, file)
 }
 
 /// The report of a pass into a file, by their words.
-#[tactic(auto, unfolding(crate::specs::Reading::report_in))]
+#[tactic(auto, unfolding(crate::specs::Sayings::report_in))]
 fn report_of<'a>(passes: u32, pass: &[u8], file: &'a [u8]) -> Result<Wording<'a>, Kind>
-    ensures { IsWorded result (report_in passes (pass.now ∷ file.now ∷ [])) }
+    ensures worded { IsWorded result (report_in passes (pass.now ∷ file.now ∷ [])) }
+    ensures fits { IfOk result (λ wording. IsFit (said wording)) }
 {
     let Some(pass) = small_number(pass) else {
         return Err(Kind::BadNumber);
@@ -98,21 +238,21 @@ fn report_of<'a>(passes: u32, pass: &[u8], file: &'a [u8]) -> Result<Wording<'a>
 
 /// Whether a word names a file.
 fn is_file_name(word: &[u8]) -> bool
-    ensures { result ≡ reading.is_file_name word.now }
+    ensures { result ≡ sayings.is_file_name word.now }
 {
     !word.is_empty() && word.len() <= FILE_NAME_BYTES && is_visible(word)
 }
 
 /// Whether all bytes are visible characters of ASCII.
 fn is_visible(word: &[u8]) -> bool
-    ensures { result ≡ list_all reading.is_visible word.now }
+    ensures { result ≡ list_all sayings.is_visible word.now }
 {
     word.iter().all(|b| *b >= 0x21 && *b <= 0x7e)
 }
 
 /// Whether a line is empty or a comment.
 pub(crate) fn says_nothing(line: &[u8]) -> bool
-    ensures { result ≡ reading.says_nothing line.now }
+    ensures { result ≡ sayings.says_nothing line.now }
 {
     match line.first() {
         None => true,

@@ -1,0 +1,265 @@
+-- What the lines of a script say, each by itself, makes the script.
+use Rattle.std.proofs.Common.{◌≡◌, ◌≢◌, ℕ, ◌+◌, ◌<◌, ◌^◌, Bool, true, false, List, [], ◌∷◌, ◌++◌, length, get_or, Option, Some, None, Result, Ok, Err, refl, sym, ◌∙◌, ap, subst, append_assoc, arith, rules}
+use Rattle.std.specs.Prelude.{All, AllPairs, IsFalse, drop, nat_lt, codes, if◌then◌else◌}
+use Rattle.std.specs.List.{filter_map, enumerate_from, list_any, fold}
+use Rattle.std.specs.Str.{bytes_eq}
+use Rattle.std.proofs.lemmas.Bool.{both_ways}
+use Rattle.std.proofs.lemmas.List.{append-nil}
+use Rattle.std.proofs.lemmas.List.Elements.{filter_map-append, All-nil, All-cons}
+use Rattle.std.proofs.lemmas.List.Folds.{list_any_at}
+use Rattle.std.proofs.lemmas.List.Quantifiers.{all_pairs_push}
+use Rattle.std.proofs.lemmas.Slice.Eq.{bytes_eq-Decides}
+use Rattle.plcr_script.specs.declared.statements.NumberedStatement.{NumberedStatement}
+use Rattle.plcr_script.specs.declared.values.DescriptiveValues.{DescriptiveValues}
+use Rattle.plcr_base.specs.Chains.{◌>>=◌}
+use Rattle.plcr_base.proofs.Chained.{bind_ok}
+use Rattle.plcr_script.specs.declared.faults.Kind.{Kind}
+use Rattle.plcr_script.specs.declared.faults.Kind.TheVariants.{BadWord, NoSuchPass}
+use Rattle.plcr_script.specs.declared.statements.Statement.{Statement}
+use Rattle.plcr_script.specs.declared.statements.Statement.TheVariants.{Load, Unload, Report}
+use Rattle.plcr_script.specs.Splits.{lines, words, first_word}
+use Rattle.plcr_script.specs.Refusals.{only_if}
+use Rattle.plcr_script.specs.Values.{default_values}
+use Rattle.plcr_script.specs.Scripts.{ScriptValue}
+use Rattle.plcr_script.specs.Sayings.{Saying, Sizes, Number, Words, States, says_nothing, is_file_name, number_below, table_in, set_in, load_in, unload_in, report_in, saying_of, saying_in}
+use Rattle.plcr_script.specs.Reading.{DraftValue, no_lines, with_said, is_out_of_place, is_named, is_taken, with_lines, script_in, file_of, files_of}
+use Rattle.plcr_script.specs.Laws.{NumberedSaying, said_by, sayings_from, statement_by, values_by, is_sizes, sizes_in, IsSaidBy}
+use Rattle.plcr_script.proofs.WholeScripts.{Turn, Silent, Said, lines_turn}
+
+-- a line that says nothing, and one that says this
+silent : (p n : ℕ) (line : List ℕ) → says_nothing line ≡ true → said_by p (n, line) ≡ None
+silent p n line h = rw h refl
+
+says : (p n : ℕ) (line : List ℕ) (s : Saying) → says_nothing line ≡ false → saying_in p line ≡ Ok s → said_by p (n, line) ≡ Some (record { line = n; saying = s })
+says p n line s h e = rw (h, e) refl
+
+silent_from : (p n : ℕ) (line : List ℕ) (others : List (List ℕ)) → says_nothing line ≡ true → sayings_from n p (line ∷ others) ≡ sayings_from (n + 1) p others
+silent_from p n line others h = rw (silent p n line h) refl
+
+says_from : (p n : ℕ) (line : List ℕ) (others : List (List ℕ)) (s : Saying) → says_nothing line ≡ false → saying_in p line ≡ Ok s → sayings_from n p (line ∷ others) ≡ record { line = n; saying = s } ∷ sayings_from (n + 1) p others
+says_from p n line others s h e = rw (says p n line s h e) refl
+
+-- the statements of sayings, and the values after them
+abbrev statements_by : List NumberedSaying → List NumberedStatement
+statements_by sayings = filter_map (λ s. statement_by s.line s.saying) sayings
+
+abbrev values_after : DescriptiveValues → List NumberedSaying → DescriptiveValues
+values_after values sayings = fold (λ values s. values_by values s.saying) values sayings
+
+abbrev NoSizes : NumberedSaying → Type 0
+NoSizes s = IsFalse (is_sizes s.saying)
+
+-- what sayings behind the first add to a draft
+record Later (draft out : DraftValue) (sayings : List NumberedSaying) : Type 0 where
+  nodes : out.script.nodes ≡ draft.script.nodes
+  passes : out.script.passes ≡ draft.script.passes
+  statements : out.script.statements ≡ draft.script.statements ++ statements_by sayings
+  values : out.script.values ≡ values_after draft.script.values sayings
+  none : All NoSizes sayings
+
+-- one more in front
+later_with : (draft out : DraftValue) (n : ℕ) (s : Saying) (sayings : List NumberedSaying) → is_sizes s ≡ false → Later (with_said draft n s) out sayings → Later draft out (record { line = n; saying = s } ∷ sayings)
+later_with draft out n (Sizes a b) sayings h l = absurd cc
+later_with draft out n (Number key number) sayings h l = record { nodes = l.nodes; passes = l.passes; statements = l.statements; values = l.values; none = All-cons NoSizes (record { line = n; saying = Number key number }) sayings (search rules) l.none }
+later_with draft out n (Words key text) sayings h l = record { nodes = l.nodes; passes = l.passes; statements = l.statements; values = l.values; none = All-cons NoSizes (record { line = n; saying = Words key text }) sayings (search rules) l.none }
+later_with draft out n (States statement) sayings h l = record {
+  nodes = l.nodes;
+  passes = l.passes;
+  statements = l.statements ∙ append_assoc draft.script.statements (record { line = n; statement = statement } ∷ []) (statements_by sayings);
+  values = l.values;
+  none = All-cons NoSizes (record { line = n; saying = States statement }) sayings (search rules) l.none;
+}
+
+-- sizes aren't named behind the first saying, and nothing else changes them
+not_sizes : (draft : DraftValue) (s : Saying) → draft.begun ≡ true → is_out_of_place draft s ≡ false → is_sizes s ≡ false
+not_sizes draft (Sizes a b) begun out = absurd (true_false (sym begun ∙ out))
+  where
+    true_false : true ≡ false → ⊥
+    true_false h = cc
+not_sizes draft (Number key number) begun out = refl
+not_sizes draft (Words key text) begun out = refl
+not_sizes draft (States statement) begun out = refl
+
+same_passes : (draft : DraftValue) (n : ℕ) (s : Saying) → is_sizes s ≡ false → (with_said draft n s).script.passes ≡ draft.script.passes
+same_passes draft n (Sizes a b) h = absurd cc
+same_passes draft n (Number key number) h = refl
+same_passes draft n (Words key text) h = refl
+same_passes draft n (States statement) h = refl
+
+later_turn : (others : List (List ℕ)) (draft next out : DraftValue) (n : ℕ) (line : List ℕ) → draft.begun ≡ true → Turn draft n line next → (next.begun ≡ true → Later next out (sayings_from (n + 1) next.script.passes others)) → Later draft out (sayings_from n draft.script.passes (line ∷ others))
+later_turn others draft next out n line begun (Silent h same) rest =
+    let moved = subst (λ (d : DraftValue). Later d out (sayings_from (n + 1) d.script.passes others)) same (rest (rw same begun)) in
+    subst (λ (ss : List NumberedSaying). Later draft out ss) (sym (silent_from draft.script.passes n line others h)) moved
+later_turn others draft next out n line begun (Said s h e place same) rest =
+    let small = not_sizes draft s begun place in
+    let moved = subst (λ (d : DraftValue). Later d out (sayings_from (n + 1) d.script.passes others)) same (rest (rw same refl)) in
+    let kept = subst (λ (p : ℕ). Later (with_said draft n s) out (sayings_from (n + 1) p others)) (same_passes draft n s small) moved in
+    subst (λ (ss : List NumberedSaying). Later draft out ss) (sym (says_from draft.script.passes n line others s h e)) (later_with draft out n s (sayings_from (n + 1) draft.script.passes others) small kept)
+
+-- what the lines behind the first saying add
+later : (texts : List (List ℕ)) (draft out : DraftValue) (n : ℕ) → draft.begun ≡ true → with_lines draft n texts ≡ Ok out → Later draft out (sayings_from n draft.script.passes texts)
+unfolding with_lines
+later [] draft out n begun h =
+    let same : out ≡ draft = cc in
+    subst (λ (d : DraftValue). Later draft d []) (sym same) (record { nodes = refl; passes = refl; statements = sym (append-nil draft.script.statements); values = refl; none = All-nil NoSizes })
+later (line ∷ others) draft out n begun h =
+    let t = lines_turn draft out n line others h in
+    later_turn others draft t.0 out n line begun t.1 (λ b. later others t.0 out (n + 1) b t.2)
+
+-- `report` names no sizes
+report_no_sizes : (p : ℕ) (words : List (List ℕ)) (a b : ℕ) → report_in p words ≡ Ok (Sizes a b) → ⊥
+unfolding report_in
+report_no_sizes p [] a b h = cc
+report_no_sizes p (pass ∷ []) a b h = cc
+report_no_sizes p (pass ∷ file ∷ []) a b h =
+    let number = bind_ok (number_below (2 ^ 32) pass) (λ n. only_if BadWord (is_file_name file) file >>= λ name. only_if NoSuchPass (nat_lt n p) (States (Report n name))) (Sizes a b) h in
+    let named = bind_ok (only_if BadWord (is_file_name file) file) (λ name. only_if NoSuchPass (nat_lt number.0 p) (States (Report number.0 name))) (Sizes a b) number.2 in
+    never (nat_lt number.0 p) (Report number.0 named.0) named.2
+  where
+    never : (c : Bool) (s : Statement) → only_if NoSuchPass c (States s) ≡ Ok (Sizes a b) → ⊥
+    never true s h = cc
+    never false s h = cc
+report_no_sizes p (pass ∷ file ∷ more ∷ others) a b h = cc
+
+-- the first word's choice
+abbrev chosen : (b₁ b₂ b₃ b₄ b₅ : Bool) (t s l u r : Result Saying Kind) → Result Saying Kind
+chosen b₁ b₂ b₃ b₄ b₅ t s l u r = if b₁ then t else if b₂ then s else if b₃ then l else if b₄ then u else if b₅ then r else Err BadWord
+
+choice_free : (b₁ b₂ b₃ b₄ b₅ : Bool) (t s l u r q : Result Saying Kind) (a b : ℕ) → (r ≡ Ok (Sizes a b) → ⊥) → chosen b₁ b₂ b₃ b₄ b₅ t s l u r ≡ Ok (Sizes a b) → chosen b₁ b₂ b₃ b₄ b₅ t s l u q ≡ Ok (Sizes a b)
+choice_free true b₂ b₃ b₄ b₅ t s l u r q a b never h = h
+choice_free false true b₃ b₄ b₅ t s l u r q a b never h = h
+choice_free false false true b₄ b₅ t s l u r q a b never h = h
+choice_free false false false true b₅ t s l u r q a b never h = h
+choice_free false false false false true t s l u r q a b never h = absurd (never h)
+choice_free false false false false false t s l u r q a b never h = h
+
+-- sizes are read alike for any number of passes
+sizes_free : (p q : ℕ) (line : List ℕ) (a b : ℕ) → saying_in p line ≡ Ok (Sizes a b) → saying_in q line ≡ Ok (Sizes a b)
+unfolding saying_of
+sizes_free p q line a b h =
+    let word = (first_word line).front in
+    let arguments = (first_word line).rest in
+    choice_free (bytes_eq word (codes "table")) (bytes_eq word (codes "set")) (bytes_eq word (codes "load")) (bytes_eq word (codes "unload")) (bytes_eq word (codes "report"))
+    (table_in (words arguments)) (set_in arguments) (load_in arguments) (unload_in (words arguments)) (report_in p (words arguments)) (report_in q (words arguments)) a b
+    (report_no_sizes p (words arguments) a b) h
+
+-- what sayings make of the script of no lines
+record Whole (out : DraftValue) (sayings : List NumberedSaying) : Type 0 where
+  statements : out.script.statements ≡ statements_by sayings
+  nodes : out.script.nodes ≡ (sizes_in sayings).0
+  passes : out.script.passes ≡ (sizes_in sayings).1
+  once : All NoSizes (drop 1 sayings)
+  values : out.script.values ≡ values_after default_values sayings
+
+-- the number of passes with which the lines are read
+record Read (out : DraftValue) (n : ℕ) (texts : List (List ℕ)) : Type 0 where
+  passes : ℕ
+  same : out.script.passes ≡ passes
+  whole : Whole out (sayings_from n passes texts)
+
+-- the first that is said
+first_said : (others : List (List ℕ)) (out : DraftValue) (n : ℕ) (line : List ℕ) (s : Saying) → says_nothing line ≡ false → saying_in 16 line ≡ Ok s → Later (with_said no_lines n s) out (sayings_from (n + 1) (with_said no_lines n s).script.passes others) → Read out n (line ∷ others)
+first_said others out n line (Sizes a b) h e l = record {
+  passes = b;
+  same = l.passes;
+  whole = subst (λ (ss : List NumberedSaying). Whole out ss) (sym (says_from b n line others (Sizes a b) h (sizes_free 16 b line a b e)))
+      (record { statements = l.statements; nodes = l.nodes; passes = l.passes; once = l.none; values = l.values });
+}
+first_said others out n line (Number key number) h e l = record {
+  passes = 16;
+  same = l.passes;
+  whole = subst (λ (ss : List NumberedSaying). Whole out ss) (sym (says_from 16 n line others (Number key number) h e))
+      (record { statements = l.statements; nodes = l.nodes; passes = l.passes; once = l.none; values = l.values });
+}
+first_said others out n line (Words key text) h e l = record {
+  passes = 16;
+  same = l.passes;
+  whole = subst (λ (ss : List NumberedSaying). Whole out ss) (sym (says_from 16 n line others (Words key text) h e))
+      (record { statements = l.statements; nodes = l.nodes; passes = l.passes; once = l.none; values = l.values });
+}
+first_said others out n line (States statement) h e l = record {
+  passes = 16;
+  same = l.passes;
+  whole = subst (λ (ss : List NumberedSaying). Whole out ss) (sym (says_from 16 n line others (States statement) h e))
+      (record { statements = l.statements; nodes = l.nodes; passes = l.passes; once = l.none; values = l.values });
+}
+
+read_turn : (others : List (List ℕ)) (next out : DraftValue) (n : ℕ) (line : List ℕ) → Turn no_lines n line next → with_lines next (n + 1) others ≡ Ok out → (with_lines no_lines (n + 1) others ≡ Ok out → Read out (n + 1) others) → Read out n (line ∷ others)
+read_turn others next out n line (Silent h same) rest goes =
+    let r = goes (subst (λ (d : DraftValue). with_lines d (n + 1) others ≡ Ok out) same rest) in
+    record {
+      passes = r.passes;
+      same = r.same;
+      whole = subst (λ (ss : List NumberedSaying). Whole out ss) (sym (silent_from r.passes n line others h)) r.whole;
+    }
+read_turn others next out n line (Said s h e place same) rest goes =
+    first_said others out n line s h e (later others (with_said no_lines n s) out (n + 1) refl (subst (λ (d : DraftValue). with_lines d (n + 1) others ≡ Ok out) same rest))
+
+-- the lines up to the first saying, and those behind it
+read_whole : (texts : List (List ℕ)) (out : DraftValue) (n : ℕ) → with_lines no_lines n texts ≡ Ok out → Read out n texts
+unfolding with_lines
+read_whole [] out n h =
+    let same : out ≡ no_lines = cc in
+    record {
+      passes = 16;
+      same = ap (λ (d : DraftValue). d.script.passes) same;
+      whole = subst (λ (d : DraftValue). Whole d []) (sym same) (record { statements = refl; nodes = refl; passes = refl; once = All-nil NoSizes; values = refl });
+    }
+read_whole (line ∷ others) out n h =
+    let t = lines_turn no_lines out n line others h in
+    read_turn others t.0 out n line t.1 t.2 (λ k. read_whole others out (n + 1) k)
+
+-- the files of statements with one more
+abbrev AreApart : List NumberedStatement → Type 0
+AreApart statements = AllPairs (λ f g. f ≢ g) (files_of statements)
+
+files_more : (xs : List NumberedStatement) (x : NumberedStatement) → files_of (xs ++ x ∷ []) ≡ files_of xs ++ files_of (x ∷ [])
+files_more xs x = filter_map-append (λ s. file_of s.statement) xs (x ∷ [])
+
+-- a file that isn't named yet is none of those before it
+apart_from : (earlier : List NumberedStatement) (file : List ℕ) → is_named file earlier ≡ false → (k : ℕ) (d : List ℕ) → k < length (files_of earlier) → get_or (files_of earlier) k d ≢ file
+unfolding is_named
+apart_from earlier file h k d lt same =
+    both_ways (list_any (λ name. bytes_eq name file) (files_of earlier)) h
+    (list_any_at (λ name. bytes_eq name file) (files_of earlier) k d lt ((bytes_eq-Decides (get_or (files_of earlier) k d) file).1 same))
+
+statement_apart : (earlier : List NumberedStatement) (line : ℕ) (s : Statement) → is_taken (file_of s) earlier ≡ false → AreApart earlier → AreApart (earlier ++ record { line = line; statement = s } ∷ [])
+statement_apart earlier line (Load header name) free apart = rw (files_more earlier (record { line = line; statement = Load header name }), append-nil (files_of earlier)) apart
+statement_apart earlier line (Unload header) free apart = rw (files_more earlier (record { line = line; statement = Unload header }), append-nil (files_of earlier)) apart
+statement_apart earlier line (Report pass file) free apart =
+    rw (files_more earlier (record { line = line; statement = Report pass file }))
+    (all_pairs_push (λ f g. f ≢ g) (files_of earlier) file apart (apart_from earlier file free))
+
+said_apart : (draft : DraftValue) (n : ℕ) (s : Saying) → is_out_of_place draft s ≡ false → AreApart draft.script.statements → AreApart (with_said draft n s).script.statements
+said_apart draft n (Sizes a b) place apart = apart
+said_apart draft n (Number key number) place apart = apart
+said_apart draft n (Words key text) place apart = apart
+said_apart draft n (States statement) place apart = statement_apart draft.script.statements n statement place apart
+
+turn_apart : (draft next : DraftValue) (n : ℕ) (line : List ℕ) → Turn draft n line next → AreApart draft.script.statements → AreApart next.script.statements
+turn_apart draft next n line (Silent h same) apart = subst (λ (d : DraftValue). AreApart d.script.statements) (sym same) apart
+turn_apart draft next n line (Said s h e place same) apart = subst (λ (d : DraftValue). AreApart d.script.statements) (sym same) (said_apart draft n s place apart)
+
+lines_apart : (texts : List (List ℕ)) (draft out : DraftValue) (n : ℕ) → with_lines draft n texts ≡ Ok out → AreApart draft.script.statements → AreApart out.script.statements
+unfolding with_lines
+lines_apart [] draft out n h apart = let same : draft ≡ out = cc in subst (λ (d : DraftValue). AreApart d.script.statements) same apart
+lines_apart (line ∷ others) draft out n h apart =
+    let t = lines_turn draft out n line others h in
+    lines_apart others t.0 out (n + 1) t.2 (turn_apart draft t.0 n line t.1 apart)
+
+-- a script that is read is what its lines say
+pub script_said : (bytes : List ℕ) (script : ScriptValue) → script_in bytes ≡ Ok script → IsSaidBy (sayings_from 1 script.passes (lines bytes)) script
+unfolding script_in
+script_said bytes script h =
+    let d = bind_ok (with_lines no_lines 1 (lines bytes)) (λ (draft : DraftValue). Ok draft.script) script h in
+    let same : d.0.script ≡ script = cc (d.2) in
+    let r = read_whole (lines bytes) d.0 1 d.1 in
+    let w = subst (λ (p : ℕ). Whole d.0 (sayings_from 1 p (lines bytes))) (sym r.same) r.whole in
+    subst (λ (s : ScriptValue). IsSaidBy (sayings_from 1 s.passes (lines bytes)) s) same (record {
+      statements = w.statements;
+      nodes = w.nodes;
+      passes = w.passes;
+      once = w.once;
+      values = w.values;
+      apart = lines_apart (lines bytes) no_lines d.0 1 d.1 (λ i j d before within. absurd (omega arith));
+    })

@@ -1,0 +1,34 @@
+-- What is true of each script that is read.
+use Rattle.std.specs.Prelude.{ℕ, ◌≤◌, ◌<◌, ◌^◌, List, All, IsTrue, length}
+use Rattle.plcr_regs.specs.declared.arch.Arch.{Arch}
+use Rattle.plcr_encode.specs.Conditions.{IsWritable}
+use Rattle.plcr_script.specs.declared.statements.Statement.{Statement}
+use Rattle.plcr_script.specs.declared.statements.Statement.TheVariants.{Load, Unload, Report}
+use Rattle.plcr_script.specs.declared.statements.NumberedStatement.{NumberedStatement}
+use Rattle.plcr_script.specs.Keys.{limit_of}
+use Rattle.plcr_script.specs.Scripts.{ScriptValue}
+use Rattle.plcr_script.specs.Sayings.{Saying, Sizes, Number, Words, States, is_file_name}
+use Rattle.plcr_script.specs.Contexts.{context_of}
+
+-- a list has 1 to 4096 nodes, and 1 to 1024 passes
+abbrev pub AreSizes : ℕ → ℕ → Type 0
+AreSizes nodes passes = (1 ≤ nodes) × (nodes ≤ 4096) × (1 ≤ passes) × (passes ≤ 1024)
+
+-- a statement's name has fewer than 2^32 bytes, and its file has a lawful name
+abbrev pub IsFitStatement : Statement → Type 0
+IsFitStatement (Load header name) = length name < 2 ^ 32
+IsFitStatement (Unload header) = Unit {0}
+IsFitStatement (Report pass file) = IsTrue (is_file_name file)
+
+-- what a line says is within its limits
+abbrev pub IsFit : Saying → Type 0
+IsFit (Sizes nodes passes) = AreSizes nodes passes
+IsFit (Number key number) = number < limit_of key
+IsFit (Words key text) = length text < 2 ^ 32
+IsFit (States statement) = IsFitStatement statement
+
+-- a script within its limits, whose descriptive values can be written in reports
+pub record IsLawful (script : ScriptValue) : Type 0 where
+  pub sizes : AreSizes script.nodes script.passes
+  pub statements : All (λ (s : NumberedStatement). IsFitStatement s.statement) script.statements
+  pub writable : (arch : Arch) → IsWritable (context_of script arch)

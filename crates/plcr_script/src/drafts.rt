@@ -1,0 +1,134 @@
+//! A script as far as it is read.
+ghost use Rattle.std.specs.Prelude.{◌≡◌, IfOk, OnOk};
+
+use crate::scripts::Script;
+use crate::statements::{NumberedStatement, Statement, Text};
+use crate::values::DescriptiveValues;
+use crate::wording::Wording;
+use std::alloc::{AllocError, Global};
+use std::marker::Model;
+
+/// The nodes of the image list where a script names no sizes.
+const NODES: u32 = 1024;
+
+/// The passes where a script names no sizes.
+const PASSES: u32 = 16;
+
+/// A script as far as it is read, and whether a line has said anything.
+#[derive(Drop)]
+pub(crate) struct Draft {
+    statements: Vec<NumberedStatement>,
+    nodes: u32,
+    passes: u32,
+    values: DescriptiveValues,
+    begun: bool,
+}
+
+impl Model for Draft {
+    ghost use Rattle.plcr_script.specs.Reading.{DraftValue, draft_value};
+
+    ghost Value = { DraftValue };
+
+    ghost view = { λ d. draft_value d.statements.items d.nodes d.passes d.values d.begun };
+}
+
+impl Draft {
+    ghost use Rattle.std.specs.Prelude.{nat_lt, length};
+    ghost use Rattle.plcr_script.specs.Reading.{no_lines, with_said};
+    ghost use Rattle.plcr_script.specs.Sayings.{States};
+    ghost use Rattle.plcr_script.specs.Lawful.{IsFit};
+    ghost use Rattle.plcr_script.specs.Wording.{said};
+
+    /// The script of no lines.
+    pub(crate) fn new(alloc: Global) -> Result<Draft, AllocError>
+        ensures { IfOk result (λ draft. draft ≡ no_lines) }
+    {
+        Ok(Draft {
+            statements: Vec::new(alloc),
+            nodes: NODES,
+            passes: PASSES,
+            values: DescriptiveValues::defaults(alloc)?,
+            begun: false,
+        })
+    }
+
+    /// The number of passes.
+    pub(crate) fn passes(&self) -> u32
+        ensures { result ≡ self.now.script.passes }
+    {
+        self.passes
+    }
+
+    /// Whether a line has said anything.
+    pub(crate) fn has_begun(&self) -> bool
+        ensures { result ≡ self.now.begun }
+    {
+        self.begun
+    }
+
+    /// Whether there is a statement of the run.
+    pub(crate) fn has_statements(&self) -> bool
+        ensures { result ≡ nat_lt 0 (length self.now.script.statements) }
+    {
+        !self.statements.is_empty()
+    }
+
+    /// Adds what a line says. At `Err` the draft is of no use.
+    pub(crate) fn add(
+        &mut self,
+        alloc: Global,
+        line: u32,
+        wording: Wording<'_>,
+    ) -> Result<(), AllocError>
+        requires { IsFit (said wording) }
+        ensures { OnOk result (self.new ≡ with_said self.old line (said wording.entry)) }
+    {
+        match wording {
+            Wording::Sizes { nodes, passes } => {
+                self.nodes = nodes;
+                self.passes = passes;
+            }
+            Wording::Number { key, number } => self.values.set_number(key, number),
+            Wording::Words { key, text } => self.values.set_text(alloc, key, text)?,
+            Wording::Load { header, name } => {
+                let name = Text::new(alloc, name)?;
+                self.state(line, Statement::Load { header, name })?;
+            }
+            Wording::Unload { header } => self.state(line, Statement::Unload { header })?,
+            Wording::Report { pass, file } => {
+                let file = Text::new(alloc, file)?;
+                self.state(line, Statement::Report { pass, file })?;
+            }
+        }
+        self.begun = true;
+        Ok(())
+    }
+
+    /// Adds a statement of the run.
+    fn state(&mut self, line: u32, statement: Statement) -> Result<(), AllocError>
+        ensures { OnOk result (self.new ≡ with_said self.old line (States statement)) }
+    {
+        self.statements.push(NumberedStatement { line, statement })?;
+        self.begun = true;
+        Ok(())
+    }
+
+    /// The script that was read.
+    pub(crate) fn finish(self) -> Script
+        ensures { result ≡ self.script }
+    {
+        let Draft {
+            statements,
+            nodes,
+            passes,
+            values,
+            begun: _,
+        } = self;
+        Script {
+            statements,
+            nodes,
+            passes,
+            values,
+        }
+    }
+}
