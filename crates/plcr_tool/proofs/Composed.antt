@@ -1,24 +1,33 @@
 -- Steps one after the other: what they have done so far, and where they stop.
-use Rattle.std.proofs.Common.{inl, inr, ◌≡◌, ℕ, zero, suc, ◌+◌, ◌≤◌, ◌⊎◌, List, [], ◌∷◌, ◌++◌, Option, None, Some, length, map, take, drop, add-one, refl, sym, ap, subst, ◌∙◌, append_assoc, append-nil, arith}
+use Rattle.std.proofs.Common.{inl, inr, ◌≡◌, ℕ, zero, suc, ◌+◌, ◌⊎◌, List, [], ◌∷◌, ◌++◌, Option, Some, length, map, take, drop, add-one, refl, sym, ap, subst, ◌∙◌, append-nil, arith}
 use Rattle.std.specs.Prelude.{slice_get}
 use Rattle.std.specs.Io.KnownBytes.{append_known}
 use Rattle.std.proofs.lemmas.List.{map-append}
 use Rattle.std.proofs.Math.Seq.{take-length}
 use Rattle.std.proofs.lemmas.Grind.{flat_map-append}
-use Rattle.plcr_base.specs.Causes.{Rose}
 use Rattle.plcr_base.specs.Told.{Gains, AppendsProperFront, Prints}
 use Rattle.plcr_base.proofs.Appended.{append_nothing, append_twice}
 use Rattle.plcr_base.proofs.Gained.{gains_none, gains_twice}
 use Rattle.plcr_base.proofs.Risen.{rose_second}
 use Rattle.plcr_tool.specs.Seen.{Seen}
-use Rattle.plcr_tool.specs.Steps.{Step, name_of, file_of, log_of}
+use Rattle.plcr_tool.specs.Steps.{Step, names_of, files_of, log_of}
 use Rattle.plcr_tool.specs.Saving.{DropsFront}
 use Rattle.plcr_tool.specs.Endings.{IsDone, CannotWrite, CannotPrint, IsStopped, GoesOn}
 use Rattle.plcr_tool.specs.Lines.{cannot_write}
 
--- what two runs of calls gained under a map
-gains_mapped : {B : Type 0} (f : Step → B) (old mid new : Option (List B)) (xs ys : List Step) → Gains old mid (map f xs) → Gains mid new (map f ys) → Gains old new (map f (xs ++ ys))
-gains_mapped f old mid new xs ys a b = rw map-append (gains_twice old mid new (map f xs) (map f ys) a b)
+-- the files of steps and of more
+files_more : (xs ys : List Step) → files_of (xs ++ ys) ≡ files_of xs ++ files_of ys
+files_more xs ys = flat_map-append (λ step. step.files) xs ys
+
+names_more : (xs ys : List Step) → names_of (xs ++ ys) ≡ names_of xs ++ names_of ys
+names_more xs ys = ap (map (λ (file : List ℕ × List ℕ). file.0)) (files_more xs ys) ∙ map-append (λ (file : List ℕ × List ℕ). file.0) (files_of xs) (files_of ys)
+
+-- what two runs of calls kept and made
+gains_files : (old mid new : Option (List (List ℕ × List ℕ))) (xs ys : List Step) → Gains old mid (files_of xs) → Gains mid new (files_of ys) → Gains old new (files_of (xs ++ ys))
+gains_files old mid new xs ys a b = rw (files_more xs ys) (gains_twice old mid new (files_of xs) (files_of ys) a b)
+
+gains_names : (old mid new : Option (List (List ℕ))) (xs ys : List Step) → Gains old mid (names_of xs) → Gains mid new (names_of ys) → Gains old new (names_of (xs ++ ys))
+gains_names old mid new xs ys a b = rw (names_more xs ys) (gains_twice old mid new (names_of xs) (names_of ys) a b)
 
 -- the log of steps and of one more
 log_grows : (old : Option (List ℕ)) (xs ys : List Step) → append_known (append_known old (log_of xs)) (log_of ys) ≡ append_known old (log_of (xs ++ ys))
@@ -36,17 +45,17 @@ done_none old = record {
 -- one more step
 pub done_more : (xs : List Step) (x : Step) (old mid new : Seen) → IsDone xs old mid → IsDone (x ∷ []) mid new → IsDone (xs ++ x ∷ []) old new
 done_more xs x old mid new a b = record {
-  made = gains_mapped name_of _ _ _ xs (x ∷ []) a.made b.made;
-  kept = gains_mapped file_of _ _ _ xs (x ∷ []) a.kept b.kept;
+  made = gains_names _ _ _ xs (x ∷ []) a.made b.made;
+  kept = gains_files _ _ _ xs (x ∷ []) a.kept b.kept;
   dropped = gains_twice _ _ _ [] [] a.dropped b.dropped;
   lines = b.lines ∙ ap (λ o. append_known o (log_of (x ∷ []))) a.lines ∙ log_grows old.lines xs (x ∷ []);
 }
 
 -- the same and then nothing
-unmapped : {B : Type 0} (f : Step → B) (old mid new : Option (List B)) (xs : List Step) → Gains old mid (map f xs) → Gains mid new [] → Gains old new (map f xs)
-unmapped f old mid new xs a b =
-    let P : List _ → Type 0 = λ l. Gains old new l in
-    subst P (append-nil (map f xs)) (gains_twice old mid new (map f xs) [] a b)
+and_nothing : {B : Type 0} (old mid new : Option (List B)) (xs : List B) → Gains old mid xs → Gains mid new [] → Gains old new xs
+and_nothing {B = B} old mid new xs a b =
+    let P : List B → Type 0 = λ l. Gains old new l in
+    subst P (append-nil xs) (gains_twice old mid new xs [] a b)
 
 -- fronts given up after nothing was
 fronts : (bytes : List ℕ) (old mid new : Seen) → Gains old.desk.dropped mid.desk.dropped [] → DropsFront bytes mid.desk new.desk → DropsFront bytes old.desk new.desk
@@ -67,20 +76,23 @@ printed_after before text old mid new done goes (inr cut) =
 -- a file that wasn't kept, after steps that were done
 pub stops_unwritten : (before : List Step) (at : Step) (old mid new : Seen) → IsDone before old mid → GoesOn old mid → CannotWrite [] at mid new → CannotWrite before at old new
 stops_unwritten before at old mid new done goes stop = record {
+  name = stop.name;
+  bytes = stop.bytes;
+  file = stop.file;
   outcome = elim stop.outcome [
-    | inl none ↦ inl (unmapped name_of _ _ _ before done.made none.0, gains_twice _ _ _ [] [] done.dropped none.1)
-    | inr one ↦ inr (gains_mapped name_of _ _ _ before (at ∷ []) done.made one.0, fronts at.bytes old mid new done.dropped one.1)
+    | inl none ↦ inl (and_nothing _ _ _ (names_of before) done.made none.0, gains_twice _ _ _ [] [] done.dropped none.1)
+    | inr one ↦ inr (gains_twice _ _ _ (names_of before) (stop.name ∷ []) done.made one.0, fronts stop.bytes old mid new done.dropped one.1)
   ];
-  kept = unmapped file_of _ _ _ before done.kept stop.kept;
-  lines = printed_after before (cannot_write at.name) old mid new done goes stop.lines;
-  cause = rose_second _ _ _ goes.out_faults stop.cause;
+  kept = and_nothing _ _ _ (files_of before) done.kept stop.kept;
+  lines = printed_after before (cannot_write stop.name) old mid new done goes stop.lines;
+  cause = rose_second _ _ _ goes.desk.out_faults stop.cause;
 }
 
 -- a line that wasn't printed whole, after steps that were done
 pub stops_unprinted : (before : List Step) (at : Step) (old mid new : Seen) → IsDone before old mid → GoesOn old mid → CannotPrint [] at mid new → CannotPrint before at old new
 stops_unprinted before at old mid new done goes stop = record {
-  made = gains_mapped name_of _ _ _ before (at ∷ []) done.made stop.made;
-  kept = gains_mapped file_of _ _ _ before (at ∷ []) done.kept stop.kept;
+  made = gains_names _ _ _ before (at ∷ []) done.made stop.made;
+  kept = gains_files _ _ _ before (at ∷ []) done.kept stop.kept;
   dropped = gains_twice _ _ _ [] [] done.dropped stop.dropped;
   lines =
       let P : Option (List ℕ) → Type 0 = λ o. AppendsProperFront o new.lines at.line in
@@ -91,15 +103,20 @@ stops_unprinted before at old mid new done goes stop = record {
 -- going on, and then going on
 pub goes_twice : (old mid new : Seen) → GoesOn old mid → GoesOn mid new → GoesOn old new
 goes_twice old mid new a b = record {
-  files = b.files ∙ a.files;
-  taken = b.taken ∙ a.taken;
-  take_faults = b.take_faults ∙ a.take_faults;
-  out_faults = let x = a.out_faults in let y = b.out_faults in omega arith;
+  desk = record {
+    files = b.desk.files ∙ a.desk.files;
+    taken = b.desk.taken ∙ a.desk.taken;
+    take_faults = b.desk.take_faults ∙ a.desk.take_faults;
+    out_faults = let x = a.desk.out_faults in let y = b.desk.out_faults in omega arith;
+  };
   line_faults = let x = a.line_faults in let y = b.line_faults in omega arith;
 }
 
 pub goes_none : (old : Seen) → GoesOn old old
-goes_none old = record { files = refl; taken = refl; take_faults = refl; out_faults = omega arith; line_faults = omega arith }
+goes_none old = record {
+  desk = record { files = refl; taken = refl; take_faults = refl; out_faults = omega arith };
+  line_faults = omega arith;
+}
 
 -- one more step taken from the front
 pub take_next : {A : Type 0} (xs : List A) (i : ℕ) (x : A) → slice_get xs i ≡ Some x → take (i + 1) xs ≡ take i xs ++ x ∷ []

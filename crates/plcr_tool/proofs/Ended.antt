@@ -1,5 +1,5 @@
 -- A run that begins after the files were taken, as seen from before that.
-use Rattle.std.proofs.Common.{inl, inr, ◌≡◌, ℕ, ◌⊎◌, List, [], ◌∷◌, ◌++◌, Option, sym, subst}
+use Rattle.std.proofs.Common.{inl, inr, ◌≡◌, ℕ, List, [], ◌∷◌, Option, sym, subst}
 use Rattle.plcr_base.specs.Causes.{Rose}
 use Rattle.plcr_base.specs.Told.{Gains}
 use Rattle.plcr_io.specs.Desk.{Told}
@@ -36,9 +36,12 @@ done_since xs old mid new lines lines' faults faults' nothing done = record {
 
 unwritten_since : (before : List Step) (at : Step) (old mid new : Told) (lines lines' : Option (List ℕ)) (faults faults' : ℕ) → MadeNothing old mid → CannotWrite before at (seen mid lines faults) (seen new lines' faults') → CannotWrite before at (seen old lines faults) (seen new lines' faults')
 unwritten_since before at old mid new lines lines' faults faults' nothing stop = record {
+  name = stop.name;
+  bytes = stop.bytes;
+  file = stop.file;
   outcome = elim stop.outcome [
     | inl none ↦ inl (gained_since _ _ _ _ nothing.made none.0, gained_since _ _ _ _ nothing.dropped none.1)
-    | inr one ↦ inr (gained_since _ _ _ _ nothing.made one.0, fronts_since at.bytes old mid new nothing.dropped one.1)
+    | inr one ↦ inr (gained_since _ _ _ _ nothing.made one.0, fronts_since stop.bytes old mid new nothing.dropped one.1)
   ];
   kept = gained_since _ _ _ _ nothing.kept stop.kept;
   lines = stop.lines;
@@ -72,14 +75,10 @@ job_after core script job old mid new is same = record {
   core_bytes = is.core_bytes;
   script_bytes = is.script_bytes;
   took = record {
-    core_is = is.took.core_is;
-    core_fits = is.took.core_fits;
-    script_is = is.took.script_is;
-    script_fits = is.took.script_fits;
+    are = is.took.are;
     taken = let P : Option (List (List ℕ)) → Type 0 = λ t. Gains old.taken t (core ∷ script ∷ []) in subst P (sym same) is.took.taken;
   };
-  is_core = is.is_core;
-  is_script = is.is_script;
+  read = is.read;
 }
 
 -- the command did what its run did

@@ -1,6 +1,12 @@
+pub mod Completed
 pub mod Composed
 pub mod Contexts
 pub mod Ended
 pub mod Named
+pub mod Shown
 pub mod Stepped
 pub mod Takings
+pub mod Written
+pub mod Turning
+pub mod Turned
+pub mod Places

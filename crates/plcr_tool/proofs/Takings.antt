@@ -1,67 +1,145 @@
--- What the takes of a command's files gain.
-use Rattle.std.proofs.Common.{inl, inr, ◌⊎◌, ◌≤◌, ◌≡◌, ℕ, ◌<◌, List, [], ◌∷◌, ◌++◌, length, Option, None, Some, Vec, Result, Ok, Err, refl, sym, ap, subst, ◌∙◌, append-nil}
+-- What the takes of a command's files gain, one after the other.
+use Rattle.std.proofs.Common.{inl, inr, ◌⊎◌, ◌<◌, ◌≤◌, ◌≡◌, ℕ, length, List, [], ◌∷◌, ◌++◌, Option, Ok, Err, refl, sym, ap, subst, ◌∙◌, append_assoc, append-nil}
 use Rattle.std.specs.declared.alloc.Global.{Global}
-use Rattle.plcr_base.specs.Told.{Gains, add, IfTold}
-use Rattle.plcr_base.proofs.Gained.{gains_none, gains_more}
+use Rattle.std.specs.Prelude.{Vec}
+use Rattle.std.proofs.lemmas.List.{map-append}
+use Rattle.plcr_base.specs.Told.{Gains, IfTold}
+use Rattle.plcr_base.proofs.Gained.{gains_none, gains_more, gains_twice}
 use Rattle.plcr_base.proofs.Risen.{rose_second}
 use Rattle.plcr_io.specs.Desk.{Told, Takes}
 use Rattle.plcr_io.specs.declared.desks.TakeFault.{TakeFault}
 use Rattle.plcr_io.specs.declared.desks.TakeFault.TheVariants.{Failed, TooLong, Memory}
-use Rattle.plcr_tool.specs.declared.files.FileWord.TheVariants.{Core, Script}
-use Rattle.plcr_tool.specs.Files.{IsUnreadable, IsTooLong, TookBefore, TookSome, limit_of}
+use Rattle.plcr_tool.specs.Files.{File, named, names_of, AreTaken, TookAll, TookBefore, TookSome}
 use Rattle.plcr_tool.specs.declared.files.FileWord.{FileWord}
 use Rattle.plcr_tool.specs.declared.refusals.Refusal.{Refusal}
-use Rattle.plcr_tool.specs.declared.refusals.Refusal.TheVariants.{CannotRead, CoreRefused, ScriptRefused, OutOfMemory}
+use Rattle.plcr_tool.specs.declared.refusals.Refusal.TheVariants.{CannotRead, CoreRefused, ScriptRefused, ReportRefused, OutOfMemory}
 use Rattle.plcr_tool.specs.declared.refusals.Refusal.TheVariants as refusals
-use Rattle.plcr_tool.specs.Refusals.{Refuses, refusal_of}
+use Rattle.plcr_tool.specs.Refusals.{Refuses, Untaken, refusal_of}
 
--- one entry, added and then left as it is
-one_gained : {A : Type 0} (old mid new : Option (List A)) (entry : A) → mid ≡ add old entry → new ≡ mid → Gains old new (entry ∷ [])
-one_gained {A = A} old mid new entry added same =
-    let P : Option (List A) → Type 0 = λ t. Gains old t (entry ∷ []) in
-    subst P (sym (same ∙ added)) (gains_more old old [] entry (gains_none old))
+-- a list that is as it was gained nothing
+gains_same : {A : Type 0} (old new : Option (List A)) → new ≡ old → Gains old new []
+gains_same {A = A} old new same = let P : Option (List A) → Type 0 = λ t. Gains old t [] in subst P (sym same) (gains_none old)
 
--- the bytes that were taken, where they are told, are as few
-fits : (told : Option (List ℕ)) (items : List ℕ) (most : ℕ) → IfTold told (λ bytes. items ≡ bytes) → length items ≤ most → IfTold told (λ bytes. length bytes ≤ most)
-fits None items most same few = tt
-fits (Some bytes) items most same few = let P : List ℕ → Type 0 = λ l. length l ≤ most in subst P same few
+-- one file was taken
+pub took_one : (file : File) (bytes : Vec ℕ Global) (old new : Told) → Takes file.name file.limit old new (Ok bytes) → TookAll (file ∷ []) (bytes.items ∷ []) old new
+took_one file bytes old new take = record {
+  are = (record { whole = take.bytes; fits = take.within }, tt);
+  taken =
+      let P : Option (List (List ℕ)) → Type 0 = λ t. Gains old.taken t (file.name ∷ []) in
+      subst P (sym take.listed) (gains_more old.taken old.taken [] file.name (gains_none old.taken));
+}
 
--- the core was taken, and the script wasn't
-pub script_untaken : (core script : List ℕ) (first : Vec ℕ Global) (fault : TakeFault) (old mid new : Told) → Takes core (limit_of Core) old mid (Ok first) → Takes script (limit_of Script) mid new (Err fault) → Refuses core script old new (refusal_of Script fault)
-script_untaken core script first Failed old mid new a b =
-    let e : new.taken ≡ mid.taken = b.unlisted in
-    record {
-      taken = (one_gained old.taken mid.taken new.taken core a.listed b.unlisted, fits (old.files core) first.items (limit_of Core) a.bytes a.within);
-      cause = rose_second _ _ _ a.later (b.failed refl);
-    }
-script_untaken core script first (TooLong n) old mid new a b =
-    record {
-      taken = (one_gained old.taken mid.taken new.taken core a.listed b.unlisted, fits (old.files core) first.items (limit_of Core) a.bytes a.within);
-      cause = let P : (List ℕ → Option (List ℕ)) → Type 0 = λ f. IfTold (f script) (λ bytes. limit_of Script < length bytes) in
-          subst P a.files (b.too_long n refl).1;
-    }
-script_untaken core script first Memory old mid new a b =
-    record {
-      some = core ∷ [];
-      others = script ∷ [];
-      parts = refl;
-      taken = one_gained old.taken mid.taken new.taken core a.listed b.unlisted;
-    }
+-- no file was taken
+took_none : (old new : Told) → new.taken ≡ old.taken → TookAll [] [] old new
+took_none old new same = record { are = tt; taken = gains_same old.taken new.taken same }
 
--- before a word, some of the files were taken
-before_some : (core script : List ℕ) (word : FileWord) (old new : Told) → TookBefore core script word old new → TookSome core script old new
-before_some core script Core old new taken = record { some = []; others = core ∷ script ∷ []; parts = refl; taken = taken }
-before_some core script Script old new taken = record { some = core ∷ []; others = script ∷ []; parts = refl; taken = taken.0 }
+-- one file wasn't taken
+pub untaken_one : (word : FileWord) (fault : TakeFault) (old new : Told) → Takes word.name.now word.limit old new (Err fault) → Untaken (named word ∷ []) old new (refusal_of word fault)
+untaken_one word Failed old new take = record {
+  taken = record { before = []; after = []; parts = refl; contents = []; took = took_none old new take.unlisted };
+  cause = take.failed refl;
+}
+untaken_one word (TooLong limit) old new take = record {
+  taken = record { before = []; after = []; parts = refl; contents = []; took = took_none old new take.unlisted };
+  cause = (take.too_long limit refl).1;
+}
+untaken_one word Memory old new take = record { some = []; others = named word ∷ []; parts = refl; taken = gains_same old.taken new.taken take.unlisted }
+
+-- the same files are told
+told_same : (files : List File) (contents : List (List ℕ)) (mid old : Told) → mid.files ≡ old.files → AreTaken mid files contents → AreTaken old files contents
+told_same [] [] mid old same are = tt
+told_same [] (bytes ∷ contents) mid old same are = are
+told_same (file ∷ files) [] mid old same are = are
+told_same (file ∷ files) (bytes ∷ contents) mid old same are =
+    let P : (List ℕ → Option (List ℕ)) → Type 0 = λ f. IfTold (f file.name) (λ told. bytes ≡ told) in
+    (record { whole = subst P same are.0.whole; fits = are.0.fits }, told_same files contents mid old same are.1)
+
+-- the bytes of files, and then of others
+taken_twice : (first second : List File) (a b : List (List ℕ)) (old mid : Told) → mid.files ≡ old.files → AreTaken old first a → AreTaken mid second b → AreTaken old (first ++ second) (a ++ b)
+taken_twice [] second [] b old mid same x y = told_same second b mid old same y
+taken_twice [] second (bytes ∷ a) b old mid same x y = absurd x
+taken_twice (file ∷ first) second [] b old mid same x y = absurd x
+taken_twice (file ∷ first) second (bytes ∷ a) b old mid same x y = (x.0, taken_twice first second a b old mid same x.1 y)
+
+-- names gained, and then others
+names_twice : (first second : List File) (old mid new : Option (List (List ℕ))) → Gains old mid (names_of first) → Gains mid new (names_of second) → Gains old new (names_of (first ++ second))
+names_twice first second old mid new a b = rw map-append (gains_twice old mid new (names_of first) (names_of second) a b)
+
+-- files were taken, and then others
+pub took_twice : (first second : List File) (a b : List (List ℕ)) (old mid new : Told) → mid.files ≡ old.files → TookAll first a old mid → TookAll second b mid new → TookAll (first ++ second) (a ++ b) old new
+took_twice first second a b old mid new same x y = record {
+  are = taken_twice first second a b old mid same x.are y.are;
+  taken = names_twice first second old.taken mid.taken new.taken x.taken y.taken;
+}
+
+before_after : (first second : List File) (a : List (List ℕ)) (file : File) (old mid new : Told) → mid.files ≡ old.files → TookAll first a old mid → TookBefore second file mid new → TookBefore (first ++ second) file old new
+before_after first second a file old mid new same x y = record {
+  before = first ++ y.before;
+  after = y.after;
+  parts = ap (λ l. first ++ l) y.parts ∙ sym (append_assoc first y.before (file ∷ y.after));
+  contents = a ++ y.contents;
+  took = took_twice first y.before a y.contents old mid new same x y.took;
+}
+
+-- files were taken, and then not all of others
+pub untaken_after : (first second : List File) (a : List (List ℕ)) (refusal : Refusal) (old mid new : Told) → mid.files ≡ old.files → old.take_faults ≤ mid.take_faults → TookAll first a old mid → Untaken second mid new refusal → Untaken (first ++ second) old new refusal
+untaken_after first second a (CannotRead word) old mid new same later x y = record {
+  taken = before_after first second a (named word) old mid new same x y.taken;
+  cause = rose_second _ _ _ later y.cause;
+}
+untaken_after first second a (refusals.TooLong word) old mid new same later x y = record {
+  taken = before_after first second a (named word) old mid new same x y.taken;
+  cause = let P : (List ℕ → Option (List ℕ)) → Type 0 = λ f. IfTold (f word.name.now) (λ bytes. word.limit < length bytes) in subst P same y.cause;
+}
+untaken_after first second a OutOfMemory old mid new same later x y = record {
+  some = first ++ y.some;
+  others = y.others;
+  parts = ap (λ l. first ++ l) y.parts ∙ sym (append_assoc first y.some y.others);
+  taken = names_twice first y.some old.taken mid.taken new.taken x.taken y.taken;
+}
+untaken_after first second a (CoreRefused fault) old mid new same later x y = absurd y
+untaken_after first second a (ScriptRefused line kind) old mid new same later x y = absurd y
+untaken_after first second a (ReportRefused fault) old mid new same later x y = absurd y
+
+before_more : (files more : List File) (file : File) (old new : Told) → TookBefore files file old new → TookBefore (files ++ more) file old new
+before_more files more file old new x = record {
+  before = x.before;
+  after = x.after ++ more;
+  parts = ap (λ l. l ++ more) x.parts ∙ append_assoc x.before (file ∷ x.after) more;
+  contents = x.contents;
+  took = x.took;
+}
+
+-- not all of files were taken, so neither were these and others
+pub untaken_more : (files more : List File) (refusal : Refusal) (old new : Told) → Untaken files old new refusal → Untaken (files ++ more) old new refusal
+untaken_more files more (CannotRead word) old new x = record { taken = before_more files more (named word) old new x.taken; cause = x.cause }
+untaken_more files more (refusals.TooLong word) old new x = record { taken = before_more files more (named word) old new x.taken; cause = x.cause }
+untaken_more files more OutOfMemory old new x = record {
+  some = x.some;
+  others = x.others ++ more;
+  parts = ap (λ l. l ++ more) x.parts ∙ append_assoc x.some x.others more;
+  taken = x.taken;
+}
+untaken_more files more (CoreRefused fault) old new x = absurd x
+untaken_more files more (ScriptRefused line kind) old new x = absurd x
+untaken_more files more (ReportRefused fault) old new x = absurd x
+
+before_some : (files : List File) (file : File) (old new : Told) → TookBefore files file old new → TookSome files old new
+before_some files file old new is = record { some = is.before; others = file ∷ is.after; parts = is.parts; taken = is.took.taken }
 
 -- whatever a command is refused for, some of its files were taken
-took_some : (core script : List ℕ) (refusal : Refusal) (old new : Told) → Refuses core script old new refusal → TookSome core script old new
-took_some core script (CannotRead word) old new is = before_some core script word old new is.taken
-took_some core script (refusals.TooLong word) old new is = before_some core script word old new is.taken
-took_some core script (CoreRefused fault) old new is = record { some = core ∷ script ∷ []; others = []; parts = refl; taken = is.took.taken }
-took_some core script (ScriptRefused line kind) old new is = record { some = core ∷ script ∷ []; others = []; parts = refl; taken = is.took.taken }
-took_some core script OutOfMemory old new is = is
+took_some : (Misread : List (List ℕ) → Refusal → Type 0) (files : List File) (refusal : Refusal) (old new : Told) → Refuses Misread files old new refusal → TookSome files old new
+took_some Misread files (CannotRead word) old new (inl is) = before_some files (named word) old new is.taken
+took_some Misread files (refusals.TooLong word) old new (inl is) = before_some files (named word) old new is.taken
+took_some Misread files OutOfMemory old new (inl is) = is
+took_some Misread files (CoreRefused fault) old new (inl is) = absurd is
+took_some Misread files (ScriptRefused line kind) old new (inl is) = absurd is
+took_some Misread files (ReportRefused fault) old new (inl is) = absurd is
+took_some Misread files refusal old new (inr is) = record { some = files; others = []; parts = sym (append-nil files); taken = is.took.taken }
 
 -- the same refusal, or want of memory for its line
-pub still_refused : (core script : List ℕ) (refusal said : Refusal) (old new : Told) → Refuses core script old new refusal → (said ≡ refusal) ⊎ (said ≡ OutOfMemory) → Refuses core script old new said
-still_refused core script refusal said old new is (inl same) = subst (Refuses core script old new) (sym same) is
-still_refused core script refusal said old new is (inr want) = subst (Refuses core script old new) (sym want) (took_some core script refusal old new is)
+pub still_refused : (Misread : List (List ℕ) → Refusal → Type 0) (files : List File) (refusal said : Refusal) (old new : Told) → Refuses Misread files old new refusal → (said ≡ refusal) ⊎ (said ≡ OutOfMemory) → Refuses Misread files old new said
+still_refused Misread files refusal said old new is (inl same) = subst (Refuses Misread files old new) (sym same) is
+still_refused Misread files refusal said old new is (inr want) =
+    let some : Refuses Misread files old new OutOfMemory = inl (took_some Misread files refusal old new is) in
+    subst (Refuses Misread files old new) (sym want) some

@@ -1,7 +1,10 @@
 pub mod Commands
+pub mod Complete
 pub mod Endings
 pub mod Files
+pub mod Handed
 pub mod Lines
+pub mod Listing
 pub mod Refusals
 pub mod Run
 pub mod Saving

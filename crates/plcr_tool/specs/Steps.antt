@@ -1,43 +1,44 @@
--- What running a script makes: for each of its reports, in order, a file and a line of the log.
-use Rattle.std.specs.Prelude.{ℕ, ◌++◌, List, [], ◌∷◌, length, map, flat_map, Option, None, codes, IsTrue, All}
-use Rattle.plcr_script.specs.declared.statements.NumberedStatement.{NumberedStatement}
+-- What the statements of a run make, one after the other: files, and lines of the log.
+use Rattle.std.specs.Prelude.{ℕ, List, [], ◌∷◌, map, flat_map, length, None}
+use Rattle.plcr_script.specs.declared.outcomes.Outcome.TheVariants.{Reported}
+use Rattle.plcr_script.specs.Contexts.{lent}
+use Rattle.plcr_script.specs.Log.{log_line}
 use Rattle.plcr_script.specs.Scripts.{ScriptValue}
-use Rattle.plcr_script.specs.Reading.{is_file_name, file_of as file_named}
-use Rattle.plcr_script.specs.Log.{place_text, report_text}
+use Rattle.plcr_script.specs.Runs.{Meanings, NumberedTurn, run_of}
 
--- a file that a run keeps, and the line of the log that tells of it
+-- what a statement makes: the files that are kept for it, each with its bytes, and its line of the log
 pub record Step : Type 0 where
-  pub name : List ℕ
-  pub bytes : List ℕ
+  pub files : List (List ℕ × List ℕ)
   pub line : List ℕ
 
--- a report of these bytes into a file, by the statement of a line: without images, and with no change counted
-abbrev pub reported : List ℕ → ℕ → List ℕ → Step
-reported bytes number name = record {
-  name = name;
-  bytes = bytes;
-  line = place_text None number ++ report_text name (length bytes ∷ 0 ∷ 0 ∷ 0 ∷ []) ++ codes "\n";
-}
+-- a step that keeps no file
+abbrev pub line_step : List ℕ → Step
+line_step line = record { files = []; line = line }
 
--- what a statement makes, where each report has these bytes
-abbrev pub step_of : List ℕ → NumberedStatement → Step
-step_of bytes numbered = reported bytes numbered.line (file_named numbered.statement)
+-- a step that keeps one file
+abbrev pub file_step : List ℕ → List ℕ → List ℕ → Step
+file_step name bytes line = record { files = (name, bytes) ∷ []; line = line }
 
--- all that a script makes
-unfoldable pub steps_of : List ℕ → ScriptValue → List Step
-steps_of bytes script = map (step_of bytes) script.statements
+-- a report of these bytes and so many images, behind so many changes, by the statement of a line
+abbrev pub report_step : ℕ → List ℕ → List ℕ → ℕ → ℕ → Step
+report_step number name bytes images changes = file_step name bytes (log_line None number (Reported (lent name) (length bytes) images changes changes))
 
-abbrev pub name_of : Step → List ℕ
-name_of step = step.name
+-- what a turn of a run makes
+abbrev pub step_of : NumberedTurn → Step
+step_of turn = record { files = turn.turn.kept; line = log_line None turn.line turn.turn.outcome }
 
--- the file as a desk keeps it
-abbrev pub file_of : Step → List ℕ × List ℕ
-file_of step = (step.name, step.bytes)
+-- what a script's run on a process makes
+unfoldable pub steps_of : Meanings → ScriptValue → List Step
+steps_of process script = map step_of (run_of process script)
+
+-- the files of some steps, as a desk keeps them
+abbrev pub files_of : List Step → List (List ℕ × List ℕ)
+files_of steps = flat_map (λ step. step.files) steps
+
+-- their names
+abbrev pub names_of : List Step → List (List ℕ)
+names_of steps = map (λ file. file.0) (files_of steps)
 
 -- the log of some steps
 abbrev pub log_of : List Step → List ℕ
 log_of steps = flat_map (λ step. step.line) steps
-
--- the statement's file has a lawful name
-abbrev pub IsNamed : NumberedStatement → Type 0
-IsNamed numbered = IsTrue (is_file_name (file_named numbered.statement))

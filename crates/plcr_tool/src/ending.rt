@@ -5,21 +5,21 @@ ghost use Rattle.plcr_tool.specs.Commands.{status_of};
 use crate::refusals::Refusal;
 
 /// How a command ends.
-#[derive(Clone, Copy, Debug, PartialEq, Eq)]
-pub enum Ending {
+#[derive(Clone, Copy, Debug)]
+pub enum Ending<'a> {
     /// The whole command was done.
     Done,
     /// The words fit no command form.
     Misused,
     /// It was refused before its run.
-    Refused { refusal: Refusal },
+    Refused { refusal: Refusal<'a> },
     /// Its run stopped at a file that wasn't kept or at a line that wasn't printed.
     Stopped,
 }
 
 /// The status with which the program ends.
-pub fn status(ending: Ending) -> u8
-    ensures { result ≡ status_of ending }
+pub fn status(ending: Ending<'_>) -> u8
+    ensures { result ≡ status_of ending.entry }
 {
     match ending {
         Ending::Done => 0,
@@ -30,13 +30,14 @@ pub fn status(ending: Ending) -> u8
 }
 
 /// The status of a refusal.
-fn refusal_status(refusal: Refusal) -> u8
-    ensures { result ≡ status_of (Ending.Refused refusal) }
+fn refusal_status(refusal: Refusal<'_>) -> u8
+    ensures { result ≡ status_of (Ending.Refused refusal.entry) }
 {
     match refusal {
         Refusal::CannotRead { .. } | Refusal::TooLong { .. } => 2,
         Refusal::CoreRefused { .. } => 3,
         Refusal::ScriptRefused { .. } => 4,
+        Refusal::ReportRefused { .. } => 6,
         Refusal::OutOfMemory => 7,
     }
 }

@@ -1,8 +1,17 @@
 //! The command `plcr_tool`.
 #![tactic(auto)]
 
+mod changing;
+mod complete;
 mod ending;
+mod entries;
 mod files;
+#[cfg(test)]
+mod fixtures;
+#[cfg(test)]
+mod image_tests;
+mod laws;
+mod list;
 mod preparing;
 mod print;
 mod process;
@@ -11,13 +20,18 @@ mod refusing;
 mod report;
 mod running;
 mod saving;
+mod show;
+#[cfg(test)]
+mod show_tests;
 mod stepping;
 mod taking;
 #[cfg(test)]
 mod tests;
 mod top;
 
+use ending::{Ending, status};
 use plcr_io::{HostDesk, HostOut};
+use refusals::Refusal;
 use std::process::ExitCode;
 use std::{env, io};
 
@@ -26,13 +40,17 @@ fn main(rt: HostRuntime) -> ExitCode {
     let mut lines = HostOut::new(rt.stdout());
     let words = match words(&rt) {
         Ok(words) => words,
+        Err(error) if error.kind() == io::ErrorKind::OutOfMemory => {
+            let refusal = Refusal::OutOfMemory;
+            return ExitCode::from(status(Ending::Refused { refusal }));
+        }
         Err(_) => Vec::new(rt.alloc()),
     };
     ExitCode::from(top::top(rt.alloc(), words.as_slice(), &mut desk, &mut lines))
 }
 
-/// The words behind the program's name. An error, as for a word that isn't text, stands for words that
-/// fit no form.
+/// The words behind the program's name. An error that isn't want of memory, as for a word that isn't text,
+/// stands for words that fit no form.
 fn words(rt: &HostRuntime) -> io::Result<Vec<String>> {
     let mut words = Vec::new(rt.alloc());
     for word in env::args(rt)?.skip(1) {

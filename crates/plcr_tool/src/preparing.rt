@@ -1,35 +1,46 @@
-//! Reading the files of a command before its run.
-ghost use Rattle.std.specs.Prelude.{◌≡◌, ◌<◌, ◌^◌, length, MatchResult, IfOk, Ok};
+//! Reading the files of `report CORE SCRIPT` before its run.
+ghost use Rattle.std.specs.Prelude.{◌≡◌, ◌<◌, ◌^◌, [], ◌∷◌, length, MatchResult, IfOk, Ok};
 ghost use Rattle.plcr_core.specs.Cores.{AreThreads};
 ghost use Rattle.plcr_tool.specs.Run.{IsRunnable};
 ghost use Rattle.plcr_script.specs.Reading.{script_in};
-ghost use Rattle.plcr_tool.specs.Files.{MadeNothing};
-ghost use Rattle.plcr_tool.specs.Refusals.{CoreMisread, IsCore, IsJob, IsRead, Misread, Refuses, ScriptMisread};
+ghost use Rattle.plcr_script.specs.Lawful.{IsLawful};
+ghost use Rattle.plcr_tool.specs.Files.{MadeNothing, TookAll};
+ghost use Rattle.plcr_tool.specs.Refusals.{CoreMisread, IsCore, IsJob, IsRead, job_files, JobMisread, Refuses, ScriptMisread, Untaken};
 
+use crate::files::{core_file, script_file};
+use crate::list::ImageList;
 use crate::refusals::Refusal;
-use crate::taking::{Files, take_files};
+use crate::taking::take_file;
 use plcr_core::{Core, CoreFault, read_core};
 use plcr_io::Desk;
 use plcr_script::{Mode, Script, ScriptFault, read_script};
 use std::alloc::Global;
 
-/// A core, and the script that is run on it.
+/// A core, the script that is run on it, and the list of images that the run keeps, with all its room.
 #[derive(Drop)]
 pub struct Job {
     pub core: Core,
     pub script: Script,
+    pub list: ImageList,
+}
+
+/// The bytes of a core and of a script.
+#[derive(Drop)]
+struct Files {
+    core: Vec<u8>,
+    script: Vec<u8>,
 }
 
 /// Takes and reads the core and the script.
-pub fn prepare<D: Desk>(
+pub fn prepare<'a, D: Desk>(
     alloc: Global,
-    core: &str,
-    script: &str,
+    core: &'a str,
+    script: &'a str,
     desk: &mut D,
-) -> Result<Job, Refusal>
+) -> Result<Job, Refusal<'a>>
     ensures read { MatchResult result
         (IsJob core.now script.now (D.told desk.old) (D.told desk.new))
-        (Refuses core.now script.now (D.told desk.old) (D.told desk.new)) }
+        (Refuses JobMisread (job_files core.now script.now) (D.told desk.old) (D.told desk.new)) }
     ensures runnable { IfOk result IsRunnable }
     ensures nothing { MadeNothing (D.told desk.old) (D.told desk.new) }
 {
@@ -39,12 +50,36 @@ pub fn prepare<D: Desk>(
     }
 }
 
+/// Takes the core and then the script.
+fn take_files<'a, D: Desk>(
+    alloc: Global,
+    core: &'a str,
+    script: &'a str,
+    desk: &mut D,
+) -> Result<Files, Refusal<'a>>
+    ensures taken { MatchResult result
+        (λ files. TookAll (job_files core.now script.now) (files.core.items ∷ files.script.items ∷ []) (D.told desk.old) (D.told desk.new))
+        (Untaken (job_files core.now script.now) (D.told desk.old) (D.told desk.new)) }
+    ensures nothing { MadeNothing (D.told desk.old) (D.told desk.new) }
+{
+    match take_file(alloc, core_file(core), desk) {
+        Err(refusal) => Err(refusal),
+        Ok(core_bytes) => match take_file(alloc, script_file(script), desk) {
+            Err(refusal) => Err(refusal),
+            Ok(script_bytes) => Ok(Files {
+                core: core_bytes,
+                script: script_bytes,
+            }),
+        },
+    }
+}
+
 /// Reads the core and then the script.
-fn read_files(alloc: Global, files: Files) -> Result<Job, Refusal>
+fn read_files<'a>(alloc: Global, files: Files) -> Result<Job, Refusal<'a>>
     requires { length files.script.items < 2 ^ 32 }
     ensures read { MatchResult result
         (IsRead files.core.items files.script.items)
-        (Misread files.core.items files.script.items) }
+        (JobMisread (files.core.items ∷ files.script.items ∷ [])) }
     ensures runnable { IfOk result IsRunnable }
 {
     let Files { core, script } = files;
@@ -52,13 +87,16 @@ fn read_files(alloc: Global, files: Files) -> Result<Job, Refusal>
         Err(refusal) => Err(refusal),
         Ok(core) => match script_of(alloc, script.as_slice()) {
             Err(refusal) => Err(refusal),
-            Ok(script) => Ok(Job { core, script }),
+            Ok(script) => match ImageList::open(alloc, script.nodes()) {
+                Err(_) => Err(Refusal::OutOfMemory),
+                Ok(list) => Ok(Job { core, script, list }),
+            },
         },
     }
 }
 
 /// The core that the bytes are.
-fn core_of(alloc: Global, bytes: Vec<u8>) -> Result<Core, Refusal>
+fn core_of<'a>(alloc: Global, bytes: Vec<u8>) -> Result<Core, Refusal<'a>>
     ensures read { MatchResult result (IsCore bytes.items) (CoreMisread bytes.items) }
     ensures threads { IfOk result (λ core. AreThreads core.arch core.threads) }
 {
@@ -70,9 +108,10 @@ fn core_of(alloc: Global, bytes: Vec<u8>) -> Result<Core, Refusal>
 }
 
 /// The script that the bytes are.
-fn script_of(alloc: Global, bytes: &[u8]) -> Result<Script, Refusal>
+fn script_of<'a>(alloc: Global, bytes: &[u8]) -> Result<Script, Refusal<'a>>
     requires { length bytes.now < 2 ^ 32 }
-    ensures { MatchResult result (λ script. script_in bytes.now ≡ Ok script) (ScriptMisread bytes.now) }
+    ensures read { MatchResult result (λ script. script_in bytes.now ≡ Ok script) (ScriptMisread bytes.now) }
+    ensures lawful { IfOk result IsLawful }
 {
     match read_script(alloc, bytes, Mode::Single, &[]) {
         Ok(script) => Ok(script),

@@ -1,48 +1,63 @@
-//! The stopped process, by the reports that are taken of it.
-ghost use Rattle.std.specs.Prelude.{◌≡◌, ◌≤◌, List, ℕ, length, [], IfOk, OnOk, OnErr};
-ghost use Rattle.std.specs.Io.KnownBytes.{append_known};
-ghost use Rattle.plcr_base.specs.Causes.{Rose};
-ghost use Rattle.plcr_base.specs.Told.{AppendsProperFront};
-ghost use Rattle.plcr_report.specs.Spelling.{spelling_of};
-ghost use Rattle.plcr_encode.specs.Conditions.{AreWhole, IsWritable};
-ghost use Rattle.plcr_encode.specs.Values.{report_of};
+//! The process that a core holds.
+ghost use Rattle.std.specs.Prelude.{◌≡◌};
+ghost use Rattle.plcr_tool.specs.Run.{fault_number};
 
 use plcr_core::Core;
-use plcr_encode::{Context, write_report};
+use plcr_encode::{Context, capture};
 use plcr_io::{PutFailed, Sink};
+use plcr_macho::{ImageFault, Images, parse};
+use plcr_script::Process;
 
-/// A process that doesn't change, so that each report of it has the same bytes.
-pub trait Process {
-    /// What a capture asks of the process.
-    ghost ready: { Self → Type 0 };
-
-    /// The bytes of a report.
-    ghost report: { Self → List ℕ };
-
-    /// Writes a report, and gives its length. At `Err` the sink has a front of it, and not all.
-    fn capture<K: Sink>(&self, sink: &mut K) -> Result<u64, PutFailed>
-        requires { ready self.now }
-        ensures written { OnOk result (K.written sink.new ≡ append_known (K.written sink.old) (report self.now)) }
-        ensures length { IfOk result (λ n. n ≡ length (report self.now)) }
-        ensures err { OnErr result (AppendsProperFront (K.written sink.old) (K.written sink.new) (report self.now)) }
-        ensures cause { OnErr result (Rose (K.faults sink.old) (K.faults sink.new)) }
-        ensures later { K.faults sink.old ≤ K.faults sink.new }
-        ensures mark { K.mark sink.new ≡ K.mark sink.old };
-}
-
-/// The process that a core holds, with what is said of it beside the core.
+/// The process that a core holds: its images are those of its memory, and its threads are stopped.
 #[derive(Clone, Copy)]
 pub struct CoreProcess<'a> {
     pub core: &'a Core,
-    pub context: Context<'a>,
 }
 
 impl Process for CoreProcess<'_> {
-    ghost ready = { λ p. AreWhole p.context.arch p.core.now.threads × IsWritable p.context };
+    ghost use Rattle.plcr_report.specs.Spelling.{spelling_of};
+    ghost use Rattle.plcr_encode.specs.Conditions.{AreWhole, IsWritable};
+    ghost use Rattle.plcr_encode.specs.Values.{process_report};
+    ghost use Rattle.plcr_tool.specs.Run.{fault_at};
 
-    ghost report = { λ p. spelling_of (report_of p.context p.core.now.threads []) };
+    ghost image_fault = { λ p header. fault_at p.core.now header };
 
-    fn capture<K: Sink>(&self, sink: &mut K) -> Result<u64, PutFailed> {
-        write_report(self.core.threads.as_slice(), &self.context, sink)
+    ghost report = { λ p context images. spelling_of (process_report context p.core.now.threads p.core.now.memory images) };
+
+    ghost accepts = { λ p context. AreWhole context.arch p.core.now.threads × IsWritable context };
+
+    fn fault(&self, header: u64) -> Option<u8> {
+        match parse(&self.core.memory, self.core.arch, header) {
+            Ok(_) => None,
+            Err(fault) => Some(number_of(fault)),
+        }
+    }
+
+    fn capture<I: Images, K: Sink>(
+        &self,
+        images: &mut I,
+        context: &Context,
+        sink: &mut K,
+    ) -> Result<u64, PutFailed> {
+        capture(
+            images,
+            &self.core.memory,
+            self.core.threads.as_slice(),
+            context,
+            sink,
+        )
+    }
+}
+
+/// The number of an image's fault, as the log prints it.
+fn number_of(fault: ImageFault) -> u8
+    ensures { result ≡ fault_number fault }
+{
+    match fault {
+        ImageFault::Unreadable { .. } => 1,
+        ImageFault::NotMachO { .. } => 2,
+        ImageFault::OtherCpu { .. } => 3,
+        ImageFault::BadCommand { .. } => 4,
+        ImageFault::NoText => 5,
     }
 }

@@ -31,13 +31,13 @@ pub fn report_command<D: Desk, L: Sink>(
     status(report(alloc, core, script, desk, lines))
 }
 
-fn report<D: Desk, L: Sink>(
+fn report<'a, D: Desk, L: Sink>(
     alloc: Global,
-    core: &str,
-    script: &str,
+    core: &'a str,
+    script: &'a str,
     desk: &mut D,
     lines: &mut L,
-) -> Ending
+) -> Ending<'a>
     ensures did { Reports core.now script.now
         (seen (D.told desk.old) (L.written lines.old) (L.faults lines.old))
         (seen (D.told desk.new) (L.written lines.new) (L.faults lines.new)) result }
@@ -47,17 +47,17 @@ fn report<D: Desk, L: Sink>(
     ensures mark { L.mark lines.new ≡ L.mark lines.old }
 {
     match prepare(alloc, core, script, desk) {
-        Ok(job) => run_job(&job, desk, lines),
+        Ok(job) => run_job(job, desk, lines),
         Err(refusal) => Ending::Refused {
-            refusal: refuse(alloc, core, script, refusal, lines),
+            refusal: refuse(alloc, refusal, lines),
         },
     }
 }
 
 /// Runs the script of a job on its core.
-fn run_job<D: Desk, L: Sink>(job: &Job, desk: &mut D, lines: &mut L) -> Ending
-    requires { IsRunnable job.now }
-    ensures ends { RunEnds job.now
+fn run_job<'a, D: Desk, L: Sink>(job: Job, desk: &mut D, lines: &mut L) -> Ending<'a>
+    requires { IsRunnable job }
+    ensures ends { RunEnds job
         (seen (D.told desk.old) (L.written lines.old) (L.faults lines.old))
         (seen (D.told desk.new) (L.written lines.new) (L.faults lines.new)) result }
     ensures goes_on { GoesOn
@@ -65,11 +65,14 @@ fn run_job<D: Desk, L: Sink>(job: &Job, desk: &mut D, lines: &mut L) -> Ending
         (seen (D.told desk.new) (L.written lines.new) (L.faults lines.new)) }
     ensures mark { L.mark lines.new ≡ L.mark lines.old }
 {
-    let process = CoreProcess {
-        core: &job.core,
-        context: job.script.context(job.core.arch),
-    };
-    match run(&process, &job.script, desk, lines) {
+    let Job {
+        core,
+        script,
+        mut list,
+    } = job;
+    let process = CoreProcess { core: &core };
+    let context = script.context(core.arch);
+    match run(&process, &script, &context, &mut list, desk, lines) {
         Ok(()) => Ending::Done,
         Err(_) => Ending::Stopped,
     }

@@ -1,15 +1,23 @@
-//! One step of a run: a report into a file, and its line of the log.
-ghost use Rattle.std.specs.Prelude.{◌≡◌, [], ◌∷◌, IsTrue, OnOk, OnErr, IsErrOf};
-ghost use Rattle.plcr_script.specs.Reading.{is_file_name};
+//! One step of a run: what a statement comes to, its file if it writes one, and its line of the log.
+ghost use Rattle.std.specs.Prelude.{◌≡◌, ◌≤◌, ℕ, List, None, IsTrue, length};
+ghost use Rattle.plcr_io.specs.Desk.{Told};
+ghost use Rattle.plcr_script.specs.Sayings.{is_file_name};
+ghost use Rattle.plcr_script.specs.Lawful.{IsFitStatement};
+ghost use Rattle.plcr_script.specs.Changes.{Change};
+ghost use Rattle.plcr_script.specs.Runs.{meanings, turn_of};
+ghost use Rattle.plcr_script.specs.Log.{log_line};
 ghost use Rattle.plcr_tool.specs.Seen.{seen};
-ghost use Rattle.plcr_tool.specs.Steps.{reported};
-ghost use Rattle.plcr_tool.specs.Endings.{IsDone, CannotWrite, CannotPrint, GoesOn};
+ghost use Rattle.plcr_tool.specs.Listing.{IsAfter, listed};
+ghost use Rattle.plcr_tool.specs.Steps.{line_step, report_step};
+ghost use Rattle.plcr_tool.specs.Endings.{StepEnds, TurnEnds, GoesOn};
 
+use crate::changing::{load, unload};
+use crate::list::ImageList;
 use crate::print::print_line;
-use crate::process::Process;
 use crate::saving::{Unsaved, save};
+use plcr_encode::Context;
 use plcr_io::{Desk, PutFailed, Sink};
-use plcr_script::{Outcome, write_outcome};
+use plcr_script::{Outcome, Process, Statement, write_outcome};
 
 /// Why a run stops.
 #[derive(Clone, Copy, Debug, PartialEq, Eq)]
@@ -20,23 +28,21 @@ pub enum Stop {
     Unprinted,
 }
 
-/// Keeps a report as a file, and prints the line of its statement.
-pub fn take_step<P: Process, D: Desk, L: Sink>(
+/// Takes the step of a statement.
+pub(crate) fn take_step<P: Process, D: Desk, L: Sink>(
     process: &P,
+    context: &Context,
     number: u32,
-    file: &[u8],
+    statement: &Statement,
+    list: &mut ImageList,
     desk: &mut D,
     lines: &mut L,
 ) -> Result<(), Stop>
-    requires ready { P.ready process.now }
-    requires named { IsTrue (is_file_name file.now) }
-    ensures done { OnOk result (IsDone (reported (P.report process.now) number file.now ∷ [])
-        (seen (D.told desk.old) (L.written lines.old) (L.faults lines.old))
-        (seen (D.told desk.new) (L.written lines.new) (L.faults lines.new))) }
-    ensures unwritten { IsErrOf result Stop.Unwritten → CannotWrite [] (reported (P.report process.now) number file.now)
-        (seen (D.told desk.old) (L.written lines.old) (L.faults lines.old))
-        (seen (D.told desk.new) (L.written lines.new) (L.faults lines.new)) }
-    ensures unprinted { IsErrOf result Stop.Unprinted → CannotPrint [] (reported (P.report process.now) number file.now)
+    requires context { P.accepts process.now context.now }
+    requires fit { IsFitStatement statement.now }
+    ensures ends { (nodes : ℕ) (changes : List Change) → IsAfter list.old nodes changes → TurnEnds result
+        (turn_of (meanings (P.image_fault process.now) (P.report process.now context.now)) nodes changes statement.now)
+        number nodes changes list.new
         (seen (D.told desk.old) (L.written lines.old) (L.faults lines.old))
         (seen (D.told desk.new) (L.written lines.new) (L.faults lines.new)) }
     ensures goes_on { GoesOn
@@ -44,18 +50,70 @@ pub fn take_step<P: Process, D: Desk, L: Sink>(
         (seen (D.told desk.new) (L.written lines.new) (L.faults lines.new)) }
     ensures mark { L.mark lines.new ≡ L.mark lines.old }
 {
-    match save(file_name(file), process, desk) {
+    match statement {
+        Statement::Load { header, name } => {
+            let outcome = load(process, *header, name.as_slice(), list);
+            tell(number, &outcome, lines)
+        }
+        Statement::Unload { header } => {
+            let outcome = unload(*header, list);
+            tell(number, &outcome, lines)
+        }
+        Statement::Report { pass: _, file } => {
+            report(process, context, number, file.as_slice(), list, desk, lines)
+        }
+    }
+}
+
+/// Prints the line of a statement that writes no file.
+fn tell<L: Sink>(number: u32, outcome: &Outcome, lines: &mut L) -> Result<(), Stop>
+    ensures ends { (desk : Told) → StepEnds result (line_step (log_line None number outcome.now))
+        (seen desk (L.written lines.old) (L.faults lines.old))
+        (seen desk (L.written lines.new) (L.faults lines.new)) }
+    ensures later { L.faults lines.old ≤ L.faults lines.new }
+    ensures mark { L.mark lines.new ≡ L.mark lines.old }
+{
+    match write_outcome(None, number, outcome, lines) {
+        Ok(()) => Ok(()),
+        Err(PutFailed) => Err(Stop::Unprinted),
+    }
+}
+
+/// Keeps a report as a file, and prints the line of its statement.
+fn report<P: Process, D: Desk, L: Sink>(
+    process: &P,
+    context: &Context,
+    number: u32,
+    file: &[u8],
+    list: &ImageList,
+    desk: &mut D,
+    lines: &mut L,
+) -> Result<(), Stop>
+    requires context { P.accepts process.now context.now }
+    requires named { IsTrue (is_file_name file.now) }
+    ensures ends { StepEnds result (report_step number file.now (P.report process.now context.now (listed list.now.images)) (length list.now.images) list.now.changes)
+        (seen (D.told desk.old) (L.written lines.old) (L.faults lines.old))
+        (seen (D.told desk.new) (L.written lines.new) (L.faults lines.new)) }
+    ensures goes_on { GoesOn
+        (seen (D.told desk.old) (L.written lines.old) (L.faults lines.old))
+        (seen (D.told desk.new) (L.written lines.new) (L.faults lines.new)) }
+    ensures mark { L.mark lines.new ≡ L.mark lines.old }
+{
+    let mut images = list.images();
+    match save(file_name(file), process, context, &mut images, desk) {
         Err(Unsaved) => {
             print_line(lines, b"cannot write ", file, b"\n");
             Err(Stop::Unwritten)
         }
         Ok(bytes) => {
+            let count = list.len() as u32;
+            let changes = list.changes();
             let outcome = Outcome::Reported {
                 file,
                 bytes,
-                images: 0,
-                low: 0,
-                high: 0,
+                images: count,
+                low: changes,
+                high: changes,
             };
             match write_outcome(None, number, &outcome, lines) {
                 Ok(()) => Ok(()),

@@ -8,6 +8,7 @@ ghost use Rattle.plcr_tool.specs.Commands.{TopDoes};
 use crate::ending::{Ending, status};
 use crate::print::print_line;
 use crate::report::report_command;
+use crate::show::show_command;
 use plcr_io::{Desk, Sink};
 use std::alloc::Global;
 
@@ -24,6 +25,13 @@ pub fn top<D: Desk, L: Sink>(alloc: Global, words: &[String], desk: &mut D, line
     ensures mark { L.mark lines.new ≡ L.mark lines.old }
 {
     match words {
+        [word, report] => {
+            if word.as_str() == "show" {
+                show_command(alloc, report.as_str(), desk, lines)
+            } else {
+                misused(lines)
+            }
+        }
         [word, core, script] => {
             if word.as_str() == "report" {
                 report_command(alloc, core.as_str(), script.as_str(), desk, lines)

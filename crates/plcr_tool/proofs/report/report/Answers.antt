@@ -4,7 +4,7 @@ use Rattle.plcr_tool.proofs.report.report.Goals as goal
 
 pub returns-in-Ok-clause-did : goal.returns-in-Ok-clause-did
 returns-in-Ok-clause-did g c =
-    reports_run _ _ c.in-Ok.job c.run_job.result _ _ _ _ _ _ _ c.in-Ok.ensures.read c.prepare.ensures.nothing c.run_job.ensures.goes_on.taken c.run_job.ensures.ends
+    reports_run _ _ c.in-Ok.job c.run_job.result _ _ _ _ _ _ _ c.in-Ok.ensures.read c.prepare.ensures.nothing c.run_job.ensures.goes_on.desk.taken c.run_job.ensures.ends
 
 pub returns-in-Err-clause-did : goal.returns-in-Err-clause-did
 returns-in-Err-clause-did g c = record {

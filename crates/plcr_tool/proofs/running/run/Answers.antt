@@ -1,27 +1,41 @@
-use Rattle.std.proofs.Common.{◌≡◌, ◌∙◌, sym, Some, arith}
-use Rattle.std.specs.Prelude.{slice_get}
-use Rattle.plcr_tool.specs.Steps.{steps_of, reported}
-use Rattle.plcr_tool.proofs.Composed.{so_far_more, so_far_all, stops}
-use Rattle.plcr_tool.proofs.Stepped.{step_at, length-steps_of, stopped_by}
+use Rattle.std.proofs.Common.{◌∙◌, refl, sym, subst, List, arith}
+use Rattle.plcr_script.specs.Changes.{Change}
+use Rattle.plcr_script.specs.Runs.{meanings}
+use Rattle.plcr_tool.specs.Listing.{IsAfter}
+use Rattle.plcr_tool.proofs.Composed.{so_far_none, so_far_more, so_far_all, stops}
+use Rattle.plcr_tool.proofs.Stepped.{turn_at, step_at, fit_at, changes_more, length-steps_of, stopped_by}
+use Rattle.plcr_tool.proofs.Turning.{after_none}
 use Rattle.plcr_tool.proofs.running.run.Goals as goal
+
+pub loop-i-init : goal.loop-i-init
+loop-i-init g c = record {
+  steps = so_far_none _ _;
+  mark = refl;
+  list = after_none c.args.list.now c.args.script.now.nodes c.requires.empty;
+}
+
+pub take_step-requires-clause-fit : goal.take_step-requires-clause-fit
+take_step-requires-clause-fit g c = fit_at c.args.script.now c.loop-i.i c.statement.result.now c.requires.lawful.statements c.statement.ensures
 
 pub returns-in-Err-clause-stopped : goal.returns-in-Err-clause-stopped
 returns-in-Err-clause-stopped g c =
-    let report = g.P.Process.report c.args.process.now in
-    let is : slice_get (steps_of report c.args.script.now) c.loop-i.i ≡ Some (reported report c.line.result c.report_file-file.result.now) =
-    rw c.report_file-file.ensures (step_at report c.args.script.now c.loop-i.i c.line.result c.statement.result.now c.line.ensures c.statement.ensures) in
-    stops _ _ _ _ _ _ is c.loop-i.invariant.0 (stopped_by c.in-Err.stop c.in-Err.ensures.unwritten c.in-Err.ensures.unprinted)
+    let p = meanings (g.P.Process.image_fault c.args.process.now) (g.P.Process.report c.args.process.now c.args.context.now) in
+    let turn = turn_at p c.args.script.now c.loop-i.i c.line.result c.statement.result.now c.line.ensures c.statement.ensures in
+    stops _ _ _ _ _ _ (step_at p c.args.script.now c.loop-i.i _ turn) c.loop-i.invariant.steps (stopped_by c.in-Err.stop _ _ _ (c.in-Err.ensures.ends _ _ c.loop-i.invariant.list))
 
 pub loop-i-preserved : goal.loop-i-preserved
 loop-i-preserved g c =
-    let report = g.P.Process.report c.args.process.now in
-    let is : slice_get (steps_of report c.args.script.now) c.loop-i.i ≡ Some (reported report c.line.result c.report_file-file.result.now) =
-    rw c.report_file-file.ensures (step_at report c.args.script.now c.loop-i.i c.line.result c.statement.result.now c.line.ensures c.statement.ensures) in (
-      so_far_more _ _ _ _ _ _ is c.loop-i.invariant.0 c.in-Ok.ensures.done c.take_step.ensures.goes_on,
-      c.take_step.ensures.mark ∙ c.loop-i.invariant.1,
-    )
+    let p = meanings (g.P.Process.image_fault c.args.process.now) (g.P.Process.report c.args.process.now c.args.context.now) in
+    let turn = turn_at p c.args.script.now c.loop-i.i c.line.result c.statement.result.now c.line.ensures c.statement.ensures in
+    let ends = c.in-Ok.ensures.ends _ _ c.loop-i.invariant.list in
+    let P : List Change → Type 0 = λ cs. IsAfter c.take_step.new.list c.args.script.now.nodes cs in
+    record {
+      steps = so_far_more _ _ _ _ _ _ (step_at p c.args.script.now c.loop-i.i _ turn) c.loop-i.invariant.steps ends.0 c.take_step.ensures.goes_on;
+      mark = c.take_step.ensures.mark ∙ c.loop-i.invariant.mark;
+      list = subst P (sym (changes_more p c.args.script.now c.loop-i.i _ turn)) ends.1;
+    }
 
 pub returns-clause-done : goal.returns-clause-done
 returns-clause-done g c =
-    let report = g.P.Process.report c.args.process.now in
-    so_far_all _ c.loop-i.i _ _ (omega (arith, length-steps_of report c.args.script.now)) c.loop-i.invariant.0
+    let p = meanings (g.P.Process.image_fault c.args.process.now) (g.P.Process.report c.args.process.now c.args.context.now) in
+    so_far_all _ c.loop-i.i _ _ (omega (arith, length-steps_of p c.args.script.now)) c.loop-i.invariant.steps

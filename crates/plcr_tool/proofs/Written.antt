@@ -1,0 +1,256 @@
+-- The reports that a capture writes have a file: their numbers have the width of their types, and their bytes are few.
+use Rattle.std.proofs.Common.{◌≡◌, ℕ, pos, zero, suc, ◌+◌, ◌*◌, ◌^◌, ◌<◌, ◌≤◌, Bool, true, false, List, [], ◌∷◌, ◌++◌, length, map, Option, Some, None, Ok, refl, ◌∙◌, arith, length-append, lit<, lit≤}
+use Rattle.std.specs.Prelude.{slice_index_or, unwrap_or, IfSome, nat_le, ◌==◌, if◌then◌else◌}
+use Rattle.std.specs.List.{AllByRecursion, enumerate_from, range_with_len, list_all}
+use Rattle.std.specs.Int.{w64}
+use Rattle.std.proofs.lemmas.List.FromFn.{length-map-range_with_len, length-enumerate_from}
+use Rattle.std.proofs.lemmas.List.{length-map}
+use Rattle.std.proofs.lemmas.Bool.{and_parts, leb-true}
+use Rattle.std.proofs.lemmas.Int.{fits_signed_from_abs}
+use Rattle.std.proofs.Math.Nat.{suc-mul}
+use Rattle.plcr_wire.specs.Message.{Number, Bytes, Field, field_spelling, number_field, bytes_field, spelling}
+use Rattle.plcr_regs.specs.declared.arch.Arch.{Arch}
+use Rattle.plcr_regs.specs.declared.arch.Arch.TheVariants.{X86_64, Arm64}
+use Rattle.plcr_regs.specs.declared.registers.Registers.{Registers}
+use Rattle.plcr_regs.specs.Names.{register_names, register_count}
+use Rattle.plcr_report.specs.Spelling.{file_head, spelling_of}
+use Rattle.plcr_report.specs.Messages.{maybe, each, frame_message, register_message, thread_message, system_message, application_message, processor_message, image_message, signal_message, process_message, info_message, report_message}
+use Rattle.plcr_report.specs.declared.messages.Report.{Report}
+use Rattle.plcr_report.specs.declared.messages.Thread.{Thread}
+use Rattle.plcr_report.specs.declared.messages.Image.{Image}
+use Rattle.plcr_report.specs.declared.messages.Processor.{Processor}
+use Rattle.plcr_encode.specs.declared.context.Context.{Context}
+use Rattle.plcr_encode.specs.Values.{report_of, architecture_number, value_at, register_at, registers_of, pcs_of, frame_at, thread_of, threads_of, system_of, application_of, signal_of, process_of, info_of}
+use Rattle.plcr_encode.proofs.Lengths.{number_short, bytes_short}
+use Rattle.plcr_decode.specs.Fits.{TypedRegister, TypedThread, TypedProcessor, TypedImage, TypedReport}
+use Rattle.plcr_decode.specs.Reads.{reads}
+use Rattle.plcr_decode.proofs.Bounds.{file_again}
+use Rattle.plcr_tool.specs.Handed.{IsHandedContext, IsHandedState, AreHandedThreads, IsHandedImage, AreHandedImages}
+
+-- fields that are spelt in at most so many bytes
+pub record AtMost (n : ℕ) (fs : List Field) : Type 0 where
+  pub short : length (spelling fs) ≤ n
+
+no_field : AtMost 0 []
+no_field = record { short = lit≤ tt }
+
+-- one more field in front, of at most so many bytes
+with_field : (f : Field) (fs : List Field) (m n : ℕ) → length (field_spelling f) ≤ m → AtMost n fs → AtMost (m + n) (f ∷ fs)
+with_field f fs m n short others = let l = length-append (field_spelling f) (spelling fs) in let rest = others.short in record { short = omega arith }
+
+with_number : (field value : ℕ) (fs : List Field) (n : ℕ) → field < 2 ^ 32 → value < 2 ^ 64 → AtMost n fs → AtMost (20 + n) (record { number = field; value = Number value } ∷ fs)
+with_number field value fs n small fits others = with_field (number_field field value) fs 20 n (number_short field value small fits) others
+
+with_bytes : (field : ℕ) (bytes : List ℕ) (m : ℕ) (fs : List Field) (n : ℕ) → field < 2 ^ 32 → length bytes ≤ m → m < 2 ^ 64 → AtMost n fs → AtMost (20 + m + n) (record { number = field; value = Bytes bytes } ∷ fs)
+with_bytes field bytes m fs n small short most others =
+    let l : length (field_spelling (bytes_field field bytes)) ≤ 20 + length bytes = bytes_short field bytes small (omega arith) in
+    with_field (bytes_field field bytes) fs (20 + m) n (omega arith) others
+
+-- a field for each of these
+with_rows : {A : Type 0} (field : ℕ) (message : A → List Field) (xs : List A) (m : ℕ) (fs : List Field) (n : ℕ) → field < 2 ^ 32 → m < 2 ^ 64 → AllByRecursion (λ x. AtMost m (message x)) xs → AtMost n fs → AtMost (length xs * (20 + m) + n) (map (λ v. record { number = field; value = v }) (each message xs) ++ fs)
+with_rows field message [] m fs n small most all others = let rest = others.short in record { short = omega arith }
+with_rows field message (x ∷ xs) m fs n small most all others =
+    let rest = with_rows field message xs m fs n small most all.1 others in
+    let one = with_bytes field (spelling (message x)) m (map (λ v. record { number = field; value = v }) (each message xs) ++ fs) (length xs * (20 + m) + n) small all.0.short most rest in
+    let sum : suc (length xs) * (20 + m) ≡ length xs * (20 + m) + (20 + m) = suc-mul (length xs) (20 + m) in
+    let short = one.short in
+    record { short = omega (arith, short, sum) }
+
+-- bytes that may not be there
+with_maybe : {A : Type 0} (field : ℕ) (bytes : A → List ℕ) (o : Option A) (m : ℕ) (fs : List Field) (n : ℕ) → field < 2 ^ 32 → m < 2 ^ 64 → IfSome o (λ x. length (bytes x) ≤ m) → AtMost n fs → AtMost (20 + m + n) (map (λ v. record { number = field; value = v }) (maybe (λ x. Bytes (bytes x) ∷ []) o) ++ fs)
+with_maybe field bytes None m fs n small most short others = let rest = others.short in record { short = omega arith }
+with_maybe field bytes (Some x) m fs n small most short others = with_bytes field (bytes x) m fs n small short most others
+
+-- what holds of each that a function gives
+all_mapped : {A B : Type 0} (P : B → Type 0) (f : A → B) → ((x : A) → P (f x)) → (xs : List A) → AllByRecursion P (map f xs)
+all_mapped P f holds [] = tt
+all_mapped P f holds (x ∷ xs) = (holds x, all_mapped P f holds xs)
+
+all_weaker : {A : Type 0} (P Q : A → Type 0) → ((x : A) → P x → Q x) → (xs : List A) → AllByRecursion P xs → AllByRecursion Q xs
+all_weaker P Q f [] p = tt
+all_weaker P Q f (x ∷ xs) p = (f x p.0, all_weaker P Q f xs p.1)
+
+some_weaker : {A : Type 0} (P Q : A → Type 0) → ((x : A) → P x → Q x) → (o : Option A) → IfSome o P → IfSome o Q
+some_weaker P Q f None p = tt
+some_weaker P Q f (Some x) p = f x p
+
+-- the names of registers have at most 8 bytes
+each_short : (names : List (List ℕ)) (i : ℕ) → list_all (λ name. nat_le (length name) 8) names ≡ true → length (slice_index_or names i []) ≤ 8
+each_short [] i all = lit≤ tt
+each_short (name ∷ names) zero all = leb-true (length name) 8 (and_parts (nat_le (length name) 8) _ all).0
+each_short (name ∷ names) (suc i) all = each_short names i (and_parts (nat_le (length name) 8) _ all).1
+
+name_short : (arch : Arch) (i : ℕ) → length (slice_index_or (register_names arch) i []) ≤ 8
+name_short X86_64 i = each_short (register_names X86_64) i refl
+name_short Arm64 i = each_short (register_names Arm64) i refl
+
+count_small : (arch : Arch) → register_count arch ≤ 34
+count_small X86_64 = lit≤ tt
+count_small Arm64 = lit≤ tt
+
+-- the value of a register has 64 bits
+value_fits : (values : List (Option ℕ)) (i : ℕ) → AllByRecursion (λ value. IfSome value (λ n. n < 2 ^ 64)) values → unwrap_or (slice_index_or values i None) 0 < 2 ^ 64
+value_fits [] i all = lit< tt
+value_fits (None ∷ values) zero all = lit< tt
+value_fits (Some n ∷ values) zero all = all.0
+value_fits (value ∷ values) (suc i) all = value_fits values i all.1
+
+-- a register of a state
+register_typed : (state : Registers) → IsHandedState state → (i : ℕ) → TypedRegister (register_at state i)
+register_typed state handed i = record { value = value_fits state.value i handed }
+
+register_len : (state : Registers) → IsHandedState state → (i : ℕ) → AtMost 48 (register_message (register_at state i))
+unfolding register_message
+register_len state handed i =
+    with_bytes 1 (slice_index_or (register_names state.arch) i []) 8 _ 20 (lit< tt) (name_short state.arch i) (lit< tt)
+    (with_number 2 (value_at state i) [] 0 (lit< tt) (value_fits state.value i handed) no_field)
+
+-- the one frame of a state
+frame_len : (pc : ℕ) → pc < 2 ^ 64 → AtMost 20 (frame_message (record { pc = pc; symbol = None }))
+unfolding frame_message
+frame_len pc fits = with_number 3 pc [] 0 (lit< tt) fits no_field
+
+bool_small : (b : Bool) → (if b then 1 else 0) < 2 ^ 64
+bool_small true = lit< tt
+bool_small false = lit< tt
+
+-- a thread, whatever its number and whether it crashed
+thread_len : (number crashed : ℕ) (state : Registers) → number < 2 ^ 32 → IsHandedState state → AtMost 2392 (thread_message (thread_of crashed (number, state)))
+unfolding thread_message
+thread_len number crashed state small handed =
+    let registers = with_rows 4 register_message (registers_of state) 48 [] 0 (lit< tt) (lit< tt) (all_mapped (λ r. AtMost 48 (register_message r)) (register_at state) (register_len state handed) (range_with_len 0 (register_count state.arch))) no_field in
+    let count : length (registers_of state) ≡ register_count state.arch = length-map-range_with_len (register_at state) 0 (register_count state.arch) in
+    let few : register_count state.arch ≤ 34 = count_small state.arch in
+    let flag = with_number 3 (if number == crashed then 1 else 0) _ (length (registers_of state) * (20 + 48) + 0) (lit< tt) (bool_small (number == crashed)) registers in
+    let frames = with_rows 2 frame_message (map frame_at (pcs_of state)) 20 _ _ (lit< tt) (lit< tt) (frame_len _ (value_fits state.value _ handed), tt) flag in
+    let all = (with_number 1 number _ _ (lit< tt) (omega arith) frames).short in
+    record { short = omega (arith, all, count, few) }
+
+thread_typed : (number crashed : ℕ) (state : Registers) → number < 2 ^ 32 → IsHandedState state → TypedThread (thread_of crashed (number, state))
+thread_typed number crashed state small handed = record {
+  thread_number = small;
+  frames = (record { pc = value_fits state.value _ handed; symbol = tt }, tt);
+  registers = all_mapped TypedRegister (register_at state) (register_typed state handed) (range_with_len 0 (register_count state.arch));
+}
+
+-- the threads in these states, numbered from this on
+threads_hold : (P : Thread → Type 0) (crashed : ℕ) → ((number : ℕ) → (state : Registers) → number < 2 ^ 32 → IsHandedState state → P (thread_of crashed (number, state)))
+    → (first : ℕ) (states : List Registers) → first + length states < 2 ^ 32 → AllByRecursion IsHandedState states → AllByRecursion P (map (thread_of crashed) (enumerate_from first states))
+threads_hold P crashed holds first [] few all = tt
+threads_hold P crashed holds first (state ∷ states) few all = (holds first state (omega arith) all.0, threads_hold P crashed holds (first + 1) states (omega arith) all.1)
+
+-- an image
+processor_len : (p : Processor) → TypedProcessor p → AtMost 60 (processor_message p)
+unfolding processor_message
+processor_len p typed =
+    with_number 1 p.encoding _ 40 (lit< tt) (let e = typed.encoding in omega arith) (with_number 2 p.cpu _ 20 (lit< tt) typed.cpu (with_number 3 p.subtype [] 0 (lit< tt) typed.subtype no_field))
+
+image_len : (image : Image) → IsHandedImage image → AtMost 1200 (image_message image)
+unfolding image_message
+image_len image handed =
+    let uuid = some_weaker (λ bytes. length bytes ≡ 16) (λ bytes. length bytes ≤ 16) (λ bytes same. omega (arith, same)) image.uuid handed.uuid in
+    let code = some_weaker TypedProcessor (λ p. length (spelling (processor_message p)) ≤ 60) (λ p typed. (processor_len p typed).short) image.code_type handed.code_type in
+    with_number 1 image.base_address _ 1180 (lit< tt) handed.base_address (with_number 2 image.size _ 1160 (lit< tt) handed.size
+    (with_bytes 3 image.name 1024 _ 116 (lit< tt) handed.name (lit< tt)
+    (with_maybe 4 (λ bytes. bytes) image.uuid 16 _ 80 (lit< tt) (lit< tt) uuid
+    (with_maybe 5 (λ p. spelling (processor_message p)) image.code_type 60 [] 0 (lit< tt) (lit< tt) code no_field))))
+
+image_typed : (image : Image) → IsHandedImage image → TypedImage image
+image_typed image handed = record { base_address = handed.base_address; size = handed.size; code_type = handed.code_type }
+
+-- the messages of a context; each of its texts has fewer than 2^32 bytes
+architecture_small : (arch : Arch) → architecture_number arch < 2 ^ 32
+architecture_small X86_64 = lit< tt
+architecture_small Arm64 = lit< tt
+
+system_len : (context : Context) → IsHandedContext context → AtMost 4294967376 (system_message (system_of context))
+unfolding system_message
+system_len context handed =
+    let os : context.os < 2 ^ 32 = let few = handed.writable.os in omega arith in
+    let time : context.timestamp < 2 ^ 64 = let few = handed.writable.timestamp in omega arith in
+    let arch : architecture_number context.arch < 2 ^ 64 = let few = architecture_small context.arch in omega arith in
+    let text : length context.os_version.now ≤ 4294967296 = let few = handed.writable.os_version in omega arith in
+    with_number 1 context.os _ 4294967356 (lit< tt) (omega arith) (with_bytes 2 context.os_version.now 4294967296 _ 40 (lit< tt) text (lit< tt)
+    (with_number 3 (architecture_number context.arch) _ 20 (lit< tt) arch (with_number 4 context.timestamp [] 0 (lit< tt) time no_field)))
+
+application_len : (context : Context) → IsHandedContext context → AtMost 8589934632 (application_message (application_of context))
+unfolding application_message
+application_len context handed =
+    let identifier : length context.identifier.now ≤ 4294967296 = let few = handed.writable.identifier in omega arith in
+    let version : length context.version.now ≤ 4294967296 = let few = handed.writable.version in omega arith in
+    with_bytes 1 context.identifier.now 4294967296 _ 4294967316 (lit< tt) identifier (lit< tt) (with_bytes 2 context.version.now 4294967296 [] 0 (lit< tt) version (lit< tt) no_field)
+
+signal_len : (context : Context) → IsHandedContext context → AtMost 8589934652 (signal_message (signal_of context))
+unfolding signal_message
+signal_len context handed =
+    let name : length context.signal.now ≤ 4294967296 = let few = handed.writable.signal in omega arith in
+    let code : length context.code.now ≤ 4294967296 = let few = handed.writable.code in omega arith in
+    with_bytes 1 context.signal.now 4294967296 _ 4294967336 (lit< tt) name (lit< tt) (with_bytes 2 context.code.now 4294967296 _ 20 (lit< tt) code (lit< tt)
+    (with_number 3 context.address [] 0 (lit< tt) handed.address no_field))
+
+process_len : (context : Context) → IsHandedContext context → AtMost 4294967376 (process_message (process_of context))
+unfolding process_message
+process_len context handed =
+    let name : length context.process.now ≤ 4294967296 = let few = handed.writable.process in omega arith in
+    let pid : context.pid < 2 ^ 64 = let few = handed.pid in omega arith in
+    let ppid : context.ppid < 2 ^ 64 = let few = handed.ppid in omega arith in
+    with_bytes 1 context.process.now 4294967296 _ 60 (lit< tt) name (lit< tt) (with_number 2 context.pid _ 40 (lit< tt) pid
+    (with_number 5 context.ppid _ 20 (lit< tt) ppid (with_number 6 1 [] 0 (lit< tt) (lit< tt) no_field)))
+
+info_len : (context : Context) → AtMost 20 (info_message (info_of context))
+unfolding info_message
+info_len context = with_number 1 (if context.user then 1 else 0) [] 0 (lit< tt) (bool_small context.user) no_field
+
+-- what stands behind the images
+tail_len : (context : Context) → IsHandedContext context → (fs : List Field) →
+    fs ≡ record { number = 6; value = Bytes (spelling (signal_message (signal_of context))) } ∷ record { number = 7; value = Bytes (spelling (process_message (process_of context))) } ∷ record { number = 9; value = Bytes (spelling (info_message (info_of context))) } ∷ []
+    → AtMost 12884902108 fs
+tail_len context handed fs same =
+    let all = with_bytes 6 (spelling (signal_message (signal_of context))) 8589934652 _ 4294967436 (lit< tt) (signal_len context handed).short (lit< tt)
+    (with_bytes 7 (spelling (process_message (process_of context))) 4294967376 _ 40 (lit< tt) (process_len context handed).short (lit< tt)
+    (with_bytes 9 (spelling (info_message (info_of context))) 20 [] 0 (lit< tt) (info_len context).short (lit< tt) no_field)) in
+    rw same all
+
+-- the root message
+root_len : (context : Context) (threads : List Registers) (images : List Image) → IsHandedContext context → AreHandedThreads context threads → AreHandedImages images → length (spelling (report_message (report_of context threads images))) < 2 ^ 63
+unfolding report_message report_of
+root_len context threads images about states walked =
+    let rows = threads_of context.crashed threads in
+    let count : length rows ≡ length threads = length-map (enumerate_from 0 threads) (thread_of context.crashed) ∙ length-enumerate_from 0 threads in
+    let short = threads_hold (λ t. AtMost 2392 (thread_message t)) context.crashed (λ number state small handed. thread_len number context.crashed state small handed) 0 threads (let few = states.whole.few in omega arith) states.each in
+    let each_image = all_weaker IsHandedImage (λ image. AtMost 1200 (image_message image)) image_len images walked.each in
+    let tail = tail_len context about _ refl in
+    let behind = with_rows 4 image_message images 1200 _ 12884902108 (lit< tt) (lit< tt) each_image tail in
+    let middle = with_rows 3 thread_message rows 2392 _ (length images * (20 + 1200) + 12884902108) (lit< tt) (lit< tt) short behind in
+    let second = with_bytes 2 (spelling (application_message (application_of context))) 8589934632 _ (length rows * (20 + 2392) + (length images * (20 + 1200) + 12884902108)) (lit< tt) (application_len context about).short (lit< tt) middle in
+    let all = with_bytes 1 (spelling (system_message (system_of context))) 4294967376 _ (20 + 8589934632 + (length rows * (20 + 2392) + (length images * (20 + 1200) + 12884902108))) (lit< tt) (system_len context about).short (lit< tt) second in
+    let short = all.short in
+    let few = states.whole.few in
+    let less = walked.few in
+    omega (arith, short, count, few, less)
+
+report_typed : (context : Context) (threads : List Registers) (images : List Image) → IsHandedContext context → AreHandedThreads context threads → AreHandedImages images → TypedReport (report_of context threads images)
+unfolding report_of
+report_typed context threads images about states walked = record {
+  system_info = record {
+    operating_system = let few = about.writable.os in omega arith;
+    architecture = architecture_small context.arch;
+    timestamp = fits_signed_from_abs w64 (pos context.timestamp) about.writable.timestamp;
+  };
+  threads = threads_hold TypedThread context.crashed (λ number state small handed. thread_typed number context.crashed state small handed) 0 threads (let few = states.whole.few in omega arith) states.each;
+  binary_images = all_weaker IsHandedImage TypedImage image_typed images walked.each;
+  signal = record { address = about.address };
+  process_info = record { id = about.pid; parent_id = about.ppid };
+}
+
+file_len : (r : Report) → length (spelling (report_message r)) < 2 ^ 63 → length (spelling_of r) < 2 ^ 64
+unfolding spelling_of
+file_len r few = let l = length-append file_head (spelling (report_message r)) in omega arith
+
+-- each report that is written is read again
+pub written_again : (context : Context) (threads : List Registers) (images : List Image) → IsHandedContext context → AreHandedThreads context threads → AreHandedImages images → reads (spelling_of (report_of context threads images)) ≡ Ok (report_of context threads images)
+written_again context threads images about states walked =
+    file_again (report_of context threads images) (record {
+      typed = report_typed context threads images about states walked;
+      short = file_len (report_of context threads images) (root_len context threads images about states walked);
+    })

@@ -1,0 +1,8 @@
+use Rattle.plcr_tool.proofs.Shown.{shown_reports_complete, report_refusals}
+use Rattle.plcr_tool.proofs.complete.shown_reports_are_complete.Goals as goal
+
+pub returns-clause-complete : goal.returns-clause-complete
+returns-clause-complete c = shown_reports_complete
+
+pub returns-clause-no_report : goal.returns-clause-no_report
+returns-clause-no_report c = report_refusals

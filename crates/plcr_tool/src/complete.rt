@@ -1,0 +1,29 @@
+//! Where the desk tells its files, they are within their limits and no count of faults rises, a command
+//! does all of its work or wants memory; and a status that refuses a file comes exactly where it is refused.
+ghost use Rattle.plcr_tool.specs.Complete.{
+  ReportsAreComplete,
+  CoreRefusalsAreExact,
+  ScriptRefusalsAreExact,
+  WordsReport,
+  ShownReportsAreComplete,
+  ReportRefusalsAreExact,
+  WordsShow,
+};
+
+/// On a core and a script that can be taken, `report` has status 0 with all files and lines, or 7, where no
+/// output and no line fails. Where they can be taken, status 3 comes exactly for what is no core and 4 for
+/// what is no script behind a core, but for want of memory.
+pub fn reports_are_complete()
+    ensures complete { ReportsAreComplete }
+    ensures no_core { CoreRefusalsAreExact }
+    ensures no_script { ScriptRefusalsAreExact }
+    ensures words { WordsReport }
+{}
+
+/// On a report that can be taken, `show` has status 0 with its text, or 7, where no line fails. Where the
+/// file can be taken, status 6 comes exactly for what is no report, but for want of memory.
+pub fn shown_reports_are_complete()
+    ensures complete { ShownReportsAreComplete }
+    ensures no_report { ReportRefusalsAreExact }
+    ensures words { WordsShow }
+{}

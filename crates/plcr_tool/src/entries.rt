@@ -1,0 +1,48 @@
+//! Images of a run's list, each with the number of its load.
+ghost use Rattle.std.specs.Prelude.{◌≡◌, map};
+ghost use Rattle.std.proofs.Common.{refl, ◌∙◌};
+ghost use Rattle.plcr_tool.specs.Listing.{listed_by};
+
+use plcr_macho::{Images, ListImages, PlainImage};
+use std::slice;
+
+/// An image of the list, with the number of its load.
+#[derive(Drop)]
+pub struct Entry {
+    pub load: u32,
+    pub image: Box<PlainImage>,
+}
+
+/// Entries as a list of images.
+#[derive(Clone, Copy)]
+pub struct Entries<'a> {
+    pub(crate) entries: &'a [Entry],
+}
+
+impl Images for Entries<'_> {
+    ghost images = { λ e. map listed_by e.entries.now };
+
+    ghost follows = { λ x y. y.entries.now ≡ x.entries.now };
+
+    fn count(&self) -> usize {
+        self.entries.len()
+    }
+
+    fn header(&mut self, i: usize) -> u64 {
+        self.entries[i].image.header
+    }
+
+    fn name_len(&mut self, i: usize) -> usize {
+        let image: &PlainImage = &self.entries[i].image;
+        ListImages::new(slice::from_ref(image)).name_len(0)
+    }
+
+    fn name_word(&mut self, i: usize, j: usize) -> u64 {
+        let image: &PlainImage = &self.entries[i].image;
+        ListImages::new(slice::from_ref(image)).name_word(0, j)
+    }
+
+    ghost follows_itself = { λ x. refl };
+
+    ghost follows_on = { λ x y z p q. q ∙ p };
+}

@@ -1,0 +1,169 @@
+//! What the tests share: a core, its report, and desks and sinks in memory.
+
+ghost use Rattle.std.specs.Prelude.{◌≡◌, ◌+◌, ◌*◌, ◌<◌};
+
+use plcr_io::{MemDesk, MemFile, MemOut, NoMemory};
+use std::alloc::{AllocError, Global};
+use std::test::Fail;
+
+/// The report of one x86-64 thread, which was stopped with rsp 0x7000 and rip 0x100000f50, all else 0.
+pub const REPORT: [u8; 271] = [
+    0x70, 0x6c, 0x63, 0x72, 0x61, 0x73, 0x68, 0x01, 0x0a, 0x09, 0x08, 0x00, 0x12, 0x01, 0x30, 0x18,
+    0x01, 0x20, 0x00, 0x12, 0x08, 0x0a, 0x03, 0x61, 0x70, 0x70, 0x12, 0x01, 0x31, 0x1a, 0xcd, 0x01,
+    0x08, 0x00, 0x12, 0x06, 0x18, 0xd0, 0x9e, 0x80, 0x80, 0x10, 0x18, 0x01, 0x22, 0x07, 0x0a, 0x03,
+    0x72, 0x61, 0x78, 0x10, 0x00, 0x22, 0x07, 0x0a, 0x03, 0x72, 0x62, 0x78, 0x10, 0x00, 0x22, 0x07,
+    0x0a, 0x03, 0x72, 0x63, 0x78, 0x10, 0x00, 0x22, 0x07, 0x0a, 0x03, 0x72, 0x64, 0x78, 0x10, 0x00,
+    0x22, 0x07, 0x0a, 0x03, 0x72, 0x64, 0x69, 0x10, 0x00, 0x22, 0x07, 0x0a, 0x03, 0x72, 0x73, 0x69,
+    0x10, 0x00, 0x22, 0x07, 0x0a, 0x03, 0x72, 0x62, 0x70, 0x10, 0x00, 0x22, 0x09, 0x0a, 0x03, 0x72,
+    0x73, 0x70, 0x10, 0x80, 0xe0, 0x01, 0x22, 0x06, 0x0a, 0x02, 0x72, 0x38, 0x10, 0x00, 0x22, 0x06,
+    0x0a, 0x02, 0x72, 0x39, 0x10, 0x00, 0x22, 0x07, 0x0a, 0x03, 0x72, 0x31, 0x30, 0x10, 0x00, 0x22,
+    0x07, 0x0a, 0x03, 0x72, 0x31, 0x31, 0x10, 0x00, 0x22, 0x07, 0x0a, 0x03, 0x72, 0x31, 0x32, 0x10,
+    0x00, 0x22, 0x07, 0x0a, 0x03, 0x72, 0x31, 0x33, 0x10, 0x00, 0x22, 0x07, 0x0a, 0x03, 0x72, 0x31,
+    0x34, 0x10, 0x00, 0x22, 0x07, 0x0a, 0x03, 0x72, 0x31, 0x35, 0x10, 0x00, 0x22, 0x0b, 0x0a, 0x03,
+    0x72, 0x69, 0x70, 0x10, 0xd0, 0x9e, 0x80, 0x80, 0x10, 0x22, 0x0a, 0x0a, 0x06, 0x72, 0x66, 0x6c,
+    0x61, 0x67, 0x73, 0x10, 0x00, 0x22, 0x06, 0x0a, 0x02, 0x63, 0x73, 0x10, 0x00, 0x22, 0x06, 0x0a,
+    0x02, 0x66, 0x73, 0x10, 0x00, 0x22, 0x06, 0x0a, 0x02, 0x67, 0x73, 0x10, 0x00, 0x32, 0x0f, 0x0a,
+    0x07, 0x53, 0x49, 0x47, 0x41, 0x42, 0x52, 0x54, 0x12, 0x02, 0x23, 0x30, 0x18, 0x00, 0x3a, 0x0b,
+    0x0a, 0x03, 0x61, 0x70, 0x70, 0x10, 0x00, 0x28, 0x00, 0x30, 0x01, 0x4a, 0x02, 0x08, 0x00,
+];
+
+/// What is changed in a core of one segment at 0x7000 and one thread. With images it has eight, 0x4000 apart from
+/// 0x100000000 on.
+#[derive(Clone, Copy, Debug)]
+pub enum Core {
+    Whole,
+    WithImages,
+    Cut,
+    Executable,
+    Overlapping,
+    Wrapping,
+    WithoutThread,
+}
+
+fn add_u32s(bytes: &mut Vec<u8>, numbers: &[u32]) -> Result<(), AllocError> {
+    for number in numbers {
+        bytes.extend_from_slice(&number.to_le_bytes())?;
+    }
+    Ok(())
+}
+
+fn add_u64s(bytes: &mut Vec<u8>, numbers: &[u64]) -> Result<(), AllocError> {
+    for number in numbers {
+        bytes.extend_from_slice(&number.to_le_bytes())?;
+    }
+    Ok(())
+}
+
+/// A segment without file bytes.
+fn add_segment(bytes: &mut Vec<u8>, start: u64, size: u64) -> Result<(), AllocError> {
+    add_u32s(bytes, &[0x19, 72, 0, 0, 0, 0])?;
+    add_u64s(bytes, &[start, size, 0x120, 0])?;
+    add_u32s(bytes, &[3, 3, 0, 0])
+}
+
+/// The address of an image.
+fn image_at(k: u32) -> u64
+    requires { k < 8 }
+    ensures { result ≡ 4294967296 + 16384 * k }
+{
+    0x1_0000_0000 + 0x4000 * u64::from(k)
+}
+
+/// The segment of an image, whose 128 bytes stand behind the load commands.
+fn add_image_segment(bytes: &mut Vec<u8>, k: u32) -> Result<(), AllocError>
+    requires { k < 8 }
+{
+    add_u32s(bytes, &[0x19, 72, 0, 0, 0, 0])?;
+    add_u64s(bytes, &[image_at(k), 0x4000, 864 + 128 * u64::from(k), 128])?;
+    add_u32s(bytes, &[5, 5, 0, 0])
+}
+
+/// An image: a header, a segment `__TEXT` and a uuid that ends with its number.
+fn add_image(bytes: &mut Vec<u8>, k: u32) -> Result<(), AllocError>
+    requires { k < 8 }
+{
+    add_u32s(bytes, &[0xfeed_facf, 0x0100_0007, 3, 6, 2, 96, 0, 0])?;
+    add_u32s(bytes, &[0x19, 72, 0x4554_5f5f, 0x5458, 0, 0])?;
+    add_u64s(bytes, &[image_at(k), 0x4000, 0, 0x4000])?;
+    add_u32s(bytes, &[5, 5, 0, 0])?;
+    add_u32s(bytes, &[0x1b, 24, 0, 0, 0, k.swap_bytes()])
+}
+
+fn add_thread(bytes: &mut Vec<u8>) -> Result<(), AllocError> {
+    add_u32s(bytes, &[4, 184, 4, 42])?;
+    for register in 0..21u32 {
+        let value = match register {
+            7 => 0x7000,
+            16 => 0x1_0000_0f50,
+            _ => 0,
+        };
+        add_u64s(bytes, &[value])?;
+    }
+    Ok(())
+}
+
+fn core_bytes(alloc: Global, core: Core) -> Result<Vec<u8>, AllocError> {
+    let mut bytes = Vec::new(alloc);
+    let (filetype, commands, size) = match core {
+        Core::Executable => (2, 2, 256),
+        Core::Overlapping | Core::Wrapping => (4, 3, 328),
+        Core::WithoutThread => (4, 1, 72),
+        Core::WithImages => (4, 10, 832),
+        _ => (4, 2, 256),
+    };
+    add_u32s(
+        &mut bytes,
+        &[0xfeed_facf, 0x0100_0007, 3, filetype, commands, size, 0, 0],
+    )?;
+    if matches!(core, Core::WithImages) {
+        for k in 0..8 {
+            add_image_segment(&mut bytes, k)?;
+        }
+    }
+    add_segment(&mut bytes, 0x7000, 0x1000)?;
+    match core {
+        Core::Overlapping => add_segment(&mut bytes, 0x7800, 0x1000)?,
+        Core::Wrapping => add_segment(&mut bytes, 0xffff_ffff_ffff_fff0, 32)?,
+        _ => {}
+    }
+    match core {
+        Core::WithoutThread => {}
+        _ => add_thread(&mut bytes)?,
+    }
+    if matches!(core, Core::WithImages) {
+        for k in 0..8 {
+            add_image(&mut bytes, k)?;
+        }
+    }
+    if matches!(core, Core::Cut) {
+        bytes.truncate(100);
+    }
+    Ok(bytes)
+}
+
+/// A desk with the core `c` and the script `s`, and two outputs; its calls of these numbers fail, and the
+/// puts of those numbers to the second output.
+pub fn desk(
+    alloc: Global,
+    core: Core,
+    script: &[u8],
+    failing: Vec<u32>,
+    puts: Vec<u32>,
+) -> Result<MemDesk, Fail> {
+    let core = MemFile {
+        name: String::from_str(alloc, "c")?,
+        bytes: core_bytes(alloc, core)?,
+    };
+    let script = MemFile {
+        name: String::from_str(alloc, "s")?,
+        bytes: Vec::from_slice(alloc, script)?,
+    };
+    let one = MemOut::new(alloc, 400, 100, Vec::new(alloc))?;
+    let two = MemOut::new(alloc, 400, 100, puts)?;
+    let files = vec![in alloc; core, script]?;
+    Ok(MemDesk::new(alloc, files, vec![in alloc; one, two]?, failing)?)
+}
+
+pub fn lines(alloc: Global) -> Result<MemOut, NoMemory> {
+    MemOut::new(alloc, 512, 64, Vec::new(alloc))
+}

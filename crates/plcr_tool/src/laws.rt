@@ -1,0 +1,17 @@
+//! What is written is read again.
+ghost use Rattle.std.specs.Prelude.{◌≡◌, List, Ok};
+ghost use Rattle.plcr_regs.specs.declared.registers.Registers as state;
+ghost use Rattle.plcr_report.specs.declared.messages.Image as image;
+ghost use Rattle.plcr_report.specs.Spelling.{spelling_of};
+ghost use Rattle.plcr_encode.specs.declared.context.Context as context;
+ghost use Rattle.plcr_encode.specs.Values.{report_of};
+ghost use Rattle.plcr_decode.specs.Reads.{reads};
+ghost use Rattle.plcr_tool.specs.Handed.{IsHandedContext, AreHandedThreads, AreHandedImages};
+
+/// The file of each report that a capture may write spells that report: whatever context, threads and images
+/// are handed in, it is what a reader of the file gets.
+pub fn written_reports_are_read()
+    ensures { (about : context.Context) → (threads : List state.Registers) → (images : List image.Image)
+        → IsHandedContext about → AreHandedThreads about threads → AreHandedImages images
+        → reads (spelling_of (report_of about threads images)) ≡ Ok (report_of about threads images) }
+{}

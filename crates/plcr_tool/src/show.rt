@@ -1,0 +1,87 @@
+//! The command `show REPORT`.
+ghost use Rattle.std.specs.Prelude.{◌≡◌, [], ◌∷◌, MatchResult, Ok};
+ghost use Rattle.plcr_decode.specs.Reads.{reads};
+ghost use Rattle.plcr_tool.specs.Seen.{seen};
+ghost use Rattle.plcr_tool.specs.Files.{MadeNothing};
+ghost use Rattle.plcr_tool.specs.Refusals.{IsReport, Refuses, ReportMisread, shown_files};
+ghost use Rattle.plcr_tool.specs.Commands.{Goes, ShowDoes, Shows};
+
+use crate::ending::{Ending, status};
+use crate::files::report_file;
+use crate::refusals::Refusal;
+use crate::refusing::refuse;
+use crate::taking::take_file;
+use plcr_decode::{DecodeFault, decode, write_text};
+use plcr_io::{Desk, PutFailed, Sink};
+use plcr_report::Report;
+use std::alloc::Global;
+
+/// Prints the text of a report. Gives the status: 0 done, 2 the file couldn't be taken, 5 the text wasn't
+/// printed whole, 6 no report, 7 want of memory. All memory is taken before the first line is printed, and
+/// nothing is made.
+pub fn show_command<D: Desk, L: Sink>(
+    alloc: Global,
+    report: &str,
+    desk: &mut D,
+    lines: &mut L,
+) -> u8
+    ensures does { ShowDoes report.now
+        (seen (D.told desk.old) (L.written lines.old) (L.faults lines.old))
+        (seen (D.told desk.new) (L.written lines.new) (L.faults lines.new)) result }
+    ensures mark { L.mark lines.new ≡ L.mark lines.old }
+{
+    status(show(alloc, report, desk, lines))
+}
+
+fn show<'a, D: Desk, L: Sink>(
+    alloc: Global,
+    report: &'a str,
+    desk: &mut D,
+    lines: &mut L,
+) -> Ending<'a>
+    ensures did { Shows report.now
+        (seen (D.told desk.old) (L.written lines.old) (L.faults lines.old))
+        (seen (D.told desk.new) (L.written lines.new) (L.faults lines.new)) result }
+    ensures goes { Goes
+        (seen (D.told desk.old) (L.written lines.old) (L.faults lines.old))
+        (seen (D.told desk.new) (L.written lines.new) (L.faults lines.new)) }
+    ensures mark { L.mark lines.new ≡ L.mark lines.old }
+{
+    match read_report(alloc, report, desk) {
+        Ok(value) => match write_text(&value, lines) {
+            Ok(()) => Ending::Done,
+            Err(PutFailed) => Ending::Stopped,
+        },
+        Err(refusal) => Ending::Refused {
+            refusal: refuse(alloc, refusal, lines),
+        },
+    }
+}
+
+/// Takes and reads the report.
+fn read_report<'a, D: Desk>(
+    alloc: Global,
+    report: &'a str,
+    desk: &mut D,
+) -> Result<Report, Refusal<'a>>
+    ensures read { MatchResult result
+        (IsReport report.now (D.told desk.old) (D.told desk.new))
+        (Refuses ReportMisread (shown_files report.now) (D.told desk.old) (D.told desk.new)) }
+    ensures nothing { MadeNothing (D.told desk.old) (D.told desk.new) }
+{
+    match take_file(alloc, report_file(report), desk) {
+        Ok(bytes) => report_of(alloc, bytes.as_slice()),
+        Err(refusal) => Err(refusal),
+    }
+}
+
+/// The report that the bytes are.
+fn report_of<'a>(alloc: Global, bytes: &[u8]) -> Result<Report, Refusal<'a>>
+    ensures { MatchResult result (λ value. reads bytes.now ≡ Ok value) (ReportMisread (bytes.now ∷ [])) }
+{
+    match decode(alloc, bytes) {
+        Ok(report) => Ok(report),
+        Err(DecodeFault::Memory) => Err(Refusal::OutOfMemory),
+        Err(fault) => Err(Refusal::ReportRefused { fault }),
+    }
+}
