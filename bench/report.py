@@ -5,17 +5,13 @@
 PROGRAM is the proved program, by default crates/plcr_tool/out/plcr_tool. Cores are made in a folder of their own, run
 one by one, and removed. Growth is the ratio to the line before, per doubling of the size.
 """
-import math
-import multiprocessing
 import os
 import struct
-import subprocess
-import sys
 import tempfile
-import time
 
-HERE = os.path.dirname(os.path.abspath(__file__))
-PROGRAM = sys.argv[1] if len(sys.argv) > 1 else os.path.join(HERE, "..", "crates", "plcr_tool", "out", "plcr_tool")
+from measuring import growth, measured, program
+
+PROGRAM = program()
 SEGMENT = struct.Struct("<II16xQQQQIIII")
 SCRIPT = b"report 0 a\n"
 
@@ -70,28 +66,16 @@ CASES = {
 }
 
 
-def write(name, path):
-    with open(path, "wb") as file:
-        CASES[name][1](file)
-
-
 def run(folder, name):
     path = os.path.join(folder, "core")
-    # a process of its own makes the core: a child's peak begins with that of its parent
-    maker = multiprocessing.get_context("spawn").Process(target=write, args=(name, path))
-    maker.start()
-    maker.join()
+    with open(path, "wb") as file:
+        CASES[name][1](file)
     size = os.path.getsize(path)
     with open(os.path.join(folder, "script"), "wb") as file:
         file.write(SCRIPT)
-    begin = time.monotonic()
-    child = subprocess.Popen([PROGRAM, "report", "core", "script"], cwd=folder, stdout=subprocess.PIPE)
-    said = child.stdout.read()
-    _, status, usage = os.wait4(child.pid, 0)
-    child.returncode = os.waitstatus_to_exitcode(status)
-    seconds = time.monotonic() - begin
+    seconds, peak, status, said = measured([PROGRAM, "report", "core", "script"], folder, keeps=True)
     os.remove(path)
-    return size, seconds, usage.ru_maxrss * 1024, child.returncode, said.decode("latin1").strip()
+    return size, seconds, peak, status, said
 
 
 def main():
@@ -99,13 +83,8 @@ def main():
     with tempfile.TemporaryDirectory() as folder:
         for name, (count, _) in CASES.items():
             size, seconds, peak, status, said = run(folder, name)
-            growth = ""
-            if before and count > before[0] > 1:
-                doublings = math.log2(count / before[0])
-                growth = ", per doubling time x%.2f, memory x%.2f" % (
-                    (seconds / before[1]) ** (1 / doublings), (peak / before[2]) ** (1 / doublings))
             print("%-40s %11d bytes %8.3f s %7.1f MB peak, status %d, %s%s" % (
-                name, size, seconds, peak / 1e6, status, said, growth), flush=True)
+                name, size, seconds, peak / 1e6, status, said, growth(before, count, seconds, peak)), flush=True)
             before = (count, seconds, peak) if count else None
 
 
