@@ -1,7 +1,8 @@
 -- Ranges of addresses, byte by byte.
-use Rattle.std.proofs.Common.{◌≡◌, ◌≤◌, ◌<◌, ℕ, zero, suc, ◌+◌, ◌-◌, inl, inr, true, Option, Some, None, is_some, List, [], ◌∷◌, ◌++◌, length, take, slice_index, refl, sym, ap, subst, ◌∙◌, arith}
+use Rattle.std.proofs.Common.{◌≡◌, ◌≤◌, ◌<◌, ℕ, zero, suc, ◌+◌, ◌-◌, inl, inr, true, false, nat_lt, Option, Some, None, is_some, List, [], ◌∷◌, ◌++◌, length, take, slice_index, refl, sym, ap, subst, ◌∙◌, arith}
 use Rattle.std.specs.Prelude.{IsSome}
 use Rattle.std.proofs.lemmas.Bool.{cases_lt}
+use Rattle.std.proofs.lemmas.Bool.Decides.{nat_tests}
 use Rattle.std.proofs.lemmas.List.{get_or_append_left, get_or-append_right, get_or-take, length-take-le, length-append}
 use borrow.Rule.Slice.PartMut.{put_mid, post_of}
 use Rattle.plcr_memory.specs.declared.region.Region.{Region}
@@ -70,6 +71,26 @@ mapped_run m a done until r h before short k lt =
       | inl l ↦ before k l
       | inr ge ↦ rw (run_covers m a done k r h ge (omega (arith, lt, short))) refl
     ]
+
+-- a range within one region
+pub one_run : (m : Contents) (a : ℕ) (r : Region) (xs : List ℕ) → IsHolder m (a + 0) r → length xs ≤ left_in r a
+    → ((k : ℕ) → k < length xs → slice_index xs k ≡ byte_in m.file r (a + k)) → bytes_at m a (length xs) ≡ Some xs
+one_run m a r xs h short each =
+    let none : a ≡ a + 0 = omega arith in
+    let enough : length xs ≤ 0 + left_in r (a + 0) = subst (λ (x : ℕ). length xs ≤ 0 + left_in r x) none (omega (arith, short)) in
+    all_stand m a xs (λ k lt. run_covers m a 0 k r h (omega arith) (omega (arith, lt, enough)) ∙ ap Some (sym (each k lt)))
+
+-- the zeros behind a region's bytes of the file
+pub zeros_run : (m : Contents) (a k : ℕ) (r : Region) → IsHolder m (a + 0) r → r.len ≤ a - r.start → k < left_in r a → byte_at m (a + k) ≡ Some 0
+zeros_run m a k r h past lt =
+    let none : a ≡ a + 0 = omega arith in
+    let enough : k < 0 + left_in r (a + 0) = subst (λ (x : ℕ). k < 0 + left_in r x) none (omega (arith, lt)) in
+    let c = is_covered r (a + 0) h.covered in
+    let far : nat_lt ((a + k) - r.start) r.len ≡ false = not_less ((a + k) - r.start) r.len (omega (arith, past, c)) in
+    run_covers m a 0 k r h (omega arith) enough ∙ rw far refl
+  where
+    not_less : (x y : ℕ) → y ≤ x → nat_lt x y ≡ false
+    not_less x y le = grind (arith, nat_tests)
 
 cell_of_front : (a k : ℕ) (xs ys : List ℕ) (i : ℕ) → i < a → a ≤ length xs → slice_index (put_mid a k xs ys) i ≡ slice_index xs i
 cell_of_front a k xs ys i lt le =

@@ -120,6 +120,7 @@ found_holds m a r backed ends apart h =
     let f = found_index m.regions a r h in
     let none : Region = record { start = 0; size = 0; «from» = 0; len = 0 } in
     record {
+      first = h;
       covered = f.3;
       backed = subst (IsBacked m.file) f.2 (backed f.0 none f.1);
       ends = subst Ends f.2 (ends f.0 none f.1);
@@ -131,6 +132,14 @@ found_holds m a r backed ends apart h =
 -- where no region is found there is no byte
 pub none_found : (m : Contents) (a : ℕ) → region_over m.regions a ≡ None → byte_at m a ≡ None
 none_found m a h = byte_of_region m.file m.regions a ∙ ap (option_map (λ x. byte_in m.file x a)) h
+
+-- where there is no byte no region is found
+pub no_byte : (m : Contents) (a : ℕ) → byte_at m a ≡ None → region_over m.regions a ≡ None
+no_byte m a h = no_value (λ r. byte_in m.file r a) (region_over m.regions a) (sym (byte_of_region m.file m.regions a) ∙ h)
+  where
+    no_value : (f : Region → ℕ) (o : Option Region) → option_map f o ≡ None → o ≡ None
+    no_value f None e = refl
+    no_value f (Some r) e = cc
 
 -- there is none past the last address
 pub none_past : (m : Contents) (a : ℕ) → All Ends m.regions → 2 ^ 64 ≤ a → byte_at m a ≡ None

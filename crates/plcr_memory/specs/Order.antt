@@ -2,7 +2,7 @@
 use Rattle.std.specs.Prelude.{◌≡◌, ◌≢◌, ◌≤◌, ◌<◌, ℕ, List, length, All, slice_index_or, Some, IsTrue}
 use Rattle.plcr_memory.specs.declared.region.Region.{Region}
 use Rattle.plcr_memory.specs.declared.order.Placed.{Placed}
-use Rattle.plcr_memory.specs.Regions.{Contents, region_at, covers, byte_in, byte_at, IsBacked, Ends, AreApart}
+use Rattle.plcr_memory.specs.Regions.{Contents, region_at, covers, region_over, byte_in, byte_at, IsBacked, Ends, AreApart}
 
 -- the entry at a place of an order, and an empty one past the end
 abbrev pub placed_at : List Placed → ℕ → Placed
@@ -28,8 +28,9 @@ pub record IsHeld (file : List ℕ) (rs : List Region) (os : List Placed) : Type
   pub apart : AreApart rs
   pub order : IsOrder rs os
 
--- the region covers the address, and has the byte of each address that it covers
+-- the region is the first that covers the address, and has the byte of each address that it covers
 pub record IsHolder (memory : Contents) (a : ℕ) (r : Region) : Type 0 where
+  pub first : region_over memory.regions a ≡ Some r
   pub covered : IsTrue (covers r a)
   pub backed : IsBacked memory.file r
   pub ends : Ends r

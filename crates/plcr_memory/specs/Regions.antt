@@ -1,5 +1,5 @@
 -- The memory of a stopped process as the segments of a Mach-O file lay it out (loader.h): regions of addresses over the bytes of the file.
-use Rattle.std.specs.Prelude.{◌≤◌, ◌<◌, ℕ, zero, suc, ◌+◌, ◌-◌, ◌^◌, Bool, IsTrue, nat_lt, nat_le, ◌&&◌, if◌then◌else◌, List, [], ◌∷◌, length, slice_index, slice_index_or, Option, Some, None, option_map}
+use Rattle.std.specs.Prelude.{◌≤◌, ◌<◌, ℕ, zero, suc, ◌+◌, ◌-◌, ◌^◌, Bool, IsTrue, nat_lt, nat_le, ◌&&◌, if◌then◌else◌, List, [], ◌∷◌, length, slice_index, slice_index_or, Option, Some, None, option_map, unwrap_or}
 use Rattle.std.specs.List.{find}
 use Rattle.byteorder.specs.Endian.{little_number}
 use Rattle.plcr_memory.specs.declared.region.Region.{Region}
@@ -44,6 +44,14 @@ bytes_at memory a (suc n) = cons_known (byte_at memory a) (bytes_at memory (a + 
 -- the little-endian number of so many bytes at an address
 unfoldable pub number_at : ℕ → Contents → ℕ → Option ℕ
 number_at n memory a = option_map (little_number n) (bytes_at memory a n)
+
+-- how many bytes from an address on the region has without any of the file's from there on
+abbrev pub zeros_in : Region → ℕ → ℕ
+zeros_in r a = if nat_lt (a - r.start) r.len then 0 else r.size - (a - r.start)
+
+-- the same of the first region that covers the address, and none where no region does
+abbrev pub zeros_at : Contents → ℕ → ℕ
+zeros_at memory a = unwrap_or (option_map (λ r. zeros_in r a) (region_over memory.regions a)) 0
 
 -- the region's bytes stand in the file and within the region, which isn't empty
 pub record IsBacked (file : List ℕ) (r : Region) : Type 0 where

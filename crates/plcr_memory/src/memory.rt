@@ -1,6 +1,6 @@
-ghost use Rattle.std.specs.Prelude.{◌≡◌, All, IfOk, IfErr, OnOk, IfSome, IfNone, OnSome, ◌+◌, ◌≤◌, ◌^◌, is_some, length};
+ghost use Rattle.std.specs.Prelude.{◌≡◌, All, IfOk, IfErr, OnOk, IfSome, IfNone, OnSome, ◌+◌, ◌≤◌, ◌<◌, ◌^◌, ℕ, Some, is_some, length};
 ghost use Rattle.std.specs.Bool.{OnTrue, OnFalse};
-ghost use Rattle.plcr_memory.specs.Regions.{IsBacked, Ends, AreApart, byte_at, bytes_at, number_at};
+ghost use Rattle.plcr_memory.specs.Regions.{IsBacked, Ends, AreApart, byte_at, bytes_at, number_at, zeros_at};
 ghost use Rattle.plcr_memory.specs.Order.{IsHolder};
 ghost use Rattle.plcr_memory.specs.Faults.{IsFault};
 
@@ -94,8 +94,43 @@ impl Memory {
         true
     }
 
-    /// Copies the bytes of a range, where each of them is mapped, and else leaves `into` as it was.
+    /// How many bytes from an address on are zero since the file has none of them: the rest of the region that covers
+    /// the address, where its bytes of the file end before it. Where there is none, 0. One region is looked at.
+    pub fn zeros_from(&self, at: u64) -> u64
+        ensures size { result ≡ zeros_at self.now at }
+        ensures zeros { (k : ℕ) → k < result → byte_at self.now (at + k) ≡ Some 0 }
+    {
+        let Some(region) = self.holder(at, 0) else {
+            return 0;
+        };
+        let offset = at - region.start;
+        if offset < region.len as u64 {
+            0
+        } else {
+            region.size - offset
+        }
+    }
+
+    /// Copies the bytes of a range, where each of them is mapped, and else leaves `into` as it was. The region of its
+    /// first byte is searched once; a range that it doesn't hold is gone through twice.
     pub fn copy(&self, at: u64, into: &mut [u8]) -> bool
+        ensures mapped { result ≡ is_some (bytes_at self.now at (length into.old)) }
+        ensures within { OnTrue result (at + length into.old ≤ 2 ^ 64) }
+        ensures copied { OnTrue result (bytes_at self.now at (length into.old) ≡ Some into.new) }
+        ensures unchanged { OnFalse result (into.new ≡ into.old) }
+    {
+        if let Some(region) = self.holder(at, 0) {
+            let left = region.size - (at - region.start);
+            if into.len() as u64 <= left {
+                copy_run(self.file.as_slice(), &region, at, into);
+                return true;
+            }
+        }
+        self.copy_across(at, into)
+    }
+
+    // Copies the bytes of a range of several regions, or of none.
+    fn copy_across(&self, at: u64, into: &mut [u8]) -> bool
         ensures mapped { result ≡ is_some (bytes_at self.now at (length into.old)) }
         ensures within { OnTrue result (at + length into.old ≤ 2 ^ 64) }
         ensures copied { OnTrue result (bytes_at self.now at (length into.old) ≡ Some into.new) }

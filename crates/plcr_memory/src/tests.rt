@@ -113,6 +113,24 @@ fn copies(rt: HostRuntime) -> Result<(), Fail> {
 }
 
 #[test]
+fn zeros_behind_the_file(rt: HostRuntime) -> Result<(), Fail> {
+    let memory = adjoining(rt.alloc())?;
+    let zeros = [
+        (0xfff, 0),
+        (0x1000, 0),
+        (0x1007, 0),
+        (0x1008, 8),
+        (0x100f, 1),
+        (0x1010, 0),
+        (0x1020, 0),
+    ];
+    for (at, want) in zeros {
+        assert_eq!(rt; memory.zeros_from(at), want, "from {at}");
+    }
+    Ok(())
+}
+
+#[test]
 fn refusals(rt: HostRuntime) {
     let wrapping = [zeros(0xffff_ffff_ffff_fff0, 32)];
     let last = [zeros(0xffff_ffff_ffff_fff0, 16)];
