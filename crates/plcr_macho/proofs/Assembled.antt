@@ -1,5 +1,5 @@
 -- The image that is made of what was kept is that of the commands.
-use Rattle.std.proofs.Common.{◌≡◌, ℕ, List, [], ◌∷◌, Option, Some, None, Result, Ok, Err, refl, sym, ap, ◌∙◌}
+use Rattle.std.proofs.Common.{◌≡◌, ℕ, List, Option, Some, None, Result, Ok, Err, refl, sym, ap, ◌∙◌}
 use Rattle.std.specs.Prelude.{ok_or, codes}
 use Rattle.std.specs.Option.{option_map}
 use Rattle.std.specs.List.{find}
@@ -19,7 +19,7 @@ use Rattle.plcr_macho.specs.declared.kept.Text.{Text}
 use Rattle.plcr_macho.specs.Fields as fields
 use Rattle.plcr_macho.specs.Fields.{number, is_named}
 use Rattle.plcr_macho.specs.Sources.{plus, minus, memory_bytes}
-use Rattle.plcr_macho.specs.Loading.{head_at, commands_in, image_of, image_at, image_with, image_trouble, is_segment_named, is_symtab, is_uuid, faulted, fault_of, part_of, symtab_of, sections_of}
+use Rattle.plcr_macho.specs.Loading.{head_at, commands_in, image_of, image_at, image_with, image_trouble, is_segment_named, is_symtab, faulted, fault_of, part_of, symtab_of, sections_of}
 use Rattle.plcr_macho.specs.Keeping.{header_of, image_by, image_from, kept_of, moved, part_in, parts_in, segment_in, symtab_from, tables_in, text_of}
 use Rattle.plcr_macho.proofs.Framed.{map_ok, map_err}
 

@@ -1,6 +1,6 @@
 -- What is kept of one command more.
-use Rattle.std.proofs.Common.{◌≡◌, ℕ, Bool, true, false, cond, List, [], ◌∷◌, Option, Some, None, Result, Ok, Err, refl, sym, ap, ◌∙◌}
-use Rattle.std.specs.Prelude.{codes}
+use Rattle.std.proofs.Common.{◌≡◌, ℕ, Bool, true, false, cond, is_some, ◌&&◌, List, [], ◌∷◌, Option, Some, None, Result, Ok, Err, refl, sym, ap}
+use Rattle.std.specs.Prelude.{codes, not}
 use Rattle.std.specs.Option.{option_map, option_or}
 use Rattle.std.specs.List.{find}
 use Rattle.plcr_base.specs.Chains.{passed, result_map}
@@ -16,7 +16,7 @@ use Rattle.plcr_macho.specs.declared.gain.Gain.{Gain}
 use Rattle.plcr_macho.specs.Fields as fields
 use Rattle.plcr_macho.specs.Fields.{bytes_of, is_named}
 use Rattle.plcr_macho.specs.Loading.{is_segment_named, is_symtab, is_uuid}
-use Rattle.plcr_macho.specs.Keeping.{first_kept, first_parts, gain_of, kept_of, nothing, parts_in, part_in, text_of, segment_in, tables_in}
+use Rattle.plcr_macho.specs.Keeping.{first_kept, first_parts, gain_with, kept_of, nothing, parts_in, part_in, text_of, segment_in, tables_in}
 
 find_more : {X Y : Type 0} (f : X → Y) (p : X → Bool) (x : X) (xs : List X) → option_map f (find p (x ∷ xs)) ≡ option_or (option_map f (find p (x ∷ []))) (option_map f (find p xs))
 find_more f p x xs =
@@ -59,6 +59,17 @@ pub none_kept : (k : Kept) → first_kept nothing k ≡ k
 unfolding first_kept
 none_kept k = refl
 
+-- a later segment `__TEXT` adds none
+text_later : (o : Option Text) (b : Bool) (t : Text) → option_or o (cond (not (is_some o) && b) (Some t) None) ≡ option_or o (cond b (Some t) None)
+text_later None b t = refl
+text_later (Some x) b t = refl
+
+pub segment_later : (before : Kept) (b : Bool) (t : Text) (s : Option Segment)
+    → first_kept before (record { text = cond (not (is_some before.text) && b) (Some t) None; linkedit = s; symtab = None; uuid = None })
+    ≡ first_kept before (record { text = cond b (Some t) None; linkedit = s; symtab = None; uuid = None })
+unfolding first_kept
+segment_later before b t s = same_kept (text_later before.text b t) refl refl refl
+
 -- one section more
 pub parts_more : (s : List ℕ) (ss : List (List ℕ)) → parts_in (s ∷ ss) ≡ first_parts (parts_in (s ∷ [])) (parts_in ss)
 unfolding parts_in first_parts
@@ -75,17 +86,21 @@ pub parts_none : (p : Parts) → first_parts p (parts_in []) ≡ p
 unfolding parts_in first_parts
 parts_none p = same_parts (or_none p.unwind) (or_none p.eh_frame)
 
+pub parts_no : (p : Parts) → first_parts p (record { unwind = None; eh_frame = None }) ≡ p
+unfolding first_parts
+parts_no p = same_parts (or_none p.unwind) (or_none p.eh_frame)
+
 pub none_parts : (p : Parts) → first_parts (record { unwind = None; eh_frame = None }) p ≡ p
 unfolding first_parts
 none_parts p = refl
 
 -- what a command gives that passed its test, and its trouble where it didn't
-pub gives : (c : Command) (o : Option Trouble) (k : Kept) → Ok k ≡ passed (kept_of (c ∷ [])) o → result_map gain_of (passed c o) ≡ Ok (record { kept = k; size = c.size })
-gives c None k h =
-    let e : k ≡ kept_of (c ∷ []) = cc in
+pub gives : (before : Kept) (c : Command) (o : Option Trouble) (k : Kept) → Ok k ≡ result_map (first_kept before) (passed (kept_of (c ∷ [])) o) → result_map (gain_with before) (passed c o) ≡ Ok (record { kept = k; size = c.size })
+gives before c None k h =
+    let e : k ≡ first_kept before (kept_of (c ∷ [])) = cc in
     ap (λ (l : Kept). let r : Result Gain Trouble = Ok (record { kept = l; size = c.size }) in r) (sym e)
-gives c (Some t) k h = cc
+gives before c (Some t) k h = cc
 
-pub fails : (c : Command) (o : Option Trouble) (t : Trouble) → Err t ≡ passed (kept_of (c ∷ [])) o → result_map gain_of (passed c o) ≡ Err t
-fails c None t h = cc
-fails c (Some u) t h = cc
+pub fails : (before : Kept) (c : Command) (o : Option Trouble) (t : Trouble) → Err t ≡ result_map (first_kept before) (passed (kept_of (c ∷ [])) o) → result_map (gain_with before) (passed c o) ≡ Err t
+fails before c None t h = cc
+fails before c (Some u) t h = cc

@@ -1,5 +1,5 @@
 -- Fields in the front of a command.
-use Rattle.std.proofs.Common.{◌≡◌, ◌≤◌, ◌<◌, ℕ, zero, suc, ◌+◌, ◌-◌, lit≤, List, [], ◌∷◌, length, take, drop, get_or, slice_index, refl, sym, ap, subst, ◌∙◌, arith}
+use Rattle.std.proofs.Common.{◌≡◌, ◌≤◌, ◌<◌, ℕ, zero, suc, ◌+◌, ◌-◌, lit≤, List, [], ◌∷◌, take, drop, slice_index, refl, sym, ap, ◌∙◌, arith}
 use Rattle.std.proofs.lemmas.List.{get_or-take, take-take}
 use Rattle.byteorder.specs.Endian.{little_from, little_number}
 use Rattle.plcr_macho.specs.declared.kept.Segment.{Segment}

@@ -1,12 +1,12 @@
 -- The commands read so far gave what was kept, and the rest is still to give.
-use Rattle.std.proofs.Common.{◌≡◌, ◌≤◌, ◌<◌, ℕ, zero, suc, ◌+◌, ◌-◌, List, [], ◌∷◌, Option, Result, Ok, Err, refl, sym, ap, subst, ◌∙◌, arith}
-use Rattle.plcr_base.specs.Chains.{◌>>=◌, passed, result_map}
+use Rattle.std.proofs.Common.{◌≡◌, ◌≤◌, ◌<◌, ℕ, suc, ◌+◌, ◌-◌, List, [], ◌∷◌, Result, Ok, Err, refl, sym, ap, subst, ◌∙◌, arith}
+use Rattle.plcr_base.specs.Chains.{◌>>=◌, result_map}
 use Rattle.plcr_commands.specs.declared.trouble.Trouble.{Trouble}
 use Rattle.plcr_commands.specs.Commands.{Bytes, Command, command_at, commands_at}
 use Rattle.plcr_macho.specs.declared.kept.Kept.{Kept}
 use Rattle.plcr_macho.specs.declared.gain.Gain.{Gain}
 use Rattle.plcr_macho.specs.Loading.{image_trouble}
-use Rattle.plcr_macho.specs.Keeping.{first_kept, gain_of, kept_of, nothing}
+use Rattle.plcr_macho.specs.Keeping.{first_kept, gain_with, kept_of, nothing}
 use Rattle.plcr_macho.proofs.FirstKept.{kept_more, kept_twice, kept_none, none_kept}
 use Rattle.plcr_macho.proofs.Framed.{map_ok, map_err}
 
@@ -45,18 +45,17 @@ here_on source end count index at kept h more =
     subst (λ (n : ℕ). behind kept (rest source end n index at) ≡ result_map kept_of (rest source end count 0 0)) left h
 
 -- one command more
-pub moves : (source : Bytes) (end count index at : ℕ) (old new : Kept) (gain : Gain)
+pub moves : (source : Bytes) (end count index at : ℕ) (old : Kept) (gain : Gain)
     → SoFar source end count index at old → index < count
-    → Ok gain ≡ result_map gain_of (command_at source image_trouble end index at)
-    → new ≡ first_kept old gain.kept
-    → SoFar source end count (index + 1) (at + gain.size) new
-moves source end count index at old new gain h more found added =
-    let read = map_ok gain_of (command_at source image_trouble end index at) gain found in
+    → Ok gain ≡ result_map (gain_with old) (command_at source image_trouble end index at)
+    → SoFar source end count (index + 1) (at + gain.size) gain.kept
+moves source end count index at old gain h more found =
+    let read = map_ok (gain_with old) (command_at source image_trouble end index at) gain found in
     let c = read.0 in
     let left = count - (index + 1) in
     let step = λ (r : Result Command Trouble). behind old (r >>= λ (d : Command). rest source end left (index + 1) (at + d.size) >>= λ (cs : List Command). let q : Result (List Command) Trouble = Ok (d ∷ cs) in q) in
     let whole : step (Ok c) ≡ result_map kept_of (rest source end count 0 0) = ap step (sym read.1) ∙ here_on source end count index at old h more in
-    let kept : new ≡ first_kept old (kept_of (c ∷ [])) = added ∙ ap (λ (g : Gain). first_kept old g.kept) read.2 in
+    let kept : gain.kept ≡ first_kept old (kept_of (c ∷ [])) = ap (λ (g : Gain). g.kept) read.2 in
     let size : gain.size ≡ c.size = ap (λ (g : Gain). g.size) read.2 in
     ap (λ (k : Kept). behind k (rest source end left (index + 1) (at + gain.size))) kept
     ∙ ap (λ (n : ℕ). behind (first_kept old (kept_of (c ∷ []))) (rest source end left (index + 1) (at + n))) size
@@ -65,12 +64,12 @@ moves source end count index at old new gain h more found added =
 -- a command with a trouble ends the reading
 pub breaks : (source : Bytes) (end count index at : ℕ) (old : Kept) (trouble : Trouble)
     → SoFar source end count index at old → index < count
-    → Err trouble ≡ result_map gain_of (command_at source image_trouble end index at)
+    → Err trouble ≡ result_map (gain_with old) (command_at source image_trouble end index at)
     → Err trouble ≡ result_map kept_of (rest source end count 0 0)
 breaks source end count index at old trouble h more found =
     let left = count - (index + 1) in
     let step = λ (r : Result Command Trouble). behind old (r >>= λ (d : Command). rest source end left (index + 1) (at + d.size) >>= λ (cs : List Command). let q : Result (List Command) Trouble = Ok (d ∷ cs) in q) in
-    ap step (sym (map_err gain_of (command_at source image_trouble end index at) trouble found)) ∙ here_on source end count index at old h more
+    ap step (sym (map_err (gain_with old) (command_at source image_trouble end index at) trouble found)) ∙ here_on source end count index at old h more
 
 -- behind the last command all is kept
 pub ends : (source : Bytes) (end count index at : ℕ) (kept : Kept) → SoFar source end count index at kept → count ≤ index → Ok kept ≡ result_map kept_of (rest source end count 0 0)

@@ -8,3 +8,4 @@ pub mod LaidOut
 pub mod Reading
 pub mod Sectioned
 pub mod Segments
+pub mod Held

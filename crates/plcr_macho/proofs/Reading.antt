@@ -1,5 +1,5 @@
 -- Bytes of a list and of a memory.
-use Rattle.std.proofs.Common.{◌≡◌, ◌≤◌, ◌<◌, ℕ, zero, suc, ◌+◌, ◌-◌, List, [], ◌∷◌, length, take, drop, slice_index, Option, Some, None, is_some, Result, refl, sym, ap, subst, ◌∙◌, arith}
+use Rattle.std.proofs.Common.{◌≡◌, ◌≤◌, ◌<◌, ℕ, zero, suc, ◌+◌, ◌-◌, List, [], ◌∷◌, length, take, drop, slice_index, Option, Some, None, is_some, refl, sym, ap, subst, ◌∙◌, arith}
 use Rattle.std.specs.Prelude.{IsSome, unwrap_or}
 use Rattle.std.proofs.Math.ListN.{get_or-eq_default}
 use Rattle.plcr_commands.specs.Commands.{IsPlain}
@@ -85,3 +85,7 @@ pub piece_is : (m : Contents) (a k w n : ℕ) (xs : List ℕ) → k + w ≤ n �
 piece_is m a k w n xs le h is =
     front_is m (a + k) w (n - k) xs (omega (arith, le)) (rest_mapped m a k n (omega (arith, le)) h) is
     ∙ ap (take w) (rest_there m a k n (omega (arith, le)) h)
+
+-- a byte of those that are mapped
+pub byte_is : (m : Contents) (a k n b : ℕ) → k < n → IsSome (bytes_at m a n) → byte_at m (a + k) ≡ Some b → take 1 (drop k (bytes_there m a n)) ≡ b ∷ []
+byte_is m a k n b lt h is = sym (piece_is m a k 1 n (b ∷ []) (omega (arith, lt)) h (ap (λ (o : Option ℕ). cons_known o (Some [])) is))

@@ -1,9 +1,11 @@
 -- The sections read so far gave what was found, and the rest is still to give.
-use Rattle.std.proofs.Common.{◌≡◌, ◌≤◌, ◌<◌, ℕ, zero, suc, ◌+◌, ◌-◌, ◌*◌, List, [], ◌∷◌, length, take, drop, None, refl, sym, ap, subst, ◌∙◌, arith}
+use Rattle.std.proofs.Common.{◌≡◌, ◌≤◌, ◌<◌, ℕ, zero, suc, lit≤, ◌+◌, ◌-◌, ◌*◌, List, [], ◌∷◌, length, take, drop, None, refl, sym, ap, subst, ◌∙◌, arith}
+use Rattle.std.proofs.lemmas.List.{take-take}
 use Rattle.plcr_macho.specs.declared.kept.Parts.{Parts}
+use Rattle.plcr_macho.specs.Fields.{bytes_of}
 use Rattle.plcr_macho.specs.Loading.{sections_in}
 use Rattle.plcr_macho.specs.Keeping.{first_parts, parts_in}
-use Rattle.plcr_macho.proofs.FirstKept.{parts_more, parts_twice, parts_none, none_parts}
+use Rattle.plcr_macho.proofs.FirstKept.{parts_more, parts_twice, parts_none, none_parts, parts_no}
 
 -- what was found, and the sections from an index on, give what all sections give
 abbrev pub PartsSoFar : ℕ → ℕ → List ℕ → Parts → Type 0
@@ -43,6 +45,33 @@ parts_move count index bytes section old new h more is added =
     ap (λ (p : Parts). first_parts p (parts_in rest)) added
     ∙ parts_twice old (parts_in (section ∷ [])) (parts_in rest)
     ∙ ap (first_parts old) (sym (parts_more section rest)) ∙ whole
+
+-- a section that begins with a zero has neither name
+zero_named : (section : List ℕ) → take 1 section ≡ 0 ∷ [] → parts_in (section ∷ []) ≡ record { unwind = None; eh_frame = None }
+unfolding parts_in bytes_of
+zero_named [] h = cc
+zero_named (x ∷ xs) h =
+    let zeroed : x ≡ 0 = cc in
+    subst (λ (y : ℕ). parts_in ((y ∷ xs) ∷ []) ≡ record { unwind = None; eh_frame = None }) (sym zeroed) refl
+
+-- such a section is passed over
+pub parts_pass : (count index : ℕ) (bytes : List ℕ) (found : Parts) → PartsSoFar count index bytes found → index < count
+    → take 1 (drop (80 * index) bytes) ≡ 0 ∷ [] → PartsSoFar count (index + 1) bytes found
+parts_pass count index bytes found h more start =
+    let section = take 80 (drop (80 * index) bytes) in
+    let begins : take 1 section ≡ 0 ∷ [] = take-take 1 80 (drop (80 * index) bytes) (lit≤ tt) ∙ start in
+    let kept : found ≡ first_parts found (parts_in (section ∷ [])) = sym (ap (first_parts found) (zero_named section begins) ∙ parts_no found) in
+    parts_move count index bytes section found found h more refl kept
+
+pub parts_skip : (count index n : ℕ) (bytes : List ℕ) (found : Parts) → PartsSoFar count index bytes found → index + n ≤ count
+    → ((k : ℕ) → k < n → take 1 (drop (80 * (index + k)) bytes) ≡ 0 ∷ []) → PartsSoFar count (index + n) bytes found
+parts_skip count index zero bytes found h le each =
+    let e : index ≡ index + 0 = omega arith in subst (λ (i : ℕ). PartsSoFar count i bytes found) e h
+parts_skip count index (suc n) bytes found h le each =
+    let e : index + n + 1 ≡ index + suc n = omega arith in
+    let before = parts_skip count index n bytes found h (omega (arith, le)) (λ k lt. each k (omega (arith, lt))) in
+    subst (λ (i : ℕ). PartsSoFar count i bytes found) e
+    (parts_pass count (index + n) bytes found before (omega (arith, le)) (each n (omega arith)))
 
 pub parts_end : (count index : ℕ) (bytes : List ℕ) (found : Parts) → PartsSoFar count index bytes found → count ≤ index → found ≡ parts_in (sections_in count bytes)
 parts_end count index bytes found h none_left =

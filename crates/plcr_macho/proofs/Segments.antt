@@ -1,6 +1,6 @@
 -- What is kept of one command, by its kind.
-use Rattle.std.proofs.Common.{◌≡◌, ◌≤◌, ◌<◌, ℕ, ◌+◌, ◌*◌, lit≤, Bool, true, false, cond, nat_lt, List, [], ◌∷◌, take, drop, Option, Some, None, Result, Ok, Err, refl, sym, ap, subst, ◌∙◌, arith}
-use Rattle.std.specs.Prelude.{◌≢◌, ◌==◌, codes}
+use Rattle.std.proofs.Common.{◌≡◌, ◌≤◌, ◌<◌, ℕ, ◌+◌, ◌*◌, lit≤, Bool, true, false, cond, nat_lt, List, take, drop, Option, Some, None, Result, Ok, Err, refl, sym, ap, subst, ◌∙◌, arith}
+use Rattle.std.specs.Prelude.{◌≢◌, ◌==◌, ◌&&◌, not, codes, is_some}
 use Rattle.std.specs.Option.{option_map}
 use Rattle.std.proofs.lemmas.Bool.Decides.{nat_tests}
 use Rattle.plcr_base.specs.Chains.{◌>>=◌, passed, result_map}
@@ -12,12 +12,11 @@ use Rattle.plcr_macho.specs.declared.kept.Parts.{Parts}
 use Rattle.plcr_macho.specs.declared.kept.Text.{Text}
 use Rattle.plcr_macho.specs.declared.kept.Tables.{Tables}
 use Rattle.plcr_macho.specs.declared.kept.Kept.{Kept}
-use Rattle.plcr_macho.specs.declared.gain.Gain.{Gain}
 use Rattle.plcr_macho.specs.Fields as fields
 use Rattle.plcr_macho.specs.Fields.{number, bytes_of, is_named}
 use Rattle.plcr_macho.specs.Loading.{image_trouble, sections_in}
-use Rattle.plcr_macho.specs.Keeping.{gain_of, kept_in, kept_of, nothing, parts_in, segment_in, tables_in, text_of}
-use Rattle.plcr_macho.proofs.FirstKept.{gives, fails}
+use Rattle.plcr_macho.specs.Keeping.{first_kept, gain_with, kept_in, kept_of, nothing, parts_in, segment_in, tables_in, text_of}
+use Rattle.plcr_macho.proofs.FirstKept.{gives, fails, segment_later}
 use Rattle.plcr_macho.proofs.Fronts.{name_front, sections_are, segment_front}
 
 fits : (size n : ℕ) → n ≤ size → nat_lt size n ≡ false
@@ -82,6 +81,22 @@ segment_kept_is index c front s text linkedit kind is_front is_segment long is_t
     ∙ sym (segment_two index c.size c.place c.bytes (fits c.size (72 + 80 * number fields.nsects c.bytes) most))
     ∙ ap (kept_in index) (sym same)
 
+-- the same behind what was kept
+pub segment_behind : (index : ℕ) (c : Command) (before k : Kept) (front : List ℕ) (s : Segment) (seen : Bool) (text : Option Text) (linkedit : Option Segment)
+    → c.kind ≡ 0x19 → front ≡ take 72 c.bytes → s ≡ segment_in front → 72 + 80 * s.sections ≤ c.size
+    → seen ≡ is_some before.text
+    → text ≡ cond (not seen && is_named fields.segment_name (codes "__TEXT") front) (Some (text_of c)) None
+    → linkedit ≡ cond (is_named fields.segment_name (codes "__LINKEDIT") front) (Some s) None
+    → k ≡ first_kept before (record { text = text; linkedit = linkedit; symtab = None; uuid = None })
+    → Ok k ≡ result_map (first_kept before) (kept_in index c)
+segment_behind index c before k front s seen text linkedit kind is_front is_segment long is_seen is_text is_linkedit is =
+    let named = is_named fields.segment_name (codes "__TEXT") front in
+    let first : text ≡ cond (not (is_some before.text) && named) (Some (text_of c)) None = is_text ∙ ap (λ (b : Bool). cond (not b && named) (Some (text_of c)) None) is_seen in
+    let all : k ≡ first_kept before (record { text = cond named (Some (text_of c)) None; linkedit = linkedit; symtab = None; uuid = None }) =
+    is ∙ ap (λ (o : Option Text). first_kept before (record { text = o; linkedit = linkedit; symtab = None; uuid = None })) first ∙ segment_later before named (text_of c) linkedit in
+    ap (λ (l : Kept). let r : Result Kept Trouble = Ok l in r) all
+    ∙ ap (result_map (first_kept before)) (segment_kept_is index c front s (cond named (Some (text_of c)) None) linkedit kind is_front is_segment long refl is_linkedit)
+
 symtab_two : (index size place : ℕ) (bytes : List ℕ) → nat_lt size 24 ≡ false
     → kept_in index (record { kind = 2; size = size; place = place; bytes = bytes }) ≡ Ok (record { text = None; linkedit = None; symtab = Some (tables_in bytes); uuid = None })
 unfolding kept_of
@@ -107,18 +122,18 @@ uuid_kept_is index c u kind long is =
     ∙ sym (uuid_two index c.size c.place c.bytes (fits c.size 24 long)))
 
 -- what a command gives that stands there
-pub gain_is : (source : Bytes) (end index at : ℕ) (c : Command) (k : Kept) → Ok c ≡ framed_at source end index at → Ok k ≡ kept_in index c
-    → Ok (record { kept = k; size = c.size }) ≡ result_map gain_of (command_at source image_trouble end index at)
-gain_is source end index at c k frame kept =
-    sym (gives c (image_trouble index c) k kept)
-    ∙ ap (λ (r : Result Command Trouble). result_map gain_of (r >>= λ (c : Command). passed c (image_trouble index c))) frame
+pub gain_is : (source : Bytes) (end index at : ℕ) (before : Kept) (c : Command) (k : Kept) → Ok c ≡ framed_at source end index at → Ok k ≡ result_map (first_kept before) (kept_in index c)
+    → Ok (record { kept = k; size = c.size }) ≡ result_map (gain_with before) (command_at source image_trouble end index at)
+gain_is source end index at before c k frame kept =
+    sym (gives before c (image_trouble index c) k kept)
+    ∙ ap (λ (r : Result Command Trouble). result_map (gain_with before) (r >>= λ (c : Command). passed c (image_trouble index c))) frame
 
 -- a command that stands there and has a trouble
-pub gain_fails : (source : Bytes) (end index at : ℕ) (c : Command) (t : Trouble) → Ok c ≡ framed_at source end index at → Err t ≡ kept_in index c
-    → Err t ≡ result_map gain_of (command_at source image_trouble end index at)
-gain_fails source end index at c t frame kept =
-    sym (fails c (image_trouble index c) t kept)
-    ∙ ap (λ (r : Result Command Trouble). result_map gain_of (r >>= λ (c : Command). passed c (image_trouble index c))) frame
+pub gain_fails : (source : Bytes) (end index at : ℕ) (before : Kept) (c : Command) (t : Trouble) → Ok c ≡ framed_at source end index at → Err t ≡ result_map (first_kept before) (kept_in index c)
+    → Err t ≡ result_map (gain_with before) (command_at source image_trouble end index at)
+gain_fails source end index at before c t frame kept =
+    sym (fails before c (image_trouble index c) t kept)
+    ∙ ap (λ (r : Result Command Trouble). result_map (gain_with before) (r >>= λ (c : Command). passed c (image_trouble index c))) frame
 
 not_eq : (a b : ℕ) → a ≢ b → (a == b) ≡ false
 not_eq a b h = grind (arith, nat_tests)

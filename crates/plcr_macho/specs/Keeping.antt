@@ -1,8 +1,8 @@
 -- What the private functions behind parse answer: what is kept of the load commands, whose bytes stand in memory.
-use Rattle.std.specs.Prelude.{◌≡◌, ℕ, ◌+◌, ◌*◌, ◌≤◌, ◌^◌, if◌then◌else◌, List, [], ◌∷◌, drop, codes, Option, Some, None, IsSome, option_map, unwrap_or, ok_or, Result, Ok, Err}
+use Rattle.std.specs.Prelude.{ℕ, List, [], ◌∷◌, codes, Option, Some, None, IsSome, option_map, unwrap_or, ok_or, Result, Ok}
 use Rattle.std.specs.Option.{option_or}
 use Rattle.std.specs.List.{find}
-use Rattle.plcr_base.specs.Chains.{◌>>=◌, passed, result_map}
+use Rattle.plcr_base.specs.Chains.{◌>>=◌, passed}
 use Rattle.plcr_commands.specs.declared.trouble.Trouble.{Trouble}
 use Rattle.plcr_commands.specs.Commands.{Command}
 use Rattle.plcr_memory.specs.Regions.{Contents, bytes_at}
@@ -108,9 +108,9 @@ first_kept k l = record {
 abbrev pub kept_in : ℕ → Command → Result Kept Trouble
 kept_in index c = passed (kept_of (c ∷ [])) (image_trouble index c)
 
--- what one command gives
-abbrev pub gain_of : Command → Gain
-gain_of c = record { kept = kept_of (c ∷ []); size = c.size }
+-- what one command gives behind what was kept
+abbrev pub gain_with : Kept → Command → Gain
+gain_with before c = record { kept = first_kept before (kept_of (c ∷ [])); size = c.size }
 
 -- a part in memory
 abbrev pub moved : ℕ → Part → Part

@@ -1,7 +1,7 @@
-ghost use Rattle.std.specs.Prelude.{◌≡◌, ◌≤◌, ◌+◌, IfOk};
+ghost use Rattle.std.specs.Prelude.{◌≡◌, ◌≢◌, ◌≤◌, ◌+◌, IfOk};
 ghost use Rattle.plcr_base.specs.Chains.{result_map};
 ghost use Rattle.plcr_commands.specs.Commands.{command_at};
-ghost use Rattle.plcr_macho.specs.Keeping.{Stands, command_of, gain_of, kept_in};
+ghost use Rattle.plcr_macho.specs.Keeping.{Stands, command_of, first_kept, gain_with, kept_in};
 ghost use Rattle.plcr_macho.specs.Loading.{image_trouble};
 ghost use Rattle.plcr_macho.specs.Sources.{memory_bytes};
 
@@ -19,22 +19,22 @@ const SEGMENT_64: u32 = 0x19;
 
 const UUID: u32 = 0x1b;
 
-/// What is kept of one load command, and its size in bytes.
+/// What is kept with one load command more, and its size in bytes.
 #[derive(Clone, Copy)]
 pub struct Gain {
     pub kept: Kept,
     pub size: u32,
 }
 
-fn kept_from(command: &Standing, index: u32) -> Result<Kept, Trouble>
+// What is kept of a command that is no segment.
+fn other_kept(command: &Standing, index: u32) -> Result<Kept, Trouble>
     requires stands { Stands command.now }
     requires least { 8 ≤ command.now.head.size }
+    requires kind { command.now.head.kind ≢ 0x19 }
     ensures { result ≡ kept_in index (command_of command.now) }
 {
     let kind = command.head.kind;
-    if kind == SEGMENT_64 {
-        segment_kept(command, index)
-    } else if kind == SYMTAB {
+    if kind == SYMTAB {
         symtab_kept(command, index)
     } else if kind == UUID {
         uuid_kept(command, index)
@@ -43,14 +43,34 @@ fn kept_from(command: &Standing, index: u32) -> Result<Kept, Trouble>
     }
 }
 
-/// What the command at place `at` gives, which has the index `index` in a list that ends at place `end`.
+// What is kept with one command more.
+fn kept_with(command: &Standing, index: u32, before: &Kept) -> Result<Kept, Trouble>
+    requires stands { Stands command.now }
+    requires least { 8 ≤ command.now.head.size }
+    ensures { result ≡ result_map (first_kept before.now) (kept_in index (command_of command.now)) }
+{
+    if command.head.kind == SEGMENT_64 {
+        segment_kept(command, index, before)
+    } else {
+        let kept = other_kept(command, index)?;
+        Ok(before.or(kept))
+    }
+}
+
+/// What the command at place `at` gives behind what was kept, which has the index `index` in a list that ends at place `end`.
 #[tactic(auto, using(crate::proofs::Segments::gain_fails))]
-pub fn gain_at(source: &MemoryBytes, end: u64, index: u32, at: u64) -> Result<Gain, Trouble>
-    ensures gain { result ≡ result_map gain_of (command_at (memory_bytes source.now.memory.now source.now.start) image_trouble end index at) }
+pub fn gain_at(
+    source: &MemoryBytes,
+    end: u64,
+    index: u32,
+    at: u64,
+    before: &Kept,
+) -> Result<Gain, Trouble>
+    ensures gain { result ≡ result_map (gain_with before.now) (command_at (memory_bytes source.now.memory.now source.now.start) image_trouble end index at) }
     ensures within { IfOk result (λ gain. at + gain.size ≤ end) }
 {
     let command = standing_at(source, end, index, at)?;
-    let kept = kept_from(&command, index)?;
+    let kept = kept_with(&command, index, before)?;
     Ok(Gain {
         kept,
         size: command.head.size,

@@ -2,6 +2,8 @@
 #![tactic(auto)]
 
 mod fields;
+#[cfg(test)]
+mod fixtures;
 mod gain;
 mod header;
 mod image;
@@ -9,6 +11,8 @@ mod images;
 mod kept;
 mod laws;
 mod list;
+#[cfg(test)]
+mod list_tests;
 mod parsing;
 mod search;
 mod sections;
@@ -19,7 +23,7 @@ mod tables;
 
 pub use image::{Image, ImageFault, Part, Symtab};
 pub use images::Images;
-pub use laws::images_lie;
+pub use laws::{images_hold, images_lie};
 pub use list::{ListImages, PlainImage};
 pub use parsing::parse;
 pub use search::containing;

@@ -22,8 +22,8 @@ fn kept_behind(source: &MemoryBytes, header: &Header) -> Result<Kept, Trouble>
     let mut kept = Kept::nothing();
     let mut at = 0;
     for index in 0..header.commands {
-        let gain = gain_at(source, end, index, at)?;
-        kept = kept.or(gain.kept);
+        let gain = gain_at(source, end, index, at, &kept)?;
+        kept = gain.kept;
         at += u64::from(gain.size);
     }
     Ok(kept)
@@ -102,7 +102,8 @@ fn image_of(address: u64, header: &Header, kept: &Kept) -> Result<Image, ImageFa
 }
 
 /// The Mach-O image whose header stands at an address, or the first fault: of the header, of each load command in
-/// order, then that there is no `__TEXT`. It costs about as much as the image has commands and sections.
+/// order, then that there is no `__TEXT`. It takes no memory, and at most about as many steps, each with a search among
+/// the regions by halves, as there are regions and bytes of the file that these map, whatever the header says.
 pub fn parse(memory: &Memory, arch: Arch, header: u64) -> Result<Image, ImageFault>
     ensures { result ≡ image_at memory.now arch header }
 {

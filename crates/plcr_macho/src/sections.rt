@@ -1,6 +1,6 @@
-ghost use Rattle.std.specs.Prelude.{◌≡◌, ◌≤◌, ◌+◌, ◌*◌, ◌^◌, [], ◌∷◌, drop, if◌then◌else◌, Some, None, IsSome};
+ghost use Rattle.std.specs.Prelude.{◌≡◌, ◌≤◌, ◌<◌, ◌+◌, ◌*◌, ◌^◌, ℕ, [], ◌∷◌, drop, if◌then◌else◌, Some, None, IsSome};
 ghost use Rattle.std.specs.Str.{bytes_eq};
-ghost use Rattle.plcr_memory.specs.Regions.{bytes_at};
+ghost use Rattle.plcr_memory.specs.Regions.{byte_at, bytes_at};
 ghost use Rattle.plcr_macho.specs.Fields.{bytes_of, section_name};
 ghost use Rattle.plcr_macho.specs.Loading.{sections_in};
 ghost use Rattle.plcr_macho.specs.Keeping.{Stands, bytes_there, command_of, part_in, parts_in};
@@ -49,6 +49,15 @@ fn parts_of(section: &[u8; 80]) -> Parts
     }
 }
 
+// How many sections from an address on begin with a zero, as far as the zeros go that one region has there. Such a
+// section has neither name.
+fn nameless(memory: &Memory, at: u64) -> u64
+    ensures { (k : ℕ) → k < result → byte_at memory.now (at + 80 * k) ≡ Some 0 }
+{
+    let zeros = memory.zeros_from(at);
+    if zeros == 0 { 0 } else { (zeros - 1) / 80 + 1 }
+}
+
 // What is kept of so many sections from an address on, which stand within `size` mapped bytes.
 fn parts_at(memory: &Memory, at: u64, size: u64, count: u32) -> Parts
     requires there { IsSome (bytes_at memory.now at size) }
@@ -56,13 +65,21 @@ fn parts_at(memory: &Memory, at: u64, size: u64, count: u32) -> Parts
     requires within { 80 * count ≤ size }
     ensures { result ≡ parts_in (sections_in count (bytes_there memory.now at size)) }
 {
+    let count = u64::from(count);
     let mut found = Parts {
         unwind: None,
         eh_frame: None,
     };
-    for index in 0..count {
-        let section = mapped_bytes(memory, at + 80 * u64::from(index));
-        found = found.or(parts_of(&section));
+    let mut index = 0;
+    while index < count {
+        let section_at = at + 80 * index;
+        let passed = nameless(memory, section_at);
+        if passed == 0 {
+            found = found.or(parts_of(&mapped_bytes(memory, section_at)));
+            index += 1;
+        } else {
+            index += u64::min(passed, count - index);
+        }
     }
     found
 }

@@ -1,6 +1,7 @@
-ghost use Rattle.std.specs.Prelude.{◌≡◌, ◌≤◌, ◌+◌, ◌*◌, [], ◌∷◌, take, codes, if◌then◌else◌, Some, None};
+ghost use Rattle.std.specs.Prelude.{◌≡◌, ◌≤◌, ◌+◌, ◌*◌, [], ◌∷◌, take, codes, not, ◌&&◌, if◌then◌else◌, Some, None};
+ghost use Rattle.plcr_base.specs.Chains.{result_map};
 ghost use Rattle.plcr_macho.specs.Fields.{is_named, segment_name};
-ghost use Rattle.plcr_macho.specs.Keeping.{Stands, command_of, kept_in, kept_of, segment_in, text_of};
+ghost use Rattle.plcr_macho.specs.Keeping.{Stands, command_of, first_kept, kept_in, kept_of, segment_in, text_of};
 
 use crate::fields::{FILEOFF, NSECTS, SEGMENT_NAME, VMADDR, VMSIZE, has_name};
 use crate::kept::{Kept, Segment, Text};
@@ -38,15 +39,15 @@ fn linkedit_of(front: &[u8; 72], segment: Segment) -> Option<Segment>
     }
 }
 
-// The segment with its sections where it is `__TEXT`.
+// The segment with its sections where it is `__TEXT` and none was seen before.
 #[tactic(auto, unfolding(crate::specs::Fields::bytes_of), using(crate::proofs::Segments::text_is, crate::proofs::Fronts::sections_are))]
-fn text_from(command: &Standing, front: &[u8; 72], segment: Segment) -> Option<Text>
+fn text_from(command: &Standing, front: &[u8; 72], segment: Segment, seen: bool) -> Option<Text>
     requires stands { Stands command.now }
     requires within { 72 + 80 * segment.sections ≤ command.now.head.size }
     requires segment { segment ≡ segment_in (command_of command.now).bytes }
-    ensures { result ≡ if is_named segment_name (codes "__TEXT") front.now then Some (text_of (command_of command.now)) else None }
+    ensures { result ≡ if not seen && is_named segment_name (codes "__TEXT") front.now then Some (text_of (command_of command.now)) else None }
 {
-    if has_name(front, SEGMENT_NAME, TEXT) {
+    if !seen && has_name(front, SEGMENT_NAME, TEXT) {
         Some(Text {
             segment,
             parts: parts_within(command, segment.sections),
@@ -56,11 +57,11 @@ fn text_from(command: &Standing, front: &[u8; 72], segment: Segment) -> Option<T
     }
 }
 
-/// What is kept of an LC_SEGMENT_64 that has room for its sections.
-pub fn segment_kept(command: &Standing, index: u32) -> Result<Kept, Trouble>
+/// What is kept with an LC_SEGMENT_64 more that has room for its sections. These are read in the first `__TEXT` alone.
+pub fn segment_kept(command: &Standing, index: u32, before: &Kept) -> Result<Kept, Trouble>
     requires stands { Stands command.now }
     requires kind { command.now.head.kind ≡ 0x19 }
-    ensures { result ≡ kept_in index (command_of command.now) }
+    ensures { result ≡ result_map (first_kept before.now) (kept_in index (command_of command.now)) }
 {
     let size = u64::from(command.head.size);
     if size < 72 {
@@ -71,10 +72,11 @@ pub fn segment_kept(command: &Standing, index: u32) -> Result<Kept, Trouble>
     if size < 72 + 80 * u64::from(segment.sections) {
         return Err(Trouble::Bad { index });
     }
-    Ok(Kept {
-        text: text_from(command, &front, segment),
+    let seen = before.text.is_some();
+    Ok(before.or(Kept {
+        text: text_from(command, &front, segment, seen),
         linkedit: linkedit_of(&front, segment),
         symtab: None,
         uuid: None,
-    })
+    }))
 }

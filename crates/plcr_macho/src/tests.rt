@@ -1,127 +1,9 @@
-ghost use Rattle.std.specs.Prelude.{IsTrue, All};
-ghost use Rattle.plcr_memory.specs.Regions.{IsBacked};
-
 use super::*;
-use arrayvec::ArrayVec;
-use plcr_memory::{Memory, MemoryFault, Region};
+use crate::fixtures::*;
+use plcr_memory::{Memory, MemoryFault};
 use plcr_regs::Arch;
 use std::alloc::{AllocError, Global};
 use std::test::*;
-
-const A0: u64 = 0x1_0000_0000;
-
-const X86_64: u32 = 0x0100_0007;
-
-const TEXT: &[u8; 16] = b"__TEXT\0\0\0\0\0\0\0\0\0\0";
-
-const DATA: &[u8; 16] = b"__DATA\0\0\0\0\0\0\0\0\0\0";
-
-const LINKEDIT: &[u8; 16] = b"__LINKEDIT\0\0\0\0\0\0";
-
-const UNWIND_INFO: &[u8; 16] = b"__unwind_info\0\0\0";
-
-const EH_FRAME: &[u8; 16] = b"__eh_frame\0\0\0\0\0\0";
-
-fn add_words(file: &mut Vec<u8>, words: &[u32]) -> Result<(), AllocError> {
-    for word in words {
-        file.extend_from_slice(&word.to_le_bytes())?;
-    }
-    Ok(())
-}
-
-fn add_numbers(file: &mut Vec<u8>, numbers: &[u64]) -> Result<(), AllocError> {
-    for number in numbers {
-        file.extend_from_slice(&number.to_le_bytes())?;
-    }
-    Ok(())
-}
-
-fn add_header(file: &mut Vec<u8>, commands: u32, size: u32) -> Result<(), AllocError> {
-    add_words(file, &[0xfeed_facf, X86_64, 3, 6, commands, size, 0, 0])
-}
-
-// A segment with so many sections, which are to follow; `numbers` are vmaddr, vmsize, fileoff and filesize.
-fn add_segment(
-    file: &mut Vec<u8>,
-    name: &[u8; 16],
-    numbers: [u64; 4],
-    size: u32,
-    sections: u32,
-) -> Result<(), AllocError> {
-    add_words(file, &[0x19, size])?;
-    file.extend_from_slice(name)?;
-    add_numbers(file, &numbers)?;
-    add_words(file, &[5, 5, sections, 0])
-}
-
-fn add_section(file: &mut Vec<u8>, name: &[u8; 16], at: u64, size: u64) -> Result<(), AllocError> {
-    file.extend_from_slice(name)?;
-    file.extend_from_slice(DATA)?;
-    add_numbers(file, &[at, size, 0, 0, 0, 0])
-}
-
-// The 128 bytes of a small image: `__TEXT` and an id that ends in k.
-fn small_image(alloc: Global, vmaddr: u64, vmsize: u64, k: u8) -> Result<Vec<u8>, AllocError> {
-    let mut file = Vec::new(alloc);
-    add_header(&mut file, 2, 96)?;
-    add_segment(&mut file, TEXT, [vmaddr, vmsize, 0, vmsize], 72, 0)?;
-    add_words(&mut file, &[0x1b, 24, 0, 0, 0])?;
-    file.extend_from_slice(&[0, 0, 0, k])?;
-    Ok(file)
-}
-
-fn all_backed(file: &[u8], regions: &[Region]) -> bool
-    ensures { IsTrue result → All (IsBacked file.now) regions.now }
-{
-    for region in regions {
-        let Region {
-            size,
-            from,
-            len,
-            ..
-        } = *region;
-        let held = from <= file.len() && len <= file.len() - from;
-        if !held || size == 0 || size < len as u64 {
-            return false;
-        }
-    }
-    true
-}
-
-fn memory_of(alloc: Global, file: Vec<u8>, regions: &[Region]) -> Result<Memory, MemoryFault> {
-    let regions = regions.to_vec(alloc)?;
-    if all_backed(file.as_slice(), regions.as_slice()) {
-        Memory::new(alloc, file, regions)
-    } else {
-        Err(MemoryFault::Memory)
-    }
-}
-
-// Bytes of the file, as many as they are.
-const fn bytes(start: u64, from: usize, len: usize) -> Region {
-    Region {
-        start,
-        size: len as u64,
-        from,
-        len,
-    }
-}
-
-// The first `len` bytes of the small image at A0, with one of its 4-byte words changed.
-fn changed_image(
-    alloc: Global,
-    place: usize,
-    word: u32,
-    len: usize,
-) -> Result<Memory, MemoryFault> {
-    let mut file = small_image(alloc, A0, 0x4000, 7)?;
-    for (i, byte) in word.to_le_bytes().iter().enumerate() {
-        if let Some(cell) = file.get_mut(place.saturating_add(i)) {
-            *cell = *byte;
-        }
-    }
-    memory_of(alloc, file, &[bytes(A0, 0, len)])
-}
 
 const SMALL: Image = Image {
     header: A0,
@@ -186,6 +68,7 @@ fn faults(rt: HostRuntime) -> Result<(), Fail> {
         (16, 3, bad(2)),
         (16, u32::MAX, bad(2)),
         (20, 0, bad(0)),
+        (20, 1, bad(0)),
         (20, 7, bad(0)),
         (20, 71, bad(0)),
         (20, 72, bad(1)),
@@ -195,6 +78,7 @@ fn faults(rt: HostRuntime) -> Result<(), Fail> {
         (20, u32::MAX, Ok(SMALL)),
         (32, 0x1a, Err(ImageFault::NoText)),
         (36, 0, bad(0)),
+        (36, 1, bad(0)),
         (36, 7, bad(0)),
         (36, 71, bad(0)),
         (36, 97, bad(0)),
@@ -348,93 +232,68 @@ fn moved_down(rt: HostRuntime) -> Result<(), Fail> {
     Ok(())
 }
 
-fn plain(header: u64, name: &[u8]) -> PlainImage {
-    let mut image = PlainImage {
-        header,
-        name: ArrayVec::new(),
-    };
-    for byte in name {
-        let _ = image.name.try_push(*byte);
-    }
-    image
+// The small image, whose header says that there are as many commands as can be, of as many bytes as can be.
+fn endless(alloc: Global) -> Result<Vec<u8>, AllocError> {
+    let mut file = small_image(alloc, A0, 0x4000, 7)?;
+    set_word(&mut file, 16, u32::MAX);
+    set_word(&mut file, 20, u32::MAX);
+    Ok(file)
 }
 
-fn first_at<I: Images>(images: &mut I, memory: &Memory, address: u64) -> Option<(usize, u64)> {
-    let (index, image) = containing(images, memory, Arch::X86_64, address)?;
-    Some((index, image.header))
-}
-
-// Two images of 0x4000 and 0 bytes at A0 and A0 + 0x1000, and one of 0x4000 at A0 + 0x2000.
 #[test]
-fn overlapping(rt: HostRuntime) -> Result<(), Fail> {
+fn most_commands(rt: HostRuntime) -> Result<(), Fail> {
     let alloc = rt.alloc();
-    let mut file = small_image(alloc, A0, 0x4000, 1)?;
-    file.extend_from_slice(small_image(alloc, A0, 0, 2)?.as_slice())?;
-    file.extend_from_slice(small_image(alloc, A0, 0x4000, 3)?.as_slice())?;
-    let (low, empty, high) = (A0, A0 + 0x1000, A0 + 0x2000);
-    let memory = memory_of(
-        alloc,
-        file,
-        &[
-            bytes(low, 0, 128),
-            bytes(empty, 128, 128),
-            bytes(high, 256, 128),
-        ],
-    )?;
-    let rising = [
-        plain(5, b"none"),
-        plain(low, b"low"),
-        plain(empty, b"empty"),
-        plain(high, b"high"),
-    ];
-    let falling = [
-        plain(high, b"high"),
-        plain(empty, b"empty"),
-        plain(low, b"low"),
-    ];
-    // An address, and the images that are found in either list.
-    let cases = [
-        (5, None, None),
-        (A0 - 1, None, None),
-        (A0, Some((1, low)), Some((2, low))),
-        (A0 + 0x1000, Some((1, low)), Some((2, low))),
-        (A0 + 0x1fff, Some((1, low)), Some((2, low))),
-        (A0 + 0x2000, Some((1, low)), Some((0, high))),
-        (A0 + 0x3fff, Some((1, low)), Some((0, high))),
-        (A0 + 0x4000, Some((3, high)), Some((0, high))),
-        (A0 + 0x5fff, Some((3, high)), Some((0, high))),
-        (A0 + 0x6000, None, None),
-        (u64::MAX, None, None),
-    ];
-    for (address, rises, falls) in cases {
-        assert_eq!(rt;
-            first_at(&mut ListImages::new(&rising), &memory, address),
-            rises,
-            "{address}"
-        );
-        assert_eq!(rt;
-            first_at(&mut ListImages::new(&falling), &memory, address),
-            falls,
-            "{address}"
-        );
-    }
-    assert_eq!(rt; first_at(&mut ListImages::new(&[]), &memory, A0), None);
+    let memory = memory_of(alloc, endless(alloc)?, &[bytes(A0, 0, 128)])?;
+    assert_eq!(rt;
+        parse(&memory, Arch::X86_64, A0),
+        Err(ImageFault::Unreadable { at: A0 + 128 })
+    );
+    // With zeros behind them the third one has no length.
+    let memory = memory_of(alloc, endless(alloc)?, &[padded(A0, 0x2_0000_0000, 0, 128)])?;
+    assert_eq!(rt; parse(&memory, Arch::X86_64, A0), bad(2));
     Ok(())
 }
 
-fn header_and_name<I: Images>(images: &mut I) -> (usize, u64, usize, u64, u64) {
-    if images.count() < 2 || images.name_len(1) < 9 {
-        return (0, 0, 0, 0, 0);
-    }
-    let header = images.header(1);
-    let first = images.name_word(1, 0);
-    let second = images.name_word(1, 1);
-    (images.count(), header, images.name_len(1), first, second)
+// As many sections as the command of a segment can have.
+const MOST: u32 = 53_687_090;
+
+// An image of 104 bytes with these sections, which are to follow, and the 80 bytes of one section.
+fn with_sections(alloc: Global, size: u32, sections: u32) -> Result<Vec<u8>, AllocError> {
+    let mut file = Vec::new(alloc);
+    add_header(&mut file, 1, u32::MAX)?;
+    add_segment(&mut file, TEXT, [A0, 0x4000, 0, 0], size, sections)?;
+    add_section(&mut file, UNWIND_INFO, A0 + 16, 32)?;
+    Ok(file)
 }
 
+// Sections that lie in zeros of which the file has none cost nothing.
 #[test]
-fn listed(rt: HostRuntime) {
-    let images = [plain(1, b""), plain(0x7000, b"/usr/libc")];
-    let want = (2, 0x7000, 9, 0x6269_6c2f_7273_752f, 0x63);
-    assert_eq!(rt; header_and_name(&mut ListImages::new(&images)), want);
+fn most_sections(rt: HostRuntime) -> Result<(), Fail> {
+    let alloc = rt.alloc();
+    let size = 72 + 80 * MOST;
+    let none = Image {
+        uuid: None,
+        ..SMALL
+    };
+    let file = with_sections(alloc, size, MOST)?;
+    let memory = memory_of(alloc, file, &[padded(A0, 0x2_0000_0000, 0, 104)])?;
+    assert_eq!(rt; parse(&memory, Arch::X86_64, A0), Ok(none));
+    // The last section is the one of the file.
+    let last = 104 + 80 * u64::from(MOST - 1);
+    let file = with_sections(alloc, size, MOST)?;
+    let regions = [padded(A0, last, 0, 104), bytes(A0 + last, 104, 80)];
+    let memory = memory_of(alloc, file, &regions)?;
+    let found = Image {
+        unwind: Some(Part {
+            at: A0 + 16,
+            size: 32,
+        }),
+        ..none
+    };
+    assert_eq!(rt; parse(&memory, Arch::X86_64, A0), Ok(found));
+    // One section more doesn't fit.
+    let file = with_sections(alloc, u32::MAX, MOST + 1)?;
+    let memory = memory_of(alloc, file, &[padded(A0, 0x2_0000_0000, 0, 104)])?;
+    assert_eq!(rt; parse(&memory, Arch::X86_64, A0), bad(0));
+    Ok(())
 }

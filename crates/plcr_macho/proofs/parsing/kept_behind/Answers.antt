@@ -1,4 +1,4 @@
-use Rattle.std.proofs.Common.{◌≡◌, ◌≤◌, ◌+◌, ℕ, sym, ap, subst, ◌∙◌, arith}
+use Rattle.std.proofs.Common.{◌+◌, ℕ, sym, ap, subst, ◌∙◌, arith}
 use Rattle.plcr_base.specs.Chains.{result_map}
 use Rattle.plcr_commands.specs.Commands.{commands_at}
 use Rattle.plcr_macho.specs.Sources.{memory_bytes}
@@ -14,9 +14,9 @@ loop-index-init c =
 pub loop-index-preserved : goal.loop-index-preserved
 loop-index-preserved c =
     let source = memory_bytes c.args.source.now.memory.now c.args.source.now.start in (
-      subst (λ (n : ℕ). SoFar source c.from-end.result c.args.header.now.commands (c.loop-index.index + 1) (c.loop-index.at + n) c.or-kept.result) (sym c.from-at.ensures)
-          (moves source c.from-end.result c.args.header.now.commands c.loop-index.index c.loop-index.at c.loop-index.kept c.or-kept.result c.in_ok-gain.gain
-          c.loop-index.invariant.0 c.loop-index-test.true c.in_ok-gain.ensures.gain c.or-kept.ensures),
+      subst (λ (n : ℕ). SoFar source c.from-end.result c.args.header.now.commands (c.loop-index.index + 1) (c.loop-index.at + n) c.in_ok-gain.gain.kept) (sym c.from-at.ensures)
+          (moves source c.from-end.result c.args.header.now.commands c.loop-index.index c.loop-index.at c.loop-index.kept c.in_ok-gain.gain
+          c.loop-index.invariant.0 c.loop-index-test.true c.in_ok-gain.ensures.gain),
       omega (arith, c.from-at.ensures, c.in_ok-gain.ensures.within),
     )
 

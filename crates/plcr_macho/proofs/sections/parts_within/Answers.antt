@@ -1,4 +1,4 @@
-use Rattle.std.proofs.Common.{◌≡◌, ◌≤◌, ◌+◌, ◌-◌, ℕ, List, drop, IsSome, sym, ap, subst, ◌∙◌, arith}
+use Rattle.std.proofs.Common.{ℕ, List, drop, IsSome, sym, ap, subst, ◌∙◌, arith}
 use Rattle.plcr_memory.specs.Regions.{bytes_at}
 use Rattle.plcr_macho.specs.Loading.{sections_in}
 use Rattle.plcr_macho.specs.Keeping.{bytes_there, parts_in}

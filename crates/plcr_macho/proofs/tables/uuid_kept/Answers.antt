@@ -1,5 +1,3 @@
-use Rattle.std.proofs.Common.{ap, ◌∙◌}
-use Rattle.plcr_macho.specs.Fields as fields
 use Rattle.plcr_macho.specs.Keeping.{command_of}
 use Rattle.plcr_macho.proofs.Fronts.{uuid_front}
 use Rattle.plcr_macho.proofs.Segments.{uuid_kept_is}
