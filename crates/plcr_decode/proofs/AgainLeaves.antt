@@ -13,7 +13,7 @@ use Rattle.plcr_report.specs.declared.messages.Processor.{Processor}
 use Rattle.plcr_report.specs.declared.messages.Signal.{Signal}
 use Rattle.plcr_report.specs.declared.messages.Process.{Process}
 use Rattle.plcr_report.specs.declared.messages.Info.{Info}
-use Rattle.plcr_decode.specs.Required.{symbol_whole, register_whole, system_whole, application_whole, processor_whole, signal_whole, process_whole, info_whole}
+use Rattle.plcr_decode.proofs.Wholes.{symbol_whole, register_whole, system_whole, application_whole, processor_whole, signal_whole, process_whole, info_whole}
 use Rattle.plcr_decode.specs.Values.{symbol_of, register_of, system_of, application_of, processor_of, signal_of, process_of, info_of}
 use Rattle.plcr_decode.proofs.Bounded.{FitsSymbol, FitsRegister, FitsSystem, FitsApplication, FitsProcessor, FitsSignal, FitsProcess, FitsInfo}
 use Rattle.plcr_decode.proofs.Again.{Says, good_number, good_text, good_maybe_number, good_maybe_text}

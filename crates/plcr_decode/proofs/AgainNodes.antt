@@ -14,7 +14,8 @@ use Rattle.plcr_report.specs.declared.messages.Processor.{Processor}
 use Rattle.plcr_report.specs.declared.messages.Image.{Image}
 use Rattle.plcr_decode.specs.declared.faults.DecodeFault.{DecodeFault}
 use Rattle.plcr_decode.specs.Fields.{messages_in, last_value, number_of, or_zero}
-use Rattle.plcr_decode.specs.Required.{needs, each_whole, symbol_whole, frame_whole, register_whole, thread_whole, processor_whole, image_whole}
+use Rattle.plcr_decode.specs.Required.{needs, each_whole}
+use Rattle.plcr_decode.proofs.Wholes.{symbol_whole, frame_whole, register_whole, thread_whole, processor_whole, image_whole}
 use Rattle.plcr_decode.specs.Values.{symbol_of, frame_of, register_of, thread_of, processor_of, image_of}
 use Rattle.plcr_decode.proofs.Bounded.{FitsSymbol, FitsFrame, FitsRegister, FitsThread, FitsProcessor, FitsImage}
 use Rattle.plcr_decode.proofs.Again.{Says, good_append, good_number, good_text, good_maybe_text, good_maybe_message, good_rows, rows_of, rows_messages, rows_whole, rows_values, rows_others, rows_last, one_whole_again, one_value_again}

@@ -18,7 +18,8 @@ use Rattle.plcr_report.specs.declared.messages.Report.{Report}
 use Rattle.plcr_decode.specs.declared.faults.DecodeFault.{DecodeFault}
 use Rattle.plcr_decode.specs.Fields.{fields_of, messages_in, together, joined, last_or, last_value, is_there}
 use Rattle.plcr_decode.specs.Scan.{scan}
-use Rattle.plcr_decode.specs.Required.{needs, each_whole, one_whole, system_whole, application_whole, thread_whole, image_whole, signal_whole, process_whole, info_whole, report_whole}
+use Rattle.plcr_decode.specs.Required.{needs, each_whole, one_whole, whole}
+use Rattle.plcr_decode.proofs.Wholes.{system_whole, application_whole, thread_whole, image_whole, signal_whole, process_whole, info_whole, report_whole, root_written}
 use Rattle.plcr_decode.specs.Values.{one_in, where_there, system_of, application_of, thread_of, image_of, signal_of, process_of, info_of, report_of}
 use Rattle.plcr_decode.specs.Reads.{root_of, reads}
 use Rattle.plcr_decode.proofs.Bounded.{FitsThread, FitsImage, FitsProcess, FitsInfo, FitsReport}
@@ -215,20 +216,20 @@ fields_are : (r : Report) (h : FitsReport r) → report_message r ≡ root_field
 unfolding report_message
 fields_are r h = refl
 
-then_next : (end : ℕ) (fs : List Field) → AreGood kinds.Root fs → (scan kinds.Root end (spelling fs) >>= λ u. (report_whole (fields_of (spelling fs)) >>= λ u. Ok (report_of (fields_of (spelling fs)))))
-    ≡ (report_whole (fields_of (spelling fs)) >>= λ u. Ok (report_of (fields_of (spelling fs))))
-then_next end fs good = ap (λ (w : Result (Unit {0}) DecodeFault). w >>= λ u. (report_whole (fields_of (spelling fs)) >>= λ u. Ok (report_of (fields_of (spelling fs))))) (scan_again kinds.Root end fs good)
+then_next : (end : ℕ) (fs : List Field) → AreGood kinds.Root fs → (scan kinds.Root end (spelling fs) >>= λ u. (whole kinds.Root (fields_of (spelling fs)) >>= λ u. Ok (report_of (fields_of (spelling fs)))))
+    ≡ (whole kinds.Root (fields_of (spelling fs)) >>= λ u. Ok (report_of (fields_of (spelling fs))))
+then_next end fs good = ap (λ (w : Result (Unit {0}) DecodeFault). w >>= λ u. (whole kinds.Root (fields_of (spelling fs)) >>= λ u. Ok (report_of (fields_of (spelling fs))))) (scan_again kinds.Root end fs good)
 
-reads_root : (end : ℕ) (fs : List Field) (r : Report) → AreGood kinds.Root fs → report_whole fs ≡ Ok tt → report_of fs ≡ r
-    → (scan kinds.Root end (spelling fs) >>= λ u. (report_whole (fields_of (spelling fs)) >>= λ u. Ok (report_of (fields_of (spelling fs))))) ≡ Ok r
+reads_root : (end : ℕ) (fs : List Field) (r : Report) → AreGood kinds.Root fs → whole kinds.Root fs ≡ Ok tt → report_of fs ≡ r
+    → (scan kinds.Root end (spelling fs) >>= λ u. (whole kinds.Root (fields_of (spelling fs)) >>= λ u. Ok (report_of (fields_of (spelling fs))))) ≡ Ok r
 reads_root end fs r good lacks gives =
     then_next end fs good
-    ∙ (ap (λ (l : List Field). report_whole l >>= λ u. Ok (report_of l)) (fields_again kinds.Root fs good)
+    ∙ (ap (λ (l : List Field). whole kinds.Root l >>= λ u. Ok (report_of l)) (fields_again kinds.Root fs good)
     ∙ (ap (λ (w : Result (Unit {0}) DecodeFault). w >>= λ u. Ok (report_of fs)) lacks ∙ ap (λ (x : Report). Ok x) gives))
 
 pub report_again : (r : Report) → FitsReport r → reads (spelling_of r) ≡ Ok r
 unfolding reads report_value
 report_again r h =
-    ap (λ (m : Result (List ℕ) DecodeFault). m >>= λ root. (scan kinds.Root (length (spelling_of r)) root >>= λ u. (report_whole (fields_of root) >>= λ u. Ok (report_of (fields_of root))))) (root_again r)
-    ∙ (ap (λ (fs : List Field). scan kinds.Root (length (spelling_of r)) (spelling fs) >>= λ u. (report_whole (fields_of (spelling fs)) >>= λ u. Ok (report_of (fields_of (spelling fs))))) (fields_are r h)
-    ∙ reads_root (length (spelling_of r)) (root_fields r h) r (root_good r h) (report_lacks r h) (report_gives r h))
+    ap (λ (m : Result (List ℕ) DecodeFault). m >>= λ root. (scan kinds.Root (length (spelling_of r)) root >>= λ u. (whole kinds.Root (fields_of root) >>= λ u. Ok (report_of (fields_of root))))) (root_again r)
+    ∙ (ap (λ (fs : List Field). scan kinds.Root (length (spelling_of r)) (spelling fs) >>= λ u. (whole kinds.Root (fields_of (spelling fs)) >>= λ u. Ok (report_of (fields_of (spelling fs))))) (fields_are r h)
+    ∙ reads_root (length (spelling_of r)) (root_fields r h) r (root_good r h) (root_written (root_fields r h) ∙ report_lacks r h) (report_gives r h))

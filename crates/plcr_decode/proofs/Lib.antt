@@ -2,6 +2,8 @@ pub mod Smaller
 pub mod Scans
 pub mod Listed
 pub mod Kept
+pub mod Wholes
+pub mod Levels
 pub mod Again
 pub mod Bounded
 pub mod AgainLeaves

@@ -2,6 +2,7 @@ pub mod Fields
 pub mod Scan
 pub mod Views
 pub mod Required
+pub mod Entries
 pub mod Values
 pub mod Reads
 pub mod Fits

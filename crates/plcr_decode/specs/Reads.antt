@@ -5,7 +5,7 @@ use Rattle.plcr_report.specs.declared.kinds.Kind.TheVariants as kinds
 use Rattle.plcr_report.specs.declared.messages.Report.{Report}
 use Rattle.plcr_decode.specs.Fields.{fields_of}
 use Rattle.plcr_decode.specs.Scan.{scan}
-use Rattle.plcr_decode.specs.Required.{report_whole}
+use Rattle.plcr_decode.specs.Required.{whole}
 use Rattle.plcr_decode.specs.Values.{report_of}
 use Rattle.plcr_decode.specs.declared.faults.DecodeFault.{DecodeFault}
 use Rattle.plcr_decode.specs.declared.faults.DecodeFault.TheVariants.{Magic, Version, Truncated}
@@ -23,4 +23,4 @@ root_of bytes = behind (codes "plcrash") (length bytes) bytes
 
 -- first the faults of its bytes in reading order, then the first field that lacks, then the report
 unfoldable pub reads : List ℕ → Result Report DecodeFault
-reads bytes = root_of bytes >>= λ root. (scan kinds.Root (length bytes) root >>= λ u. (report_whole (fields_of root) >>= λ u. Ok (report_of (fields_of root))))
+reads bytes = root_of bytes >>= λ root. (scan kinds.Root (length bytes) root >>= λ u. (whole kinds.Root (fields_of root) >>= λ u. Ok (report_of (fields_of root))))

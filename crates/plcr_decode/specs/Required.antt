@@ -1,10 +1,11 @@
 -- Whether a message and those within it have the fields that they have to have (the label `required` of proto2).
-use Rattle.std.specs.Prelude.{ℕ, Bool, true, false, List, [], ◌∷◌, Result, Ok, Err, if◌then◌else◌}
+use Rattle.std.specs.Prelude.{◌≡◌, ℕ, zero, suc, Bool, true, false, List, [], ◌∷◌, Result, Ok, Err, if◌then◌else◌}
 use Rattle.plcr_wire.specs.Message.{Field}
 use Rattle.plcr_base.specs.Chains.{◌>>=◌}
 use Rattle.plcr_report.specs.Schema.{Label, Required, Optional, Repeated, Row, rows}
 use Rattle.plcr_report.specs.declared.kinds.Kind.{Kind}
-use Rattle.plcr_report.specs.declared.kinds.Kind.TheVariants as kinds
+use Rattle.plcr_report.specs.declared.kinds.Holds.{Holds}
+use Rattle.plcr_report.specs.declared.kinds.Holds.TheVariants as holds
 use Rattle.plcr_decode.specs.Fields.{has, messages_in, joined}
 use Rattle.plcr_decode.specs.declared.faults.DecodeFault.{DecodeFault}
 use Rattle.plcr_decode.specs.declared.faults.DecodeFault.TheVariants.{Missing}
@@ -37,42 +38,39 @@ each_whole whole (m ∷ ms) = whole m >>= λ u. each_whole whole ms
 abbrev pub one_whole : (List Field → Result (Unit {0}) DecodeFault) → ℕ → List Field → Result (Unit {0}) DecodeFault
 one_whole whole n fs = if has n fs then whole (joined n fs) else Ok tt
 
--- a message's own fields come first, then the messages in it, in order of field number and place
-unfoldable pub symbol_whole : List Field → Result (Unit {0}) DecodeFault
-symbol_whole fs = has_all kinds.Symbol fs
+-- the fault of the messages that stand in a field: of each where it repeats, else of the one that its parts join to
+abbrev pub held_whole : (Kind → List Field → Result (Unit {0}) DecodeFault) → Holds → Label → ℕ → List Field → Result (Unit {0}) DecodeFault
+held_whole whole holds.Number label n fs = Ok tt
+held_whole whole holds.Text label n fs = Ok tt
+held_whole whole (holds.Message kind) Required n fs = one_whole (whole kind) n fs
+held_whole whole (holds.Message kind) Optional n fs = one_whole (whole kind) n fs
+held_whole whole (holds.Message kind) Repeated n fs = each_whole (whole kind) (messages_in n fs)
 
-unfoldable pub frame_whole : List Field → Result (Unit {0}) DecodeFault
-frame_whole fs = has_all kinds.Frame fs >>= λ u. one_whole symbol_whole 6 fs
+-- the first fault of the messages in these fields, in order of field number and place
+abbrev pub inner_whole : (Kind → List Field → Result (Unit {0}) DecodeFault) → List Row → List Field → Result (Unit {0}) DecodeFault
+inner_whole whole [] fs = Ok tt
+inner_whole whole (row ∷ rows) fs = held_whole whole row.holds row.label row.number fs >>= λ u. inner_whole whole rows fs
 
-unfoldable pub register_whole : List Field → Result (Unit {0}) DecodeFault
-register_whole fs = has_all kinds.Register fs
+-- a message's own fields come first, then the messages in it, which hold messages of at most so many levels
+abbrev pub whole_within : ℕ → Kind → List Field → Result (Unit {0}) DecodeFault
+whole_within zero kind fs = has_all kind fs
+whole_within (suc k) kind fs = has_all kind fs >>= λ u. inner_whole (whole_within k) (rows kind) fs
 
-unfoldable pub thread_whole : List Field → Result (Unit {0}) DecodeFault
-thread_whole fs = has_all kinds.Thread fs >>= λ u. (each_whole frame_whole (messages_in 2 fs) >>= λ u. each_whole register_whole (messages_in 4 fs))
+-- the first field that a message lacks, or one in it; below a root stand threads, their frames, and the frames' symbols
+unfoldable pub whole : Kind → List Field → Result (Unit {0}) DecodeFault
+whole kind fs = whole_within 3 kind fs
 
-unfoldable pub system_whole : List Field → Result (Unit {0}) DecodeFault
-system_whole fs = has_all kinds.System fs
+-- what a message lacks is a field of its own, or what the messages in it lack: no level of them is cut off
+abbrev pub WholeByParts : Type 0
+WholeByParts = (kind : Kind) (fs : List Field) → whole kind fs ≡ (has_all kind fs >>= λ u. inner_whole whole (rows kind) fs)
 
-unfoldable pub application_whole : List Field → Result (Unit {0}) DecodeFault
-application_whole fs = has_all kinds.Application fs
+-- a message whose parts are joined lacks only fields of its own: it holds no message
+abbrev pub Plain : Holds → Label → Type 0
+Plain holds.Number label = Unit {0}
+Plain holds.Text label = Unit {0}
+Plain (holds.Message kind) Required = (k : ℕ) (fs : List Field) → whole_within k kind fs ≡ has_all kind fs
+Plain (holds.Message kind) Optional = (k : ℕ) (fs : List Field) → whole_within k kind fs ≡ has_all kind fs
+Plain (holds.Message kind) Repeated = Unit {0}
 
-unfoldable pub processor_whole : List Field → Result (Unit {0}) DecodeFault
-processor_whole fs = has_all kinds.Processor fs
-
-unfoldable pub image_whole : List Field → Result (Unit {0}) DecodeFault
-image_whole fs = has_all kinds.Image fs >>= λ u. one_whole processor_whole 5 fs
-
-unfoldable pub signal_whole : List Field → Result (Unit {0}) DecodeFault
-signal_whole fs = has_all kinds.Signal fs
-
-unfoldable pub process_whole : List Field → Result (Unit {0}) DecodeFault
-process_whole fs = has_all kinds.Process fs
-
-unfoldable pub info_whole : List Field → Result (Unit {0}) DecodeFault
-info_whole fs = has_all kinds.Info fs
-
-unfoldable pub report_whole : List Field → Result (Unit {0}) DecodeFault
-report_whole fs =
-    has_all kinds.Root fs >>= λ u. (one_whole system_whole 1 fs >>= λ u. (one_whole application_whole 2 fs
-    >>= λ u. (each_whole thread_whole (messages_in 3 fs) >>= λ u. (each_whole image_whole (messages_in 4 fs)
-    >>= λ u. (one_whole signal_whole 6 fs >>= λ u. (one_whole process_whole 7 fs >>= λ u. one_whole info_whole 9 fs))))))
+abbrev pub PlainRow : Row → Type 0
+PlainRow row = Plain row.holds row.label

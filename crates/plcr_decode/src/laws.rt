@@ -1,10 +1,12 @@
-//! Laws of reading: what is spelled is read again, and nothing of a message without a fault is left out.
+//! Laws of reading: what is spelled is read again, nothing of a message without a fault is left out, and messages are
+//! judged with all that stands in them.
 ghost use Rattle.std.specs.Prelude.{◌≡◌, Ok};
 ghost use Rattle.plcr_report.specs.Spelling.{spelling_of};
 ghost use Rattle.plcr_report.specs.declared.messages.Report as value;
 ghost use Rattle.plcr_decode.specs.Covered.{FieldsCover};
 ghost use Rattle.plcr_decode.specs.Fits.{HasFile};
 ghost use Rattle.plcr_decode.specs.Reads.{reads};
+ghost use Rattle.plcr_decode.specs.Required.{WholeByParts};
 
 /// The file of a report spells that report, where each of its numbers has the width of its type and the file
 /// has fewer than 2^64 bytes.
@@ -17,4 +19,10 @@ pub fn reads_again()
 #[tactic(auto, using(crate::proofs::AnyEnd::fields_cover))]
 pub fn fields_cover()
     ensures { FieldsCover }
+{}
+
+/// What a message lacks is a field of its own, or else what the messages in it lack, however deep they stand.
+#[tactic(auto, using(crate::proofs::Levels::whole_by_parts))]
+pub fn whole_by_parts()
+    ensures { WholeByParts }
 {}

@@ -1,24 +1,15 @@
 //! The messages that hold no other message.
-ghost use Rattle.plcr_decode.specs.Required.{symbol_whole, register_whole, system_whole, application_whole, processor_whole, signal_whole, process_whole, info_whole};
 ghost use Rattle.plcr_decode.specs.Values.{symbol_of, register_of, system_of, application_of, processor_of, signal_of, process_of, info_of};
 
-use crate::faults::DecodeFault;
 use crate::fields::Fields;
 use crate::found::Found;
-use crate::messages::{Part, Row, has_all};
+use crate::messages::{Part, Row};
 use crate::numbers::{low, owned, owned_where};
-use plcr_report::{Application, Info, Kind, Process, Processor, Register, Signal, Symbol, System};
+use plcr_report::{Application, Info, Process, Processor, Register, Signal, Symbol, System};
 use std::alloc::{AllocError, Global};
 
 impl Part for Symbol {
-    ghost whole = { symbol_whole };
-
     ghost value = { symbol_of };
-
-    #[tactic(auto, unfolding(crate::specs::Required::symbol_whole))]
-    fn judge(fields: Fields<'_>) -> Result<(), DecodeFault> {
-        has_all(Kind::Symbol, fields)
-    }
 
     #[tactic(auto, unfolding(crate::specs::Values::symbol_of))]
     fn build(alloc: Global, fields: Fields<'_>) -> Result<Symbol, AllocError> {
@@ -32,14 +23,7 @@ impl Part for Symbol {
 }
 
 impl Row for Register {
-    ghost whole = { register_whole };
-
     ghost value = { register_of };
-
-    #[tactic(auto, unfolding(crate::specs::Required::register_whole))]
-    fn judge(bytes: &[u8]) -> Result<(), DecodeFault> {
-        has_all(Kind::Register, Fields::of(bytes))
-    }
 
     #[tactic(auto, unfolding(crate::specs::Values::register_of))]
     fn build(alloc: Global, bytes: &[u8]) -> Result<Register, AllocError> {
@@ -52,14 +36,7 @@ impl Row for Register {
 }
 
 impl Part for System {
-    ghost whole = { system_whole };
-
     ghost value = { system_of };
-
-    #[tactic(auto, unfolding(crate::specs::Required::system_whole))]
-    fn judge(fields: Fields<'_>) -> Result<(), DecodeFault> {
-        has_all(Kind::System, fields)
-    }
 
     #[tactic(auto, unfolding(crate::specs::Values::system_of))]
     fn build(alloc: Global, fields: Fields<'_>) -> Result<System, AllocError> {
@@ -75,14 +52,7 @@ impl Part for System {
 }
 
 impl Part for Application {
-    ghost whole = { application_whole };
-
     ghost value = { application_of };
-
-    #[tactic(auto, unfolding(crate::specs::Required::application_whole))]
-    fn judge(fields: Fields<'_>) -> Result<(), DecodeFault> {
-        has_all(Kind::Application, fields)
-    }
 
     #[tactic(auto, unfolding(crate::specs::Values::application_of))]
     fn build(alloc: Global, fields: Fields<'_>) -> Result<Application, AllocError> {
@@ -95,14 +65,7 @@ impl Part for Application {
 }
 
 impl Part for Processor {
-    ghost whole = { processor_whole };
-
     ghost value = { processor_of };
-
-    #[tactic(auto, unfolding(crate::specs::Required::processor_whole))]
-    fn judge(fields: Fields<'_>) -> Result<(), DecodeFault> {
-        has_all(Kind::Processor, fields)
-    }
 
     #[tactic(auto, unfolding(crate::specs::Values::processor_of))]
     fn build(_alloc: Global, fields: Fields<'_>) -> Result<Processor, AllocError> {
@@ -116,14 +79,7 @@ impl Part for Processor {
 }
 
 impl Part for Signal {
-    ghost whole = { signal_whole };
-
     ghost value = { signal_of };
-
-    #[tactic(auto, unfolding(crate::specs::Required::signal_whole))]
-    fn judge(fields: Fields<'_>) -> Result<(), DecodeFault> {
-        has_all(Kind::Signal, fields)
-    }
 
     #[tactic(auto, unfolding(crate::specs::Values::signal_of))]
     fn build(alloc: Global, fields: Fields<'_>) -> Result<Signal, AllocError> {
@@ -137,14 +93,7 @@ impl Part for Signal {
 }
 
 impl Part for Process {
-    ghost whole = { process_whole };
-
     ghost value = { process_of };
-
-    #[tactic(auto, unfolding(crate::specs::Required::process_whole))]
-    fn judge(fields: Fields<'_>) -> Result<(), DecodeFault> {
-        has_all(Kind::Process, fields)
-    }
 
     #[tactic(auto, unfolding(crate::specs::Values::process_of))]
     fn build(alloc: Global, fields: Fields<'_>) -> Result<Process, AllocError> {
@@ -161,14 +110,7 @@ impl Part for Process {
 }
 
 impl Part for Info {
-    ghost whole = { info_whole };
-
     ghost value = { info_of };
-
-    #[tactic(auto, unfolding(crate::specs::Required::info_whole))]
-    fn judge(fields: Fields<'_>) -> Result<(), DecodeFault> {
-        has_all(Kind::Info, fields)
-    }
 
     #[tactic(auto, unfolding(crate::specs::Values::info_of))]
     fn build(alloc: Global, fields: Fields<'_>) -> Result<Info, AllocError> {

@@ -6,6 +6,7 @@ mod faults;
 mod fields;
 mod found;
 mod ink;
+mod judging;
 mod laws;
 mod leaves;
 mod messages;
@@ -17,7 +18,8 @@ mod table;
 mod text;
 
 pub use faults::DecodeFault;
-pub use laws::{fields_cover, reads_again};
+pub use laws::{fields_cover, reads_again, whole_by_parts};
+pub use plcr_report::{Kind, Report};
 pub use reader::decode;
 pub use text::write_text;
 

@@ -1,30 +1,18 @@
 //! The messages that hold other messages.
-ghost use Rattle.std.specs.Prelude.{◌≡◌, ◌≢◌, IfOk, IfErr};
-ghost use Rattle.plcr_decode.specs.Fields.{fields_of};
-ghost use Rattle.plcr_decode.specs.Required.{frame_whole, thread_whole, image_whole, report_whole};
 ghost use Rattle.plcr_decode.specs.Values.{frame_of, thread_of, image_of, report_of};
 
-use crate::faults::DecodeFault;
 use crate::fields::Fields;
 use crate::found::Found;
-use crate::messages::{Part, Row, build_one, build_rows, has_all, judge_one, judge_rows};
+use crate::messages::{Part, Row, build_one, build_rows};
 use crate::numbers::{low, owned, owned_where};
 use plcr_report::{
-    Application, Frame, Image, Info, Kind, Process, Processor, Register, Report, Signal, Symbol,
-    System, Thread,
+    Application, Frame, Image, Info, Process, Processor, Register, Report, Signal, Symbol, System,
+    Thread,
 };
 use std::alloc::{AllocError, Global};
 
 impl Row for Frame {
-    ghost whole = { frame_whole };
-
     ghost value = { frame_of };
-
-    #[tactic(auto, unfolding(crate::specs::Required::frame_whole))]
-    fn judge(bytes: &[u8]) -> Result<(), DecodeFault> {
-        has_all(Kind::Frame, Fields::of(bytes))?;
-        judge_one::<Symbol>(bytes, Frame::SYMBOL)
-    }
 
     #[tactic(auto, unfolding(crate::specs::Values::frame_of))]
     fn build(alloc: Global, bytes: &[u8]) -> Result<Frame, AllocError> {
@@ -36,16 +24,7 @@ impl Row for Frame {
 }
 
 impl Row for Thread {
-    ghost whole = { thread_whole };
-
     ghost value = { thread_of };
-
-    #[tactic(auto, unfolding(crate::specs::Required::thread_whole))]
-    fn judge(bytes: &[u8]) -> Result<(), DecodeFault> {
-        has_all(Kind::Thread, Fields::of(bytes))?;
-        judge_rows::<Frame>(bytes, Thread::FRAMES)?;
-        judge_rows::<Register>(bytes, Thread::REGISTERS)
-    }
 
     #[tactic(auto, unfolding(crate::specs::Values::thread_of))]
     fn build(alloc: Global, bytes: &[u8]) -> Result<Thread, AllocError> {
@@ -60,15 +39,7 @@ impl Row for Thread {
 }
 
 impl Row for Image {
-    ghost whole = { image_whole };
-
     ghost value = { image_of };
-
-    #[tactic(auto, unfolding(crate::specs::Required::image_whole))]
-    fn judge(bytes: &[u8]) -> Result<(), DecodeFault> {
-        has_all(Kind::Image, Fields::of(bytes))?;
-        judge_one::<Processor>(bytes, Image::CODE_TYPE)
-    }
 
     #[tactic(auto, unfolding(crate::specs::Values::image_of))]
     fn build(alloc: Global, bytes: &[u8]) -> Result<Image, AllocError> {
@@ -84,21 +55,7 @@ impl Row for Image {
 }
 
 impl Row for Report {
-    ghost whole = { report_whole };
-
     ghost value = { report_of };
-
-    #[tactic(auto, unfolding(crate::specs::Required::report_whole))]
-    fn judge(bytes: &[u8]) -> Result<(), DecodeFault> {
-        has_all(Kind::Root, Fields::of(bytes))?;
-        judge_one::<System>(bytes, Report::SYSTEM_INFO)?;
-        judge_one::<Application>(bytes, Report::APPLICATION_INFO)?;
-        judge_rows::<Thread>(bytes, Report::THREADS)?;
-        judge_rows::<Image>(bytes, Report::BINARY_IMAGES)?;
-        judge_one::<Signal>(bytes, Report::SIGNAL)?;
-        judge_one::<Process>(bytes, Report::PROCESS_INFO)?;
-        judge_one::<Info>(bytes, Report::REPORT_INFO)
-    }
 
     #[tactic(auto, unfolding(crate::specs::Values::report_of))]
     fn build(alloc: Global, bytes: &[u8]) -> Result<Report, AllocError> {

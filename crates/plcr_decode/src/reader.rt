@@ -5,6 +5,7 @@ ghost use Rattle.plcr_decode.specs.Reads as spec;
 ghost use Rattle.plcr_decode.specs.Reads.{reads};
 
 use crate::faults::DecodeFault;
+use crate::judging::judge;
 use crate::messages::Row;
 use crate::scanning::scan;
 use plcr_report::{Kind, Report};
@@ -77,7 +78,7 @@ pub fn decode(alloc: Global, bytes: &[u8]) -> Result<Report, DecodeFault>
 {
     let root = root_of(bytes)?;
     scan(Kind::Root, root, bytes.len())?;
-    Report::judge(root)?;
+    judge(Kind::Root, root)?;
     match Report::build(alloc, root) {
         Ok(report) => Ok(report),
         Err(_) => Err(DecodeFault::Memory),

@@ -1,40 +1,117 @@
-//! The fields of each message: what they hold, and which of them it has to have, after PLCrashReporter's
-//! crash_report.proto.
+//! The fields of each message, after PLCrashReporter's crash_report.proto: what they hold, and how often they stand
+//! there.
 ghost use Rattle.std.specs.Prelude.{◌≡◌};
-ghost use Rattle.plcr_decode.specs.Required.{required_of};
-ghost use Rattle.plcr_report.specs.Schema.{rows, rule};
+ghost use Rattle.plcr_decode.specs.Entries.{row_of, rows_of};
+ghost use Rattle.plcr_report.specs.Schema.{rows, rule, holds_in};
 
 use plcr_report::{
     Application, Frame, Holds, Image, Info, Kind, Process, Processor, Register, Report, Signal,
     Symbol, System, Thread,
 };
 
-/// The numbers of the fields that a message of this kind has to have, in rising order.
-pub(crate) fn required(kind: Kind) -> &'static [u32]
-    ensures { result.now ≡ required_of (rows kind) }
+/// A field of a message by its number and what it holds: it stands there once, at most once, or any number of times.
+#[derive(Clone, Copy)]
+pub(crate) enum Entry {
+    Required(u32, Holds),
+    Optional(u32, Holds),
+    Repeated(u32, Holds),
+}
+
+impl Entry {
+    fn number(self) -> u32
+        ensures { result ≡ (row_of self).number }
+    {
+        match self {
+            Entry::Required(number, _) => number,
+            Entry::Optional(number, _) => number,
+            Entry::Repeated(number, _) => number,
+        }
+    }
+
+    fn holds(self) -> Holds
+        ensures { result ≡ (row_of self).holds }
+    {
+        match self {
+            Entry::Required(_, holds) => holds,
+            Entry::Optional(_, holds) => holds,
+            Entry::Repeated(_, holds) => holds,
+        }
+    }
+}
+
+/// The fields of a message of this kind, in rising order.
+pub(crate) fn entries(kind: Kind) -> &'static [Entry]
+    ensures { rows_of result.now ≡ rows kind }
 {
     match kind {
         Kind::Root => &[
-            Report::SYSTEM_INFO,
-            Report::APPLICATION_INFO,
-            Report::SIGNAL,
+            Entry::Required(Report::SYSTEM_INFO, Holds::Message(Kind::System)),
+            Entry::Required(Report::APPLICATION_INFO, Holds::Message(Kind::Application)),
+            Entry::Repeated(Report::THREADS, Holds::Message(Kind::Thread)),
+            Entry::Repeated(Report::BINARY_IMAGES, Holds::Message(Kind::Image)),
+            Entry::Required(Report::SIGNAL, Holds::Message(Kind::Signal)),
+            Entry::Optional(Report::PROCESS_INFO, Holds::Message(Kind::Process)),
+            Entry::Optional(Report::REPORT_INFO, Holds::Message(Kind::Info)),
         ],
         Kind::System => &[
-            System::OPERATING_SYSTEM,
-            System::OS_VERSION,
-            System::ARCHITECTURE,
-            System::TIMESTAMP,
+            Entry::Required(System::OPERATING_SYSTEM, Holds::Number),
+            Entry::Required(System::OS_VERSION, Holds::Text),
+            Entry::Required(System::ARCHITECTURE, Holds::Number),
+            Entry::Required(System::TIMESTAMP, Holds::Number),
+            Entry::Optional(System::OS_BUILD, Holds::Text),
         ],
-        Kind::Application => &[Application::IDENTIFIER, Application::VERSION],
-        Kind::Thread => &[Thread::THREAD_NUMBER, Thread::CRASHED],
-        Kind::Frame => &[Frame::PC],
-        Kind::Symbol => &[Symbol::NAME, Symbol::START_ADDRESS],
-        Kind::Register => &[Register::NAME, Register::VALUE],
-        Kind::Image => &[Image::BASE_ADDRESS, Image::SIZE, Image::NAME],
-        Kind::Processor => &[Processor::ENCODING, Processor::CPU, Processor::SUBTYPE],
-        Kind::Signal => &[Signal::NAME, Signal::CODE, Signal::ADDRESS],
-        Kind::Process => &[Process::ID, Process::PARENT_ID, Process::NATIVE],
-        Kind::Info => &[Info::USER_REQUESTED],
+        Kind::Application => &[
+            Entry::Required(Application::IDENTIFIER, Holds::Text),
+            Entry::Required(Application::VERSION, Holds::Text),
+        ],
+        Kind::Thread => &[
+            Entry::Required(Thread::THREAD_NUMBER, Holds::Number),
+            Entry::Repeated(Thread::FRAMES, Holds::Message(Kind::Frame)),
+            Entry::Required(Thread::CRASHED, Holds::Number),
+            Entry::Repeated(Thread::REGISTERS, Holds::Message(Kind::Register)),
+        ],
+        Kind::Frame => &[
+            Entry::Required(Frame::PC, Holds::Number),
+            Entry::Optional(Frame::SYMBOL, Holds::Message(Kind::Symbol)),
+        ],
+        Kind::Symbol => &[
+            Entry::Required(Symbol::NAME, Holds::Text),
+            Entry::Required(Symbol::START_ADDRESS, Holds::Number),
+            Entry::Optional(Symbol::END_ADDRESS, Holds::Number),
+        ],
+        Kind::Register => &[
+            Entry::Required(Register::NAME, Holds::Text),
+            Entry::Required(Register::VALUE, Holds::Number),
+        ],
+        Kind::Image => &[
+            Entry::Required(Image::BASE_ADDRESS, Holds::Number),
+            Entry::Required(Image::SIZE, Holds::Number),
+            Entry::Required(Image::NAME, Holds::Text),
+            Entry::Optional(Image::UUID, Holds::Text),
+            Entry::Optional(Image::CODE_TYPE, Holds::Message(Kind::Processor)),
+        ],
+        Kind::Processor => &[
+            Entry::Required(Processor::ENCODING, Holds::Number),
+            Entry::Required(Processor::CPU, Holds::Number),
+            Entry::Required(Processor::SUBTYPE, Holds::Number),
+        ],
+        Kind::Signal => &[
+            Entry::Required(Signal::NAME, Holds::Text),
+            Entry::Required(Signal::CODE, Holds::Text),
+            Entry::Required(Signal::ADDRESS, Holds::Number),
+        ],
+        Kind::Process => &[
+            Entry::Optional(Process::NAME, Holds::Text),
+            Entry::Required(Process::ID, Holds::Number),
+            Entry::Optional(Process::PATH, Holds::Text),
+            Entry::Optional(Process::PARENT_NAME, Holds::Text),
+            Entry::Required(Process::PARENT_ID, Holds::Number),
+            Entry::Required(Process::NATIVE, Holds::Number),
+        ],
+        Kind::Info => &[
+            Entry::Required(Info::USER_REQUESTED, Holds::Number),
+            Entry::Optional(Info::UUID, Holds::Text),
+        ],
     }
 }
 
@@ -42,143 +119,16 @@ pub(crate) fn required(kind: Kind) -> &'static [u32]
 pub(crate) fn held(kind: Kind, number: u32) -> Option<Holds>
     ensures { result ≡ rule kind number }
 {
-    match kind {
-        Kind::Root => held_by_root(number),
-        Kind::System => held_by_system(number),
-        Kind::Application => held_by_application(number),
-        Kind::Thread => held_by_thread(number),
-        Kind::Frame => held_by_frame(number),
-        Kind::Symbol => held_by_symbol(number),
-        Kind::Register => held_by_register(number),
-        Kind::Image => held_by_image(number),
-        Kind::Processor => held_by_processor(number),
-        Kind::Signal => held_by_signal(number),
-        Kind::Process => held_by_process(number),
-        Kind::Info => held_by_info(number),
-    }
+    held_in(entries(kind), number)
 }
 
-fn held_by_root(number: u32) -> Option<Holds>
-    ensures { result ≡ rule Kind.Root number }
+/// What the first of these entries of this number holds.
+fn held_in(entries: &[Entry], number: u32) -> Option<Holds>
+    ensures { result ≡ holds_in (rows_of entries.now) number }
 {
-    match number {
-        Report::SYSTEM_INFO => Some(Holds::Message(Kind::System)),
-        Report::APPLICATION_INFO => Some(Holds::Message(Kind::Application)),
-        Report::THREADS => Some(Holds::Message(Kind::Thread)),
-        Report::BINARY_IMAGES => Some(Holds::Message(Kind::Image)),
-        Report::SIGNAL => Some(Holds::Message(Kind::Signal)),
-        Report::PROCESS_INFO => Some(Holds::Message(Kind::Process)),
-        Report::REPORT_INFO => Some(Holds::Message(Kind::Info)),
-        _ => None,
+    let (entry, others) = entries.split_first()?;
+    if entry.number() == number {
+        return Some(entry.holds());
     }
-}
-
-fn held_by_system(number: u32) -> Option<Holds>
-    ensures { result ≡ rule Kind.System number }
-{
-    match number {
-        System::OPERATING_SYSTEM | System::ARCHITECTURE | System::TIMESTAMP => Some(Holds::Number),
-        System::OS_VERSION | System::OS_BUILD => Some(Holds::Text),
-        _ => None,
-    }
-}
-
-fn held_by_application(number: u32) -> Option<Holds>
-    ensures { result ≡ rule Kind.Application number }
-{
-    match number {
-        Application::IDENTIFIER | Application::VERSION => Some(Holds::Text),
-        _ => None,
-    }
-}
-
-fn held_by_thread(number: u32) -> Option<Holds>
-    ensures { result ≡ rule Kind.Thread number }
-{
-    match number {
-        Thread::THREAD_NUMBER | Thread::CRASHED => Some(Holds::Number),
-        Thread::FRAMES => Some(Holds::Message(Kind::Frame)),
-        Thread::REGISTERS => Some(Holds::Message(Kind::Register)),
-        _ => None,
-    }
-}
-
-fn held_by_frame(number: u32) -> Option<Holds>
-    ensures { result ≡ rule Kind.Frame number }
-{
-    match number {
-        Frame::PC => Some(Holds::Number),
-        Frame::SYMBOL => Some(Holds::Message(Kind::Symbol)),
-        _ => None,
-    }
-}
-
-fn held_by_symbol(number: u32) -> Option<Holds>
-    ensures { result ≡ rule Kind.Symbol number }
-{
-    match number {
-        Symbol::NAME => Some(Holds::Text),
-        Symbol::START_ADDRESS | Symbol::END_ADDRESS => Some(Holds::Number),
-        _ => None,
-    }
-}
-
-fn held_by_register(number: u32) -> Option<Holds>
-    ensures { result ≡ rule Kind.Register number }
-{
-    match number {
-        Register::NAME => Some(Holds::Text),
-        Register::VALUE => Some(Holds::Number),
-        _ => None,
-    }
-}
-
-fn held_by_image(number: u32) -> Option<Holds>
-    ensures { result ≡ rule Kind.Image number }
-{
-    match number {
-        Image::BASE_ADDRESS | Image::SIZE => Some(Holds::Number),
-        Image::NAME | Image::UUID => Some(Holds::Text),
-        Image::CODE_TYPE => Some(Holds::Message(Kind::Processor)),
-        _ => None,
-    }
-}
-
-fn held_by_processor(number: u32) -> Option<Holds>
-    ensures { result ≡ rule Kind.Processor number }
-{
-    match number {
-        Processor::ENCODING | Processor::CPU | Processor::SUBTYPE => Some(Holds::Number),
-        _ => None,
-    }
-}
-
-fn held_by_signal(number: u32) -> Option<Holds>
-    ensures { result ≡ rule Kind.Signal number }
-{
-    match number {
-        Signal::NAME | Signal::CODE => Some(Holds::Text),
-        Signal::ADDRESS => Some(Holds::Number),
-        _ => None,
-    }
-}
-
-fn held_by_process(number: u32) -> Option<Holds>
-    ensures { result ≡ rule Kind.Process number }
-{
-    match number {
-        Process::NAME | Process::PATH | Process::PARENT_NAME => Some(Holds::Text),
-        Process::ID | Process::PARENT_ID | Process::NATIVE => Some(Holds::Number),
-        _ => None,
-    }
-}
-
-fn held_by_info(number: u32) -> Option<Holds>
-    ensures { result ≡ rule Kind.Info number }
-{
-    match number {
-        Info::USER_REQUESTED => Some(Holds::Number),
-        Info::UUID => Some(Holds::Text),
-        _ => None,
-    }
+    held_in(others, number)
 }

@@ -5,6 +5,7 @@ use std::test::Fail;
 
 mod bad_input;
 mod damage;
+mod lacking;
 
 /// The report of one x86-64 thread, which crashed with rsp 0x7000 and rip 0x100000f50, all else 0.
 const FILE: [u8; 271] = [

@@ -72,3 +72,49 @@ fn a_changed_byte_leaves_a_report_or_a_fault_in_the_file(rt: HostRuntime) -> Res
     assert_eq!(rt; shown(alloc, bytes.as_slice())?.bytes(), TEXT);
     Ok(())
 }
+
+/// The next of the numbers of a fixed generator.
+fn next_number(state: u64) -> u64 {
+    state
+        .wrapping_mul(6364136223846793005)
+        .wrapping_add(1442695040888963407)
+}
+
+/// Bytes that often stand in reports: tags of fields and short lengths.
+const USUAL: [u8; 16] = [
+    0x08, 0x0a, 0x10, 0x12, 0x18, 0x1a, 0x20, 0x22, 0x28, 0x2a, 0x32, 0x3a, 0x4a, 0x00, 0x02, 0x06,
+];
+
+#[test]
+fn any_bytes_have_an_answer(rt: HostRuntime) -> Result<(), Fail> {
+    let alloc = rt.alloc();
+    let mut state = 1u64;
+    let mut any = Vec::new(alloc);
+    let mut headed = Vec::new(alloc);
+    for _ in 0..2000u32 {
+        any.clear();
+        headed.clear();
+        headed.extend_from_slice(b"plcrash\x01")?;
+        state = next_number(state);
+        for _ in 0..(state >> 58) {
+            state = next_number(state);
+            any.push(state.to_be_bytes()[0])?;
+            let usual = USUAL[(state.to_be_bytes()[1] % 16) as usize];
+            headed.push(if state.to_be_bytes()[2] < 200 {
+                usual
+            } else {
+                state.to_be_bytes()[0]
+            })?;
+        }
+        // None of them begins with the text of a report.
+        assert_eq!(rt;
+            decode(alloc, any.as_slice()).err(),
+            Some(DecodeFault::Magic)
+        );
+        match decode(alloc, headed.as_slice()) {
+            Ok(_) => {}
+            Err(fault) => assert!(rt; lies_within(&fault, headed.len()), "{fault:?}"),
+        }
+    }
+    Ok(())
+}
