@@ -7,12 +7,12 @@ use Rattle.plcr_machine.specs.declared.entry.Entry.TheVariants.{Enter, Leave, Lo
 use Rattle.plcr_machine.specs.Lists.{has, without, live, loads, changes}
 use Rattle.plcr_machine.specs.Links.{after, last_place}
 use Rattle.plcr_machine.specs.Histories.{IsLegal}
-use Rattle.plcr_machine.proofs.Cases.{eqb_same, not_both}
+use Rattle.plcr_machine.proofs.Cases.{by_cases, eqb_same, not_both}
 use Rattle.plcr_machine.proofs.OnNodes.{IsApart, without_absent}
 use Rattle.plcr_machine.proofs.Freedom.{live_apart, live_bound, head_absent}
 use Rattle.plcr_machine.proofs.Leads.{link_here}
 use Rattle.plcr_nodes.specs.Unlinking.{Follows}
-use Rattle.plcr_imagelist.specs.Keeping.{first_with}
+use Rattle.plcr_imagelist.specs.Keeping.{first_with, without_first}
 
 last_at : (p : ℕ) (xs : List Image) (i : ℕ) (x : Image) → i < length xs → x ≡ get_or xs i x → last_place p (take (suc i) xs) ≡ x.node
 last_at p [] i x below is = absurd (omega arith)
@@ -102,3 +102,23 @@ first_none header [] zero h = refl
 first_none header [] (suc i) h = refl
 first_none header (x ∷ xs) zero h = absurd (omega arith)
 first_none header (x ∷ xs) (suc i) h = first_none header xs i (omega arith)
+
+-- the list without the node of the first image with a header is the list without that image
+has_first : (header : ℕ) (xs : List Image) (x : Image) → first_with header xs ≡ Some x → has x.node xs ≡ true
+has_first header [] x e = cc
+has_first header (y ∷ ys) x e =
+    by_cases (eqb y.header header)
+    (λ t. let found : Some y ≡ Some x = rw t at e in let same : y ≡ x = cc in or_left (eqb y.node x.node) (has x.node ys) (sym (ap (λ (z : Image). eqb y.node z.node) same) ∙ eqb_same y.node))
+    (λ t. let later : first_with header ys ≡ Some x = rw t at e in or_right (eqb y.node x.node) (has x.node ys) (has_first header ys x later))
+
+pub first_cut : (header : ℕ) (xs : List Image) (x : Image) → IsApart xs → first_with header xs ≡ Some x → without x.node xs ≡ without_first header xs
+first_cut header [] x a e = refl
+first_cut header (y ∷ ys) x a e =
+    by_cases (eqb y.header header)
+    (λ t. let found : Some y ≡ Some x = rw t at e in let same : y ≡ x = cc in
+    let here : eqb y.node x.node ≡ true = sym (ap (λ (z : Image). eqb y.node z.node) same) ∙ eqb_same y.node in
+    let off : has x.node ys ≡ false = subst (λ (z : Image). has z.node ys ≡ false) same a.0 in
+    rw (t, here) (without_absent x.node ys off))
+    (λ t. let later : first_with header ys ≡ Some x = rw t at e in
+    let other : eqb y.node x.node ≡ false = ne_eqb y.node x.node (λ s. not_both (has y.node ys) (subst (λ n. has n ys ≡ true) (sym s) (has_first header ys x later)) a.0) in
+    rw (t, other) (ap (λ (zs : List Image). y ∷ zs) (first_cut header ys x a.1 later)))

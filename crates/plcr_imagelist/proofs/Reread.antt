@@ -17,7 +17,7 @@ use Rattle.plcr_nodes.specs.Tokens.{PassState, IsRead}
 use Rattle.plcr_nodes.proofs.Staying.{image_stays, name_stays}
 use Rattle.plcr_imagelist.specs.Holds.{images_on, IsHolding}
 use Rattle.plcr_imagelist.specs.Walk.{with_name, all_named, IsSameWalk}
-use Rattle.plcr_imagelist.proofs.Walking.{holding_stays, hold_of, images_stay, before_enter-same}
+use Rattle.plcr_imagelist.proofs.Walking.{holding_stays, hold_of, images_stay, before_enter-same, ended_on}
 
 among_place : (ns : List ℕ) (i d : ℕ) → i < length ns → among (get_or ns i d) ns ≡ true
 among_place [] i d below = absurd (omega arith)
@@ -62,15 +62,21 @@ holding_read old node word found new met ended low k h =
 pub same_read : (old : PassState) (node word found : ℕ) (new : PassState) (met : List ℕ) (ended : Bool) (low : ℕ) → IsRead old node word found new → IsHolding old met ended low → IsSameWalk (hold_of old met ended) (hold_of new met ended)
 same_read old node word found new met ended low k h =
     let reach : (n : ℕ) → among n met ≡ true → may_reach old.number n old.history ≡ true = λ n t. (h.given n t).2 in
+    let same = images_stay old.nodes old.passes old.number old.history k.past old.names k.names k.sees met reach in
+    let start = before_enter-same old.number old.history k.past k.sees.added in
     subst (λ (s : PassState). IsSameWalk (hold_of old met ended) (hold_of s met ended)) (sym k.now)
     (record {
       list = refl;
+      sizes = (refl, refl);
       pass = refl;
-      met = images_stay old.nodes old.passes old.number old.history k.past old.names k.names k.sees met reach;
+      met = same;
       named = named_stay old.nodes old.passes old.number old.history k.past old.names k.names k.sees h.walking.known.named met reach;
       ended = refl;
-      enter = before_enter-same old.number old.history k.past k.sees.added;
+      enter = start;
       added = k.sees.added;
+      went = k.sees.named;
+      walking = λ _. (holding_stays old k.past k.names old.given met ended low k.sees (λ n t. t) h).walking;
+      ends = λ b e. ended_on old.nodes old.passes old.number old.history k.past (images_on met old.history) (images_on met k.past) b k.sees.legal.legal k.sees.added.grows start same e;
     })
 
 -- words 0 and 1, and those of the name

@@ -5,6 +5,7 @@ use Rattle.plcr_machine.specs.declared.entry.Entry.{Entry}
 use Rattle.plcr_machine.specs.declared.entry.Entry.TheVariants.{Load}
 use Rattle.plcr_machine.specs.Lists.{loads, changes}
 use Rattle.plcr_machine.specs.Passes.{counts, owes_count, IsPaced}
+use Rattle.plcr_machine.specs.Histories.{IsLegal}
 use Rattle.plcr_machine.proofs.Pace.{changes-paced}
 use Rattle.plcr_nodes.specs.Names.{header_in, name_in}
 use Rattle.plcr_nodes.specs.Tokens.{OwnerState, IsLinked}
@@ -17,26 +18,28 @@ use Rattle.plcr_imagelist.specs.Changes.{IsLookedAt, IsCountedAt, IsLoadedAt, Is
 use Rattle.plcr_imagelist.proofs.Owned.{changes_same, counts_same, owes_same, paced_same}
 
 pub looked_at : (old : OwnerState) (found : ℕ) (new : OwnerState) → IsLooked old found new → IsLookedAt (writer_state old) found (writer_state new)
-looked_at old found new k = record { past = k.past; names = k.names; sees = k.sees; now = ap writer_state k.now; gate = k.gate }
+looked_at old found new k = record { past = k.past; names = k.names; sees = k.sees; now = ap writer_state k.now; legal = k.legal; gate = k.gate }
 
 pub counted_at : (old : OwnerState) (found : ℕ) (new : OwnerState) → IsCounted old found new → IsCountedAt (writer_state old) (writer_state new)
-counted_at old found new k = record { past = k.past; names = k.names; sees = k.sees; now = ap writer_state k.now }
+counted_at old found new k = record { past = k.past; names = k.names; sees = k.sees; now = ap writer_state k.now; legal = k.legal }
 
 pub loaded_at : (old : OwnerState) (node header load : ℕ) (name : List ℕ) (new : OwnerState) → IsLinked old node new → load ≡ suc (loads old.history) → header ≡ header_in node old.filled → name ≡ name_in node old.filled
-    → IsLoadedAt (writer_state old) header name load (writer_state new)
+    → IsLoadedAt (writer_state old) header name load node (writer_state new)
 loaded_at old node header load name new k number h n =
     let same : load ≡ suc (loads k.past) = number ∙ ap suc (sym (loads_same k.past old.history (k.sees.added.owner refl))) in
+    let may : IsLegal old.nodes old.passes (Load node (suc (loads k.past)) (header_in node old.filled) ∷ k.past) = subst (λ (s : OwnerState). IsLegal s.nodes s.passes s.history) k.now k.legal.legal in
     record {
       past = k.past;
       names = k.names;
       sees = k.sees;
-      node = node;
+      free = (may.0.0, may.0.1, may.0.2);
       number = same;
       now = ap writer_state k.now ∙ (λ i. record (writer_state old) { history = Load node (sym same i) (sym h i) ∷ k.past; names = sym n i ∷ k.names });
+      legal = k.legal;
     }
 
 pub unloaded_at : (old : OwnerState) (image : Image) (new : OwnerState) → IsUnlinked old image.node new → IsUnloadedAt (writer_state old) image (writer_state new)
-unloaded_at old image new k = record { past = k.past; names = k.names; sees = k.sees; now = ap writer_state k.now }
+unloaded_at old image new k = record { past = k.past; names = k.names; sees = k.sees; now = ap writer_state k.now; legal = k.legal }
 
 -- a look leaves the writer at rest
 pub rest_looked : (old : OwnerState) (found : ℕ) (new : OwnerState) → IsLooked old found new → IsAtRest (writer_state old) → IsAtRest (writer_state new)

@@ -48,7 +48,7 @@ making_stored b b' header name load made m early e =
         owes = (making_rest b (Load header) name load made m (omega arith)).0 ∙ sym (ne_eqb (made + 1) (4 + w) (λ q. omega arith));
         ready = λ _. let r = m.ready (omega arith) in (r.0, r.1, stored_more b.spare header name made b.owner.filled early r.2);
       };
-      before = λ _. refl;
+      before = λ _. (refl, refl, refl);
       change = λ q. absurd (omega arith);
     })
 
@@ -138,12 +138,12 @@ making_begun_unload b at image load r few below is =
       ready = λ _. (below, is);
     }
 
-pub begun : (old : WriterState) (b b' : BooksState) (header : ℕ) (name : List ℕ) (change : ChangeState) → writer_state b.owner ≡ old → FindsRoom b b' → change ≡ begun_load (writer_state b'.owner) header name
+pub begun : (old : WriterState) (b b' : BooksState) (header : ℕ) (name : List ℕ) (change : ChangeState) → writer_state b.owner ≡ old → FindsRoom b b' → change ≡ begun_load (writer_state b'.owner) header name b'.spare b'.owner.filled
     → IsBegunLoad old header name change
 begun old b b' header name change view r e =
     subst (λ (s : WriterState). IsBegunLoad s header name change) view
     (subst (λ (c : ChangeState). IsBegunLoad (writer_state b.owner) header name c) (sym e)
     (elim r.how [
-      | inl p ↦ inl (p.0, ap (λ (s : BooksState). begun_load (writer_state s.owner) header name) p.1)
+      | inl p ↦ inl (p.0, ap (λ (s : BooksState). begun_load (writer_state s.owner) header name b'.spare b'.owner.filled) p.1)
       | inr q ↦ inr (q.0, q.1, r.free, refl)
     ]))

@@ -14,10 +14,10 @@ use Rattle.plcr_imagelist.specs.declared.change.Task.TheVariants.{Load, Unload}
 use Rattle.plcr_imagelist.specs.Keeping.{BooksState, Agrees, is_node, once_where}
 use Rattle.plcr_imagelist.specs.States.{writer_state}
 use Rattle.plcr_imagelist.specs.Making.{IsAtRest, IsMaking, IsReady}
-use Rattle.plcr_imagelist.specs.Holds.{walker_state, images_on, IsHolding, IsOut}
+use Rattle.plcr_imagelist.specs.Holds.{walker_state, images_on, IsHolding, IsOut, EndedAt}
 use Rattle.plcr_imagelist.specs.Tellings.{IsWriterTold, IsWalkerTold, IsHoldTold, IsMet}
 use Rattle.plcr_imagelist.proofs.Owned.{changes_same, counts_same, owes_same, paced_same}
-use Rattle.plcr_imagelist.proofs.Walking.{holding_stays, hold_of, images_stay}
+use Rattle.plcr_imagelist.proofs.Walking.{holding_stays, hold_of, images_stay, before_enter-same, ended_on}
 
 -- books that agree with a history agree with one that went on by entries of others
 agrees_seen : (o : OwnerState) (past : List Entry) (names : List (List ℕ)) (joined : List ℕ) (spares gone : List ℕ) (listed : List Image) (c l : ℕ) → owner_entries past ≡ owner_entries o.history → IsHistory o.nodes o.passes past names
@@ -105,4 +105,6 @@ hold_told old note new met ended low k h =
     record {
       walker = walker_told old note new k;
       same = λ i. record { walker = walker_state new; met = there i; ended = ended };
+      ends = subst (λ (s : PassState). (b : ℕ) → EndedAt (hold_of old met ended) b → EndedAt (hold_of s met ended) b) (sym k.now)
+          (λ b e. ended_on old.nodes old.passes old.number old.history k.past (images_on met old.history) (images_on met k.past) b k.sees.legal.legal k.sees.added.grows (before_enter-same old.number old.history k.past k.sees.added) same e);
     }

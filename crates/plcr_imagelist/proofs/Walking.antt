@@ -22,11 +22,11 @@ use Rattle.plcr_machine.proofs.Reach.{reach_busy}
 use Rattle.plcr_nodes.specs.Entries.{among}
 use Rattle.plcr_nodes.specs.Seeing.{AddsOthers, GoesOn}
 use Rattle.plcr_nodes.specs.Tokens.{PassState, SeesMore, IsEntered, IsLeft, IsFollowed}
-use Rattle.plcr_nodes.proofs.Seeing.{own_of}
+use Rattle.plcr_nodes.proofs.Seeing.{own_of, grows_again}
 use Rattle.plcr_nodes.proofs.Known.{inside_same, own_longer, reach_bound}
 use Rattle.plcr_nodes.proofs.Staying.{reach_stays, image_stays}
 use Rattle.plcr_imagelist.specs.Keeping.{last_of}
-use Rattle.plcr_imagelist.specs.Holds.{walker_state, HoldState, images_on, before_enter, IsHolding, IsHeld, IsNext, IsReleased, IsOut}
+use Rattle.plcr_imagelist.specs.Holds.{walker_state, HoldState, images_on, before_enter, start_of, HasEnded, EndedAt, IsHolding, IsHeld, IsNext, IsReleased, IsOut}
 
 -- entries of others leave the hold's enter where it was
 before_enter-step : (p : ℕ) (e : Entry) (past : List Entry) → own_entries p (e ∷ past) ≡ own_entries p past → before_enter p (e ∷ past) ≡ before_enter p past
@@ -172,6 +172,18 @@ lawful_whole nodes passes h l a b met w = whole_walk_lawful load_number (list_af
 follow_stays : (old all : List Entry) (i j : ℕ) → Grows old all → j ≤ changes old → follow load_number (list_after all) i j ≡ follow load_number (list_after old) i j
 follow_stays old all i j g le = follow-same load_number (list_after all) (list_after old) i j (λ k below. list_after-grows old all k g (omega arith))
 
+-- a walk that ended has ended there still, as the history grows
+pub ended_on : (nodes passes p : ℕ) (old all : List Entry) (old_met met : List Image) (b : ℕ) → IsLegal nodes passes all → Grows old all → before_enter p all ≡ before_enter p old → met ≡ old_met
+    → HasEnded old (changes (before_enter p old)) b old_met → HasEnded all (changes (before_enter p all)) b met
+ended_on nodes passes p old all old_met met b l g start same k =
+    let a : ℕ = changes (before_enter p old) in
+    let later = changes-grows old all g in
+    let within = k.within in
+    let walk : IsWholeWalk load_number (list_after all) a b old_met =
+    record { meets = meets-grows old all 0 a b old_met g within k.whole.meets; ends = follow_stays old all (last_met load_number 0 old_met) b g within ∙ k.whole.ends } in
+    subst (λ (xs : List Image). HasEnded all (changes (before_enter p all)) b xs) (sym same)
+    (subst (λ (s : List Entry). HasEnded all (changes s) b old_met) (sym start) (record { within = omega arith; whole = walk; lawful = lawful_whole nodes passes all l a b old_met walk }))
+
 -- a pass that has seen more
 abbrev pub on_with : PassState → List Entry → List (List ℕ) → List ℕ → PassState
 on_with s past names given = record s { history = past; names = names; given = given }
@@ -201,15 +213,7 @@ holding_stays old past names given met ended low g more h =
         rises = subst (λ (xs : List Image). RisesAbove load_number 0 xs) (sym same) w.rises;
         few = subst (λ (xs : List Image). length xs ≤ old.nodes) (sym same) w.few;
         whole = λ e. let k = w.whole e in
-            let b : ℕ = k.0 in
-            let walk : IsWholeWalk load_number (list_after past) (changes (before_enter p past)) b (images_on met past) =
-            subst (λ (xs : List Image). IsWholeWalk load_number (list_after past) (changes (before_enter p past)) b xs) (sym same)
-            (subst (λ (s : List Entry). IsWholeWalk load_number (list_after past) (changes s) b (images_on met old.history)) (sym start)
-            (record {
-              meets = meets-grows old.history past 0 (changes (before_enter p old.history)) b (images_on met old.history) g.added.grows k.1 k.2.meets;
-              ends = follow_stays old.history past (last_met load_number 0 (images_on met old.history)) b g.added.grows k.1 ∙ k.2.ends;
-            })) in
-            (b, omega (arith, k.1, later), walk, lawful_whole old.nodes old.passes past g.legal.legal (changes (before_enter p past)) b (images_on met past) walk);
+            (k.0, ended_on old.nodes old.passes p old.history past (images_on met old.history) (images_on met past) k.0 g.legal.legal g.added.grows start same k.1);
       };
       given = λ n t. let at = h.given n t in (at.0, more n at.1, reach_stays old.nodes old.passes p n old.history past old.names names g at.2);
       low_is = h.low_is ∙ ap counts (sym start);
@@ -238,11 +242,19 @@ holding_entered old found new low e is =
     })
 
 pub held_entered : (old : PassState) (found : ℕ) (new : PassState) → IsEntered old found new → IsHeld (walker_state old) (hold_of new [] false)
-held_entered old found new e = record { past = e.past; names = e.names; sees = e.sees; now = ap (λ (s : PassState). hold_of s [] false) e.now }
+held_entered old found new e = record { past = e.past; names = e.names; sees = e.sees; now = ap (λ (s : PassState). hold_of s [] false) e.now; legal = e.legal }
 
 -- after a hold the pass is out
 pub out_left : (old : PassState) (found : ℕ) (new : PassState) → IsLeft old found new → IsOut (walker_state new)
 out_left old found new e = record { known = e.legal; outside = subst (λ (s : PassState). is_inside s.number s.history ≡ false) (sym e.now) (rw (eqb_same old.number) refl) }
+
+ended_out : (old : PassState) (found : ℕ) (new : PassState) (met : List Image) (b : ℕ) → IsLeft old found new → HasEnded old.history (start_of (walker_state old)) b met → HasEnded new.history (start_of (walker_state new)) b met
+ended_out old found new met b e k =
+    let h : List Entry = Leave old.number ∷ e.past in
+    let grows : Grows old.history h = grows_again old.history e.past h e.sees.added.grows (Leave old.number ∷ [], refl) in
+    let legal : IsLegal old.nodes old.passes h = subst (λ (s : PassState). IsLegal s.nodes s.passes s.history) e.now e.legal.legal in
+    subst (λ (s : PassState). HasEnded s.history (start_of (walker_state s)) b met) (sym e.now)
+    (ended_on old.nodes old.passes old.number old.history h met met b legal grows (before_enter-same old.number old.history e.past e.sees.added) refl k)
 
 pub released_left : (old : PassState) (found : ℕ) (new : PassState) (met : List ℕ) (ended : Bool) (low high : ℕ) → IsLeft old found new → IsHolding old met ended low → high ≡ found / 4294967296
     → IsReleased (hold_of old met ended) (walker_state new) low high
@@ -250,7 +262,16 @@ released_left old found new met ended low high e h is =
     let few = e.sees.legal.few_passes in
     let most = readers_most old.passes e.past in
     let gate = e.gate in
-    record { past = e.past; names = e.names; sees = e.sees; now = ap walker_state e.now; low_is = h.low_is; high_is = omega arith }
+    record {
+      past = e.past;
+      names = e.names;
+      sees = e.sees;
+      now = ap walker_state e.now;
+      legal = e.legal;
+      low_is = h.low_is;
+      high_is = omega arith;
+      ends = λ b k. ended_out old found new (images_on met old.history) b e k;
+    }
 
 image_at-some : (n : ℕ) (h : List Entry) → n ≢ 0 → image_at n h ≡ Some (loaded n h)
 image_at-some zero h some = absurd (some refl)
@@ -289,11 +310,21 @@ holding_ended old met found new low f h z =
         few = w.few;
         whole = λ _.
             let walk : IsWholeWalk load_number (list_after f.past) (changes (before_enter old.number f.past)) (changes f.past) (images_on met f.past) = record { meets = w.meets; ends = none } in
-            (changes f.past, omega arith, walk, lawful_whole old.nodes old.passes f.past f.sees.legal.legal (changes (before_enter old.number f.past)) (changes f.past) (images_on met f.past) walk);
+            (changes f.past, record { within = omega arith; whole = walk; lawful = lawful_whole old.nodes old.passes f.past f.sees.legal.legal (changes (before_enter old.number f.past)) (changes f.past) (images_on met f.past) walk });
       };
       given = on.given;
       low_is = on.low_is;
     })
+
+-- so its walk is lawful up to the list that its pass saw then
+ended_now : (old : PassState) (met : List ℕ) (found : ℕ) (new : PassState) (low : ℕ) → (f : Followed old met found new) → IsHolding old met false low → found ≡ 0 → EndedAt (hold_of new met true) (changes f.past)
+ended_now old met found new low f h z =
+    let w = (went_on old met found new low f h).walking in
+    let none = followed_image old met found new low f h ∙ ap (λ k. image_at k f.past) z in
+    let a : ℕ = changes (before_enter old.number f.past) in
+    let walk : IsWholeWalk load_number (list_after f.past) a (changes f.past) (images_on met f.past) = record { meets = w.meets; ends = none } in
+    subst (λ (s : PassState). EndedAt (hold_of s met true) (changes f.past)) (sym f.now)
+    (record { within = omega arith; whole = walk; lawful = lawful_whole old.nodes old.passes f.past f.sees.legal.legal a (changes f.past) (images_on met f.past) walk })
 
 pub next_ended : (old : PassState) (met : List ℕ) (found : ℕ) (new : PassState) (low : ℕ) → Followed old met found new → IsHolding old met false low → found ≡ 0 → IsNext (hold_of old met false) false (hold_of new met true)
 next_ended old met found new low f h z =
@@ -312,6 +343,7 @@ next_ended old met found new low f h z =
           subst (λ (xs : List Image). follow load_number (list_after f.past) (last_met load_number 0 xs) (changes f.past) ≡ None) same none,
           ap (λ (s : PassState). images_on met s.history) f.now ∙ same,
         );
+        lawful = λ _. ended_now old met found new low f h z;
       };
     }
 
@@ -369,5 +401,6 @@ next_met old met found new low f h some =
           ),
         );
         end = λ m. not_both true refl m;
+        lawful = λ m. not_both true refl m;
       };
     }

@@ -1,19 +1,24 @@
 -- Whole loads and unloads.
-use Rattle.std.proofs.Common.{◌≡◌, inl, inr, ℕ, suc, List, [], ◌∷◌, ◌++◌, length, Option, Some, None, Ok, refl, sym, ap, ◌∙◌, subst, arith, append_assoc}
+use Rattle.std.proofs.Common.{◌≡◌, inl, inr, ℕ, suc, List, [], ◌∷◌, ◌++◌, length, Option, Some, None, Ok, Err, refl, sym, ap, ◌∙◌, subst, arith, append_assoc}
 use Rattle.plcr_machine.specs.declared.image.Image.{Image}
 use Rattle.plcr_machine.specs.declared.entry.Entry.{Entry}
 use Rattle.plcr_machine.specs.declared.entry.Entry.TheVariants.{Load, Unload, Count, Look}
 use Rattle.plcr_machine.specs.Lists.{Grows, live, loads, without, name_of}
 use Rattle.plcr_machine.specs.Passes.{readers}
+use Rattle.plcr_machine.proofs.OnNodes.{IsApart}
+use Rattle.plcr_machine.proofs.Freedom.{live_apart}
 use Rattle.plcr_nodes.specs.Entries.{WentOn}
 use Rattle.plcr_nodes.proofs.Known.{live_same, loads_same}
 use Rattle.plcr_nodes.proofs.NamesKept.{name-new, name-older}
 use Rattle.plcr_nodes.proofs.Seeing.{grows_again}
+use Rattle.plcr_imagelist.specs.Keeping.{first_with, without_first}
+use Rattle.plcr_imagelist.specs.declared.refusals.UnloadRefused.{UnloadRefused}
 use Rattle.plcr_imagelist.specs.States.{WriterState, ChangeState}
 use Rattle.plcr_imagelist.specs.Making.{IsAtRest}
 use Rattle.plcr_imagelist.specs.Changes.{IsLookedAt, IsCountedAt, IsLoadedAt, IsUnloadedAt, IsBegunLoad}
-use Rattle.plcr_imagelist.specs.Answers.{IsFinished, begun_unload, begins_unload}
+use Rattle.plcr_imagelist.specs.Answers.{IsFinished, begun_unload, BeginsUnload}
 use Rattle.plcr_imagelist.specs.Loading.{HasRoom, IsLoaded, IsUnloaded, UnloadsOrRefuses}
+use Rattle.plcr_imagelist.proofs.Placed.{first_cut}
 
 -- the writer's list, its number of loads, its history and its names, from one state to the next
 pub record GoesTo (old new : WriterState) : Type 0 where
@@ -39,10 +44,10 @@ counted_goes old new k =
     subst (λ (s : WriterState). GoesTo old s) (sym k.now)
     (record { grows = grows_again old.history k.past (Count (readers old.passes k.past) ∷ k.past) k.sees.added.grows (one_more (Count (readers old.passes k.past)) k.past); names = k.sees.named })
 
-pub loaded_goes : (old : WriterState) (header : ℕ) (name : List ℕ) (load : ℕ) (new : WriterState) → IsLoadedAt old header name load new → GoesTo old new
-loaded_goes old header name load new k =
+pub loaded_goes : (old : WriterState) (header : ℕ) (name : List ℕ) (load node : ℕ) (new : WriterState) → IsLoadedAt old header name load node new → GoesTo old new
+loaded_goes old header name load node new k =
     subst (λ (s : WriterState). GoesTo old s) (sym k.now)
-    (record { grows = grows_again old.history k.past (Load k.node load header ∷ k.past) k.sees.added.grows (one_more (Load k.node load header) k.past); names = went_again old.names k.names (name ∷ k.names) k.sees.named (name ∷ [], refl) })
+    (record { grows = grows_again old.history k.past (Load node load header ∷ k.past) k.sees.added.grows (one_more (Load node load header) k.past); names = went_again old.names k.names (name ∷ k.names) k.sees.named (name ∷ [], refl) })
 
 pub unloaded_goes : (old : WriterState) (image : Image) (new : WriterState) → IsUnloadedAt old image new → GoesTo old new
 unloaded_goes old image new k =
@@ -58,16 +63,16 @@ counted_list : (old new : WriterState) → IsCountedAt old new → live new.hist
 counted_list old new k = ap (λ (s : WriterState). live s.history) k.now ∙ live_same k.past old.history (k.sees.added.owner refl)
 
 -- the name of the load stays the one that it began with
-name_counted : (old : WriterState) (header : ℕ) (name : List ℕ) (load : ℕ) (mid new : WriterState) → IsLoadedAt old header name load mid → IsCountedAt mid new → name_of load new.names ≡ name
-name_counted old header name load mid new k c =
+name_counted : (old : WriterState) (header : ℕ) (name : List ℕ) (load node : ℕ) (mid new : WriterState) → IsLoadedAt old header name load node mid → IsCountedAt mid new → name_of load new.names ≡ name
+name_counted old header name load node mid new k c =
     let named = k.sees.legal.named in
     let number : load ≡ suc (length k.names) = k.number ∙ ap suc (sym named) in
     let there : mid.names ≡ name ∷ k.names = ap (λ (s : WriterState). s.names) k.now in
     let grew : new.names ≡ c.sees.named.0 ++ (name ∷ k.names) = ap (λ (s : WriterState). s.names) c.now ∙ c.sees.named.1 ∙ ap (λ (l : List (List ℕ)). c.sees.named.0 ++ l) there in
     ap (name_of load) grew ∙ name-older load c.sees.named.0 (name ∷ k.names) (omega arith) ∙ name-new load name k.names number
 
-pub loaded_whole : (old ready : WriterState) (header : ℕ) (name : List ℕ) (number : ℕ) (mid new : WriterState) → HasRoom old ready → IsLoadedAt ready header name number mid → IsCountedAt mid new → IsAtRest new → IsLoaded old header name number new
-loaded_whole old ready header name number mid new room k c rest =
+pub loaded_whole : (old ready : WriterState) (header : ℕ) (name : List ℕ) (number node : ℕ) (mid new : WriterState) → HasRoom old ready → IsLoadedAt ready header name number node mid → IsCountedAt mid new → IsAtRest new → IsLoaded old header name number new
+loaded_whole old ready header name number node mid new room k c rest =
     let own = k.sees.added.owner refl in
     let lists : (live ready.history ≡ live old.history) × (loads ready.history ≡ loads old.history) =
     elim room [
@@ -79,18 +84,18 @@ loaded_whole old ready header name number mid new room k c rest =
       | inl p ↦ subst (λ (s : WriterState). GoesTo old s) (sym p.1) (record { grows = ([], refl); names = ([], refl) })
       | inr q ↦ looked_goes old q.1.0 ready q.1.1
     ] in
-    let all = goes_again old mid new (goes_again old ready mid start (loaded_goes ready header name number mid k)) (counted_goes mid new c) in
+    let all = goes_again old mid new (goes_again old ready mid start (loaded_goes ready header name number node mid k)) (counted_goes mid new c) in
     record {
       ready = ready;
       room = room;
+      node = node;
       linked = mid;
       link = k;
       count = c;
-      node = k.node;
       number_is = k.number ∙ ap suc (loads_same k.past ready.history own ∙ lists.1);
       list = counted_list mid new c ∙ ap (λ (s : WriterState). live s.history) k.now
-          ∙ ap (λ (xs : List Image). xs ++ record { node = k.node; load = number; header = header } ∷ []) (live_same k.past ready.history own ∙ lists.0);
-      named = name_counted ready header name number mid new k c;
+          ∙ ap (λ (xs : List Image). xs ++ record { node = node; load = number; header = header } ∷ []) (live_same k.past ready.history own ∙ lists.0);
+      named = name_counted ready header name number node mid new k c;
       grows = all.grows;
       names = all.names;
       rest = rest;
@@ -114,19 +119,30 @@ unloaded_whole old image mid new k c rest =
 pub finished_load : (old : WriterState) (header : ℕ) (name : List ℕ) (change : ChangeState) (new : WriterState) → IsBegunLoad old header name change → IsFinished change new → IsLoaded old header name change.load new
 finished_load old header name change new b f =
     elim b [
-      | inl p ↦ subst (λ (c : ChangeState). IsFinished c new → IsLoaded old header name c.load new) (sym p.1) (λ g. loaded_whole old old header name (suc (loads old.history)) g.changed new (inl (p.0, refl)) g.change g.count g.rest) f
+      | inl p ↦ subst (λ (c : ChangeState). IsFinished c new → IsLoaded old header name c.load new) (sym p.1) (λ g. loaded_whole old old header name (suc (loads old.history)) change.node g.changed new (inl (p.0, refl)) g.change g.count g.rest) f
       | inr q ↦ subst (λ (c : ChangeState). IsFinished c new → IsLoaded old header name c.load new) (sym q.3)
-          (λ g. loaded_whole old change.writer header name (suc (loads change.writer.history)) g.changed new (inr (q.0, q.1, q.2)) g.change g.count g.rest) f
+          (λ g. loaded_whole old change.writer header name (suc (loads change.writer.history)) change.node g.changed new (inr (q.0, q.1, q.2)) g.change g.count g.rest) f
     ]
 
-pub finished_unload : (old : WriterState) (image : Image) (change : ChangeState) (new : WriterState) → change ≡ begun_unload old image → IsFinished change new → (change.load ≡ image.load) × IsUnloaded old image new
+pub finished_unload : (old : WriterState) (image : Image) (change : ChangeState) (new : WriterState) → change ≡ begun_unload old image change.node change.stores → IsFinished change new → (change.load ≡ image.load) × IsUnloaded old image new
 finished_unload old image change new e f =
     subst (λ (c : ChangeState). IsFinished c new → (c.load ≡ image.load) × IsUnloaded old image new) (sym e) (λ g. (refl, unloaded_whole old image g.changed new g.change g.count g.rest)) f
 
 -- whichever image there is
-pub unloads : (old : WriterState) (found : Option Image) (change : ChangeState) (load : ℕ) (new : WriterState) → Ok change ≡ begins_unload old found → IsFinished change new → load ≡ change.load → UnloadsOrRefuses old found new (Ok load)
-unloads old None change load new e f n = cc
-unloads old (Some image) change load new e f n =
-    let same : change ≡ begun_unload old image = cc in
-    let all = finished_unload old image change new same f in
-    (n ∙ all.0, all.1)
+pub unloads : (old : WriterState) (found : Option Image) (change : ChangeState) (load : ℕ) (new : WriterState) → BeginsUnload old found (Ok change) → IsFinished change new → load ≡ change.load → UnloadsOrRefuses old found new (Ok load)
+unloads old None change load new e f n = absurd e
+unloads old (Some image) change load new e f n = let all = finished_unload old image change new e f in (n ∙ all.0, all.1)
+
+pub unload_refused : (old : WriterState) (found : Option Image) (r : WriterState × UnloadRefused) → BeginsUnload old found (Err r) → UnloadsOrRefuses old found r.0 (Err r.1)
+unload_refused old None r e = (ap (λ (q : WriterState × UnloadRefused). q.1) e, ap (λ (q : WriterState × UnloadRefused). q.0) e)
+unload_refused old (Some image) r e = absurd e
+
+-- the image taken out is the first with the header
+pub unloads_first : (old : WriterState) (header : ℕ) (found : Option Image) (load : ℕ) (new : WriterState) → first_with header (live old.history) ≡ found
+    → UnloadsOrRefuses old found new (Ok load) → live new.history ≡ without_first header (live old.history)
+unloads_first old header None load new is u = absurd u
+unloads_first old header (Some image) load new is u =
+    let k = u.1.unlink in
+    let lists = live_same k.past old.history (k.sees.added.owner refl) in
+    let apart = subst (λ (xs : List Image). IsApart xs) lists (live_apart old.nodes old.passes k.past k.sees.legal.legal) in
+    u.1.list ∙ first_cut header (live old.history) image apart is

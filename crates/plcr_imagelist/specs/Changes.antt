@@ -4,8 +4,10 @@ use Rattle.plcr_machine.specs.declared.image.Image.{Image}
 use Rattle.plcr_machine.specs.declared.entry.Entry.{Entry}
 use Rattle.plcr_machine.specs.declared.entry.Entry.TheVariants.{Load, Unload, Count, Look}
 use Rattle.plcr_machine.specs.Lists.{loads, changes}
+use Rattle.plcr_machine.specs.Histories.{IsHistory}
 use Rattle.plcr_machine.specs.Nodes.{is_free}
 use Rattle.plcr_machine.specs.Passes.{readers}
+use Rattle.plcr_nodes.specs.declared.view.Store.{Store}
 use Rattle.plcr_nodes.specs.Seeing.{GoesOn}
 use Rattle.plcr_nodes.specs.Rule.{gate_of}
 use Rattle.plcr_imagelist.specs.Keeping.{NoneFree}
@@ -21,6 +23,7 @@ pub record IsLookedAt (old : WriterState) (found : ℕ) (new : WriterState) : Ty
   pub names : List (List ℕ)
   pub sees : WriterSeesMore old past names
   pub now : new ≡ record old { history = Look (readers old.passes past) ∷ past; names = names }
+  pub legal : IsHistory new.nodes new.passes new.history new.names
   pub gate : found ≡ gate_of old.passes past
 
 -- the change was counted
@@ -29,15 +32,17 @@ pub record IsCountedAt (old : WriterState) (new : WriterState) : Type 0 where
   pub names : List (List ℕ)
   pub sees : WriterSeesMore old past names
   pub now : new ≡ record old { history = Count (readers old.passes past) ∷ past; names = names }
+  pub legal : IsHistory new.nodes new.passes new.history new.names
 
--- an image with this name stands at the end of the list: the change of a load
-pub record IsLoadedAt (old : WriterState) (header : ℕ) (name : List ℕ) (load : ℕ) (new : WriterState) : Type 0 where
+-- an image with this name stands at the end of the list, on a node that was free: the change of a load
+pub record IsLoadedAt (old : WriterState) (header : ℕ) (name : List ℕ) (load node : ℕ) (new : WriterState) : Type 0 where
   pub past : List Entry
   pub names : List (List ℕ)
   pub sees : WriterSeesMore old past names
-  pub node : ℕ
+  pub free : (0 < node) × (node ≤ old.nodes) × (is_free node past ≡ true)
   pub number : load ≡ suc (loads past)
   pub now : new ≡ record old { history = Load node load header ∷ past; names = name ∷ names }
+  pub legal : IsHistory new.nodes new.passes new.history new.names
 
 -- the image was taken out of the list: the change of an unload
 pub record IsUnloadedAt (old : WriterState) (image : Image) (new : WriterState) : Type 0 where
@@ -45,11 +50,12 @@ pub record IsUnloadedAt (old : WriterState) (image : Image) (new : WriterState) 
   pub names : List (List ℕ)
   pub sees : WriterSeesMore old past names
   pub now : new ≡ record old { history = Unload image.node ∷ past; names = names }
+  pub legal : IsHistory new.nodes new.passes new.history new.names
 
--- the change itself was made
-abbrev pub IsChangedAt : WriterState → Doing → ℕ → WriterState → Type 0
-IsChangedAt old (Loads header name) load new = IsLoadedAt old header name load new
-IsChangedAt old (Unloads image) load new = IsUnloadedAt old image new
+-- the change itself was made: a load on this node, or an unload
+abbrev pub IsChangedAt : WriterState → Doing → ℕ → ℕ → WriterState → Type 0
+IsChangedAt old (Loads header name) load node new = IsLoadedAt old header name load node new
+IsChangedAt old (Unloads image) load node new = IsUnloadedAt old image new
 
 -- a node is free
 abbrev pub SomeFree : WriterState → Type 0
@@ -60,11 +66,11 @@ abbrev pub IsWorn : WriterState → Type 0
 IsWorn s = changes s.history ≡ 4294967295
 
 -- a load that was begun
-abbrev pub begun_load : WriterState → ℕ → List ℕ → ChangeState
-begun_load s header name = record { writer = s; doing = Loads header name; load = suc (loads s.history); made = 0 }
+abbrev pub begun_load : WriterState → ℕ → List ℕ → ℕ → List Store → ChangeState
+begun_load s header name node stores = record { writer = s; doing = Loads header name; load = suc (loads s.history); made = 0; node = node; stores = stores }
 
 -- a load began: where a node was free at once, or else after one look at the gate
 abbrev pub IsBegunLoad : WriterState → ℕ → List ℕ → ChangeState → Type 0
 IsBegunLoad old header name change =
-    (SomeFree old × (change ≡ begun_load old header name))
-    ⊎ (NoneFree old.nodes old.history × ((found : ℕ) × IsLookedAt old found change.writer) × SomeFree change.writer × (change ≡ begun_load change.writer header name))
+    (SomeFree old × (change ≡ begun_load old header name change.node change.stores))
+    ⊎ (NoneFree old.nodes old.history × ((found : ℕ) × IsLookedAt old found change.writer) × SomeFree change.writer × (change ≡ begun_load change.writer header name change.node change.stores))

@@ -51,9 +51,15 @@ WalkerSeesMore old past names = GoesOn old.nodes old.passes false (old.number �
 abbrev pub start_of : WalkerState → ℕ
 start_of w = changes (before_enter w.number w.history)
 
--- a walk that began after a changes has come to its end: it is whole, and lawful between the list then and the list at its end
-abbrev pub HasEnded : List Entry → ℕ → List Image → Type 0
-HasEnded h a met = (b : ℕ) × (b ≤ changes h) × IsWholeWalk load_number (list_after h) a b met × IsLawfulWalk load_number (list_after h) a b met
+-- a walk that began after a changes has come to its end after b: it is whole, and lawful between the list after a changes and the list after b
+pub record HasEnded (h : List Entry) (a b : ℕ) (met : List Image) : Type 0 where
+  pub within : b ≤ changes h
+  pub whole : IsWholeWalk load_number (list_after h) a b met
+  pub lawful : IsLawfulWalk load_number (list_after h) a b met
+
+-- the walk of a hold, which began at its enter, has come to its end after so many changes
+abbrev pub EndedAt : HoldState → ℕ → Type 0
+EndedAt s b = HasEnded s.walker.history (start_of s.walker) b s.met
 
 -- the walk of a hold: from its enter on, each image followed the one met before it; once it has ended, nothing followed
 pub record IsWalking (s : HoldState) : Type 0 where
@@ -63,7 +69,7 @@ pub record IsWalking (s : HoldState) : Type 0 where
   pub meets : Meets load_number (list_after s.walker.history) 0 (start_of s.walker) (changes s.walker.history) s.met
   pub rises : RisesAbove load_number 0 s.met
   pub few : length s.met ≤ s.walker.nodes
-  pub whole : s.ended ≡ true → HasEnded s.walker.history (start_of s.walker) s.met
+  pub whole : s.ended ≡ true → (b : ℕ) × EndedAt s b
 
 -- the nodes that a hold keeps are those that its pass was given
 pub record IsHolding (pass : PassState) (met : List ℕ) (ended : Bool) (low : ℕ) : Type 0 where
@@ -77,6 +83,7 @@ pub record IsHeld (old : WalkerState) (new : HoldState) : Type 0 where
   pub names : List (List ℕ)
   pub sees : WalkerSeesMore old past names
   pub now : new ≡ record { walker = record old { history = Enter old.number ∷ past; names = names }; met = []; ended = false }
+  pub legal : IsHistory new.walker.nodes new.walker.passes new.walker.history new.walker.names
 
 -- the walk met the image that follows, or nothing followed and it has ended
 pub record GoesFurther (old : HoldState) (more : Bool) (new : HoldState) : Type 0 where
@@ -86,6 +93,8 @@ pub record GoesFurther (old : HoldState) (more : Bool) (new : HoldState) : Type 
   pub walker : new.walker ≡ record old.walker { history = past; names = names }
   pub met : more ≡ true → (new.ended ≡ false) × ((x : Image) × (follow load_number (list_after past) (last_met load_number 0 old.met) (changes past) ≡ Some x) × (new.met ≡ old.met ++ x ∷ []))
   pub end : more ≡ false → (new.ended ≡ true) × (follow load_number (list_after past) (last_met load_number 0 old.met) (changes past) ≡ None) × (new.met ≡ old.met)
+  -- the walk that ended is lawful up to the list that its pass saw then
+  pub lawful : more ≡ false → EndedAt new (changes past)
 
 -- and a walk that has ended stays as it is
 pub record IsNext (old : HoldState) (more : Bool) (new : HoldState) : Type 0 where
@@ -98,8 +107,11 @@ pub record IsReleased (old : HoldState) (new : WalkerState) (low high : ℕ) : T
   pub names : List (List ℕ)
   pub sees : WalkerSeesMore old.walker past names
   pub now : new ≡ record old.walker { history = Leave old.walker.number ∷ past; names = names }
+  pub legal : IsHistory new.nodes new.passes new.history new.names
   pub low_is : low ≡ counts (before_enter old.walker.number old.walker.history)
   pub high_is : high ≡ counts past
+  -- a walk that ended has ended there still
+  pub ends : (b : ℕ) → EndedAt old b → HasEnded new.history (start_of new) b old.met
 
 -- a pass that is out
 pub record IsOut (s : WalkerState) : Type 0 where

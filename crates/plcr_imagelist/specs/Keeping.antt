@@ -1,5 +1,5 @@
 -- What the writer keeps beside the table: which nodes are free, which wait to become free, and the list itself.
-use Rattle.std.specs.Prelude.{◌≡◌, ◌≢◌, ℕ, zero, suc, ◌+◌, ◌-◌, ◌<◌, ◌≤◌, List, [], ◌∷◌, ◌++◌, length, slice_index, Bool, false, not, nat_lt, ◌==◌, ◌&&◌, if◌then◌else◌, Option, Some, None}
+use Rattle.std.specs.Prelude.{◌≡◌, ◌≢◌, ℕ, zero, suc, ◌+◌, ◌-◌, ◌%◌, ◌<◌, ◌≤◌, List, [], ◌∷◌, ◌++◌, length, slice_index, Bool, false, not, nat_lt, ◌==◌, ◌&&◌, if◌then◌else◌, Option, Some, None}
 use Rattle.plcr_machine.specs.declared.image.Image.{Image}
 use Rattle.plcr_machine.specs.declared.entry.Entry.{Entry}
 use Rattle.plcr_machine.specs.Lists.{has, live, loads, changes}
@@ -50,6 +50,15 @@ last_of xs = slice_index xs (length xs - 1)
 abbrev pub first_with : ℕ → List Image → Option Image
 first_with header [] = None
 first_with header (image ∷ images) = if image.header == header then Some image else first_with header images
+
+-- a list without its first image with a header
+abbrev pub without_first : ℕ → List Image → List Image
+without_first header [] = []
+without_first header (image ∷ images) = if image.header == header then images else image ∷ without_first header images
+
+-- how many passes are inside, by the gate's word
+abbrev pub readers_in : ℕ → ℕ
+readers_in word = word % 4294967296
 
 -- no node is free
 abbrev pub NoneFree : ℕ → List Entry → Type 0

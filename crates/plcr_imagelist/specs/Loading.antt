@@ -21,11 +21,11 @@ pub record IsLoaded (old : WriterState) (header : ℕ) (name : List ℕ) (number
   -- the steps: the writer was ready, the image was linked, and the change was counted
   pub ready : WriterState
   pub room : HasRoom old ready
+  pub node : ℕ
   pub linked : WriterState
-  pub link : IsLoadedAt ready header name number linked
+  pub link : IsLoadedAt ready header name number node linked
   pub count : IsCountedAt linked new
   -- and what they come to
-  pub node : ℕ
   pub number_is : number ≡ suc (loads old.history)
   pub list : live new.history ≡ live old.history ++ record { node = node; load = number; header = header } ∷ []
   pub named : name_of number new.names ≡ name

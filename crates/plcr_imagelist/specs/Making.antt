@@ -1,10 +1,11 @@
 -- What the writer and a change keep between two steps.
-use Rattle.std.specs.Prelude.{◌≡◌, ◌≢◌, ℕ, suc, ◌+◌, ◌<◌, ◌≤◌, false, List, length, slice_index, slice_index_or, Some, nat_lt, ◌==◌, if◌then◌else◌}
+use Rattle.std.specs.Prelude.{◌≡◌, ◌≢◌, ℕ, suc, ◌+◌, ◌<◌, ◌≤◌, false, List, ◌∷◌, length, slice_index, slice_index_or, Some, nat_lt, ◌==◌, if◌then◌else◌}
 use Rattle.plcr_machine.specs.Lists.{live, loads}
 use Rattle.plcr_machine.specs.Passes.{counts, owes_count, IsPaced}
 use Rattle.plcr_machine.specs.Histories.{IsHistory}
 use Rattle.plcr_nodes.specs.declared.view.Store.{Store}
 use Rattle.plcr_nodes.specs.Names.{words_of, payload_word, stored}
+use Rattle.plcr_nodes.specs.Plays.{store}
 use Rattle.plcr_imagelist.specs.declared.change.Task.{Task}
 use Rattle.plcr_imagelist.specs.declared.change.Task.TheVariants.{Load, Unload}
 use Rattle.plcr_imagelist.specs.Keeping.{BooksState}
@@ -34,6 +35,11 @@ value_stored header name made = if nat_lt made (2 + words_of (length name)) then
 abbrev pub AreStored : ℕ → ℕ → List ℕ → ℕ → List Store → Type 0
 AreStored node header name made stores = (k : ℕ) → k < made → stored node (word_stored name k) stores ≡ Some (value_stored header name k)
 
+-- a step of a load before the change itself makes one store, in the node that the load takes
+abbrev pub MakesStore : Doing → ℕ → ℕ → List Store → List Store → Type 0
+MakesStore (Loads header name) made node old new = new ≡ store node (word_stored name made) (value_stored header name made) ∷ old
+MakesStore (Unloads image) made node old new = ⊥
+
 -- the change itself is still to be made
 abbrev pub IsReady : BooksState → Task → List ℕ → ℕ → ℕ → Type 0
 IsReady b (Load header) name load made = (b.spare ≢ 0) × (load ≡ suc (loads b.owner.history)) × AreStored b.spare header name made b.owner.filled
@@ -53,5 +59,5 @@ pub record IsMaking (b : BooksState) (task : Task) (name : List ℕ) (load made 
 -- one more step was made, before the count
 pub record MakesStep (old new : BooksState) (task : Task) (name : List ℕ) (load made : ℕ) : Type 0 where
   pub making : IsMaking new task name load (made + 1)
-  pub before : suc made ≢ change_step (doing_of task name) → writer_state new.owner ≡ writer_state old.owner
-  pub change : suc made ≡ change_step (doing_of task name) → IsChangedAt (writer_state old.owner) (doing_of task name) load (writer_state new.owner)
+  pub before : suc made ≢ change_step (doing_of task name) → (writer_state new.owner ≡ writer_state old.owner) × (new.spare ≡ old.spare) × MakesStore (doing_of task name) made old.spare old.owner.filled new.owner.filled
+  pub change : suc made ≡ change_step (doing_of task name) → IsChangedAt (writer_state old.owner) (doing_of task name) load old.spare (writer_state new.owner)

@@ -1,9 +1,9 @@
 -- When a load is refused since no node is free.
-use Rattle.std.specs.Prelude.{◌≡◌, ◌≢◌, ◌⊎◌, ℕ, ◌+◌, ◌%◌, ◌<◌, length}
+use Rattle.std.specs.Prelude.{◌≡◌, ◌≢◌, ◌⊎◌, ℕ, ◌+◌, ◌<◌, length}
 use Rattle.plcr_machine.specs.Lists.{live}
 use Rattle.plcr_imagelist.specs.declared.refusals.LoadRefused.{LoadRefused}
 use Rattle.plcr_imagelist.specs.declared.refusals.LoadRefused.TheVariants.{Full, NameTooLong, Worn}
-use Rattle.plcr_imagelist.specs.Keeping.{BooksState, NoneFree}
+use Rattle.plcr_imagelist.specs.Keeping.{BooksState, NoneFree, readers_in}
 use Rattle.plcr_imagelist.specs.States.{WriterState, writer_state}
 use Rattle.plcr_imagelist.specs.Changes.{IsLookedAt, SomeFree}
 
@@ -14,7 +14,7 @@ pub record IsFull (old : WriterState) (lives held seen : ℕ) (new : WriterState
   pub still : NoneFree new.nodes new.history
   pub live : lives ≡ length (live new.history)
   pub all : lives + held ≡ new.nodes
-  pub readers : 0 < held → 0 < seen % 4294967296
+  pub readers : 0 < held → 0 < readers_in seen
 
 abbrev pub RefusesFull : WriterState → WriterState → LoadRefused → Type 0
 RefusesFull old new (Full lives held seen) = IsFull old lives held seen new

@@ -3,6 +3,7 @@ use Rattle.std.specs.Prelude.{ℕ, suc, ◌+◌, List, length}
 use Rattle.atomic_table.specs.Seated.{TableId}
 use Rattle.plcr_machine.specs.declared.entry.Entry.{Entry}
 use Rattle.plcr_machine.specs.declared.image.Image.{Image}
+use Rattle.plcr_nodes.specs.declared.view.Store.{Store}
 use Rattle.plcr_nodes.specs.Names.{words_of}
 use Rattle.plcr_nodes.specs.Tokens.{OwnerState}
 
@@ -32,9 +33,11 @@ change_step (Unloads image) = 1
 abbrev pub steps_of : Doing → ℕ
 steps_of doing = suc (change_step doing)
 
--- a change that was begun: what its writer knows, what it does, the number of its image's load, and how many steps were made
+-- a change that was begun: what its writer knows, what it does, the number of its image's load, how many steps were made, the free node that is taken next, 0 where there is none, and what was stored in free nodes, the last first
 pub record ChangeState : Type 0 where
   pub writer : WriterState
   pub doing : Doing
   pub load : ℕ
   pub made : ℕ
+  pub node : ℕ
+  pub stores : List Store

@@ -7,7 +7,7 @@ use Rattle.plcr_nodes.specs.Seeing.{AddsOthers}
 use Rattle.plcr_nodes.specs.Tokens.{NoteState}
 use Rattle.plcr_imagelist.specs.States.{WriterState, ChangeState}
 use Rattle.plcr_imagelist.specs.Changes.{WriterSeesMore}
-use Rattle.plcr_imagelist.specs.Holds.{WalkerState, HoldState, WalkerSeesMore}
+use Rattle.plcr_imagelist.specs.Holds.{WalkerState, HoldState, WalkerSeesMore, EndedAt}
 
 -- what a token has seen, as a note
 abbrev pub note_of_writer : WriterState → NoteState
@@ -39,10 +39,11 @@ pub record IsChangeTold (old : ChangeState) (note : NoteState) (new : ChangeStat
   pub writer : IsWriterTold old.writer note new.writer
   pub same : new ≡ record old { writer = new.writer }
 
--- and the pass of a hold, whose walk stays as it was
+-- and the pass of a hold, whose walk stays as it was, and ended where it had
 pub record IsHoldTold (old : HoldState) (note : NoteState) (new : HoldState) : Type 0 where
   pub walker : IsWalkerTold old.walker note new.walker
   pub same : new ≡ record old { walker = new.walker }
+  pub ends : (b : ℕ) → EndedAt old b → EndedAt new b
 
 -- the writer met the pass for good: both had seen a beginning of what the writer has seen now, which has of the pass just the entries that the pass had seen
 pub record IsMet (old : WriterState) (pass : WalkerState) (new : WriterState) : Type 0 where

@@ -1,5 +1,5 @@
 //! The writer's books: the owner of the table, the nodes that are free, those that wait to become free, and the list.
-ghost use Rattle.std.specs.Prelude.{◌≡◌, ◌≢◌, ℕ, suc, ◌+◌, ◌<◌, ◌≤◌, ◌%◌, ◌∷◌, true, false, length, take, slice_index_or, vec_len, vec_capacity, IfOk, IfSome, IfNone};
+ghost use Rattle.std.specs.Prelude.{◌≡◌, ◌≢◌, ℕ, suc, ◌+◌, ◌<◌, ◌≤◌, ◌∷◌, true, false, length, take, slice_index_or, vec_len, vec_capacity, IfOk, IfSome, IfNone};
 ghost use Rattle.plcr_machine.specs.Lists.{live, loads, changes};
 ghost use Rattle.plcr_machine.specs.Passes.{counts, is_inside, owes_count};
 ghost use Rattle.plcr_machine.specs.Nodes.{is_free};
@@ -13,7 +13,7 @@ ghost use Rattle.plcr_nodes.specs.Telling.{note_of_owner, IsOwnerTold, IsJoined}
 ghost use Rattle.plcr_imagelist.specs.States.{writer_state};
 ghost use Rattle.plcr_imagelist.specs.Making.{IsAtRest};
 ghost use Rattle.plcr_imagelist.specs.Refusing.{RefusesFull, FindsRoom};
-ghost use Rattle.plcr_imagelist.specs.Keeping.{NoneFree, Settles, last_of, times, once_where, is_node, first_with};
+ghost use Rattle.plcr_imagelist.specs.Keeping.{NoneFree, Settles, readers_in, last_of, times, once_where, is_node, first_with};
 
 use crate::gate::readers_in;
 use crate::refusals::LoadRefused;
@@ -160,7 +160,7 @@ impl Books {
         requires table { self.old.owner.table ≡ nodes.now }
 
         ensures entry { IsLooked self.old.owner result self.new.owner }
-        ensures free { result % 4294967296 ≡ 0 → self.new.spare ≡ 0 → length (live self.new.owner.history) ≡ self.new.owner.nodes }
+        ensures free { readers_in result ≡ 0 → self.new.spare ≡ 0 → length (live self.new.owner.history) ≡ self.new.owner.nodes }
     {
         let word = self.owner.look(nodes);
         settle(&mut self.free, &mut self.removed, word);
@@ -267,7 +267,7 @@ pub(crate) fn last_of(numbers: &[u32]) -> u32
 /// Makes the nodes that wait free, where the gate's word tells that no pass is inside.
 fn settle(free: &mut Vec<u32>, removed: &mut Vec<u32>, word: u64)
     requires { vec_len free.old + vec_len removed.old ≤ vec_capacity free.old }
-    ensures settles { Settles (word % 4294967296) free.old.items removed.old.items free.new.items removed.new.items }
+    ensures settles { Settles (readers_in word) free.old.items removed.old.items free.new.items removed.new.items }
     ensures room { (vec_capacity free.old ≤ vec_capacity free.new) × (vec_capacity removed.new ≡ vec_capacity removed.old) }
 {
     if readers_in(word) != 0 {

@@ -18,7 +18,7 @@ use std::marker::Model;
 
 /// What a change does.
 #[derive(Clone, Copy)]
-pub enum Task {
+pub(crate) enum Task {
     /// Loads an image with this header.
     Load { header: u64 },
     /// Unloads the image at this place of the list.
@@ -43,7 +43,7 @@ impl Model for Change {
 
     ghost use Rattle.plcr_imagelist.specs.Making.{IsMaking, doing_of};
 
-    ghost view = { λ c. record { writer = writer_state c.books.owner; doing = doing_of c.task c.name.items; load = c.load; made = c.made } };
+    ghost view = { λ c. record { writer = writer_state c.books.owner; doing = doing_of c.task c.name.items; load = c.load; made = c.made; node = c.books.spare; stores = c.books.owner.filled } };
 
     ghost invariant = { λ c. IsMaking c.books c.task c.name.items c.load c.made × (1024 ≤ vec_capacity c.name) };
 }

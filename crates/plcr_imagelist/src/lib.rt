@@ -12,6 +12,8 @@ mod refusals;
 mod stress_tests;
 mod telling;
 #[cfg(test)]
+mod telling_tests;
+#[cfg(test)]
 mod tests;
 mod walk;
 mod words;

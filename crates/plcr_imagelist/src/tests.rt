@@ -1,6 +1,7 @@
 //! Worked runs by direct calls: a full table beside a pass inside, a walk past images that come and go, and a change
 //! that is kept between two steps.
 ghost use Rattle.std.specs.Prelude.{◌≡◌, ◌<◌, length};
+ghost use Rattle.plcr_imagelist.specs.Holds.{IsWalking};
 ghost use Rattle.plcr_imagelist.specs.Walk.{images_of};
 
 use crate::{
@@ -10,9 +11,9 @@ use plcr_macho::Images;
 use std::process::Abort;
 use std::test::Fail;
 
-const A: u64 = 0x1_0000_0000;
+pub(crate) const A: u64 = 0x1_0000_0000;
 
-const B: u64 = 0x1_0000_4000;
+pub(crate) const B: u64 = 0x1_0000_4000;
 
 const C: u64 = 0x1_0000_8000;
 
@@ -23,7 +24,7 @@ const E: u64 = 0x1_0001_0000;
 const F: u64 = 0x1_0001_4000;
 
 // Loads an image, which gets this number.
-fn load(
+pub(crate) fn load(
     rt: &impl Abort,
     list: &ImageList,
     writer: Writer,
@@ -57,7 +58,13 @@ fn refuse(
 }
 
 // Unloads an image, which had this number.
-fn unload(rt: &impl Abort, list: &ImageList, writer: Writer, header: u64, number: u32) -> Writer
+pub(crate) fn unload(
+    rt: &impl Abort,
+    list: &ImageList,
+    writer: Writer,
+    header: u64,
+    number: u32,
+) -> Writer
     requires { writer.table ≡ list.now }
     ensures { result.table ≡ list.now }
 {
@@ -67,7 +74,7 @@ fn unload(rt: &impl Abort, list: &ImageList, writer: Writer, header: u64, number
 }
 
 // Meets so many more images, and says whether the walk ended before that.
-fn walk(hold: &mut Hold, list: &ImageList, most: u32) -> (u32, bool)
+pub(crate) fn walk(hold: &mut Hold, list: &ImageList, most: u32) -> (u32, bool)
     requires { hold.old.walker.table ≡ list.now }
     ensures { hold.new.walker.table ≡ list.now }
 {
@@ -79,6 +86,31 @@ fn walk(hold: &mut Hold, list: &ImageList, most: u32) -> (u32, bool)
         met = turn + 1;
     }
     (met, false)
+}
+
+// The image met at a place has this header, and a name of this one letter.
+fn expect(rt: &impl Abort, hold: &mut Hold, list: &ImageList, at: usize, header: u64, letter: u64)
+    requires list { hold.old.walker.table ≡ list.now }
+    requires met { at < length (images_of hold.old) }
+    ensures list { hold.new.walker.table ≡ list.now }
+    ensures met { length (images_of hold.new) ≡ length (images_of hold.old) }
+    ensures walking { IsWalking hold.old → IsWalking hold.new }
+{
+    let mut images = hold.images(list);
+    assert_eq!(rt; images.header(at), header);
+    let len = images.name_len(at);
+    assert_eq!(rt; len, 1);
+    assert_eq!(rt; images.name_word(at, 0), letter);
+}
+
+// How many images were met.
+pub(crate) fn count(hold: &mut Hold, list: &ImageList) -> usize
+    requires { hold.old.walker.table ≡ list.now }
+    ensures list { hold.new.walker.table ≡ list.now }
+    ensures met { result ≡ length (images_of hold.new) }
+{
+    let images = hold.images(list);
+    images.count()
 }
 
 #[test]
@@ -102,7 +134,7 @@ fn opens_the_largest_list(rt: HostRuntime) -> Result<(), Fail> {
 }
 
 // Two images are loaded, a pass meets the first, both are unloaded and a third is loaded: no node is free for a fourth
-// until the pass has come out.
+// until the pass has come out. Its walk goes on to the second, which is out of the list by then.
 fn fills_the_table(rt: &impl Abort, list: &ImageList, writer: Writer, pass: Pass)
     requires writer { writer.table ≡ list.now }
     requires pass { pass.table ≡ list.now }
@@ -121,6 +153,9 @@ fn fills_the_table(rt: &impl Abort, list: &ImageList, writer: Writer, pass: Pass
     };
     let writer = refuse(rt, list, writer, D, b"D", full);
     assert_eq!(rt; walk(&mut hold, list, 9), (1, true));
+    assert_eq!(rt; count(&mut hold, list), 2);
+    expect(rt, &mut hold, list, 0, A, 65);
+    expect(rt, &mut hold, list, 1, B, 66);
     let (_, window) = hold.leave(list);
     assert_eq!(rt; window, Window { low: 2, high: 5 });
     load(rt, list, writer, D, b"D", 4);
@@ -219,30 +254,6 @@ fn refuses_a_long_name(rt: HostRuntime) -> Result<(), Fail> {
     Ok(())
 }
 
-// The image met at a place has this header, and a name of this one letter.
-fn expect(rt: &impl Abort, hold: &mut Hold, list: &ImageList, at: usize, header: u64, letter: u64)
-    requires list { hold.old.walker.table ≡ list.now }
-    requires met { at < length (images_of hold.old) }
-    ensures list { hold.new.walker.table ≡ list.now }
-    ensures met { length (images_of hold.new) ≡ length (images_of hold.old) }
-{
-    let mut images = hold.images(list);
-    assert_eq!(rt; images.header(at), header);
-    let len = images.name_len(at);
-    assert_eq!(rt; len, 1);
-    assert_eq!(rt; images.name_word(at, 0), letter);
-}
-
-// How many images were met.
-fn count(hold: &mut Hold, list: &ImageList) -> usize
-    requires { hold.old.walker.table ≡ list.now }
-    ensures list { hold.new.walker.table ≡ list.now }
-    ensures met { result ≡ length (images_of hold.new) }
-{
-    let images = hold.images(list);
-    images.count()
-}
-
 // Three images are loaded and two are met; then three more are loaded, and the first and the third are unloaded.
 fn walks_past_changes(rt: &impl Abort, list: &ImageList, writer: Writer, pass: Pass)
     requires writer { writer.table ≡ list.now }
@@ -278,5 +289,79 @@ fn a_walk_goes_past_what_changes(rt: HostRuntime) -> Result<(), Fail> {
         panic!(rt; "no pass")
     };
     walks_past_changes(&rt, &list, writer, pass);
+    Ok(())
+}
+
+// An unload has two steps, and after the first the image is out of the list.
+fn unloads_by_steps(rt: &impl Abort, list: &ImageList, writer: Writer, pass: Pass)
+    requires writer { writer.table ≡ list.now }
+    requires pass { pass.table ≡ list.now }
+{
+    let writer = load(rt, list, writer, A, b"A", 1);
+    let Ok(change) = writer.begin_unload(list, A) else {
+        panic!(rt; "refused")
+    };
+    assert_eq!(rt; (change.steps(), change.made(), change.load()), (2, 0, 1));
+    let (pass, met) = count_met(list, pass);
+    assert_eq!(rt; met, 1);
+    let Progress::More(change) = change.step(list) else {
+        panic!(rt; "ended")
+    };
+    let (_, met) = count_met(list, pass);
+    assert_eq!(rt; (met, change.made()), (0, 1));
+    let Progress::Done(writer) = change.step(list) else {
+        panic!(rt; "more")
+    };
+    load(rt, list, writer, B, b"B", 2);
+}
+
+#[test]
+fn an_unload_is_made_by_steps(rt: HostRuntime) -> Result<(), Fail> {
+    let Ok((list, writer, mut passes)) = ImageList::open(rt.alloc(), 1, 1) else {
+        panic!(rt; "no memory")
+    };
+    let Some(pass) = passes.pop() else {
+        panic!(rt; "no pass")
+    };
+    unloads_by_steps(&rt, &list, writer, pass);
+    Ok(())
+}
+
+// The image met first has this name of nine bytes, which lies in two words with the lowest byte first.
+fn expect_two_words(rt: &impl Abort, hold: &mut Hold, list: &ImageList)
+    requires list { hold.old.walker.table ≡ list.now }
+    requires met { 0 < length (images_of hold.old) }
+    ensures { hold.new.walker.table ≡ list.now }
+{
+    let mut images = hold.images(list);
+    let len = images.name_len(0);
+    assert_eq!(rt; len, 9);
+    assert_eq!(rt; images.name_word(0, 0), 0x6574_7379_7362_696c);
+    assert_eq!(rt; images.name_word(0, 1), 0x6d);
+}
+
+// Loads an image with such a name and meets it.
+fn reads_two_words(rt: &impl Abort, list: &ImageList, writer: Writer, pass: Pass)
+    requires writer { writer.table ≡ list.now }
+    requires pass { pass.table ≡ list.now }
+{
+    load(rt, list, writer, A, b"libsystem", 1);
+    let mut hold = pass.enter(list);
+    assert_eq!(rt; walk(&mut hold, list, 9), (1, true));
+    assert_eq!(rt; count(&mut hold, list), 1);
+    expect_two_words(rt, &mut hold, list);
+    let (_, window) = hold.leave(list);
+    assert_eq!(rt; window, Window { low: 1, high: 1 });
+}
+
+#[test]
+fn a_name_has_two_words(rt: HostRuntime) -> Result<(), Fail> {
+    let Ok((list, writer, mut passes)) = ImageList::open(rt.alloc(), 1, 1) else {
+        panic!(rt; "no memory")
+    };
+    let Some(pass) = passes.pop() else {
+        panic!(rt; "no pass")
+    };
+    reads_two_words(&rt, &list, writer, pass);
     Ok(())
 }

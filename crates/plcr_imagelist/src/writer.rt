@@ -3,11 +3,11 @@ ghost use Rattle.std.specs.Prelude.{◌≡◌, ◌≢◌, ◌<◌, ◌≤◌, le
 ghost use Rattle.plcr_machine.specs.Lists.{live, changes};
 ghost use Rattle.plcr_machine.specs.Passes.{IsPaced};
 ghost use Rattle.plcr_nodes.specs.Tokens.{IsSized, opened_owner};
-ghost use Rattle.plcr_imagelist.specs.Keeping.{first_with};
+ghost use Rattle.plcr_imagelist.specs.Keeping.{first_with, without_first};
 ghost use Rattle.plcr_imagelist.specs.States.{writer_state};
 ghost use Rattle.plcr_imagelist.specs.Making.{IsAtRest};
 ghost use Rattle.plcr_imagelist.specs.Changes.{IsWorn, begun_load};
-ghost use Rattle.plcr_imagelist.specs.Answers.{BeginsLoad, begins_unload, begun_unload, IsOpen};
+ghost use Rattle.plcr_imagelist.specs.Answers.{BeginsLoad, BeginsUnload, begun_unload, IsOpen};
 ghost use Rattle.plcr_imagelist.specs.Loading.{LoadsOrRefuses, UnloadsOrRefuses};
 
 use crate::books::Books;
@@ -47,7 +47,7 @@ fn start_load(books: Books, kept: Vec<u8>, header: u64, name: &[u8]) -> Change
     requires free { books.spare ≢ 0 }
     requires short { length name.now ≤ 1024 }
     requires room { 1024 ≤ vec_capacity kept }
-    ensures { result ≡ begun_load (writer_state books.owner) header name.now }
+    ensures { result ≡ begun_load (writer_state books.owner) header name.now books.spare books.owner.filled }
 {
     let load = books.loads() + 1;
     let mut kept = kept;
@@ -71,7 +71,7 @@ fn start_unload(books: Books, kept: Vec<u8>, at: usize, image: Image) -> Change
     requires fresh { changes books.owner.history < 4294967295 }
     requires image { (at < length (live books.owner.history)) × (image ≡ slice_index_or (live books.owner.history) at image) }
     requires room { 1024 ≤ vec_capacity kept }
-    ensures { result ≡ begun_unload (writer_state books.owner) image }
+    ensures { result ≡ begun_unload (writer_state books.owner) image books.spare books.owner.filled }
 {
     let mut kept = kept;
     kept.clear();
@@ -141,7 +141,7 @@ impl Writer {
     ) -> Result<Change, (Writer, UnloadRefused)>
         requires { self.table ≡ list.now }
         ensures worn { IsWorn self → result ≡ Err (self, UnloadRefused.Worn 4294967295) }
-        ensures begins { ¬ IsWorn self → result ≡ begins_unload self (first_with header (live self.history)) }
+        ensures begins { ¬ IsWorn self → BeginsUnload self (first_with header (live self.history)) result }
         ensures open { IfOk result (IsOpen self.table) }
         ensures back { IfErr result (λ r. (r.0.table ≡ self.table) × IsAtRest r.0) }
         ensures paced { IfOk result (λ change. IsPaced change.writer.history) }
@@ -191,6 +191,7 @@ impl Writer {
         ensures list { result.0.table ≡ self.table }
         ensures rest { IsAtRest result.0 }
         ensures unloads { ¬ IsWorn self → UnloadsOrRefuses self (first_with header (live self.history)) result.0 result.1 }
+        ensures first { ¬ IsWorn self → IfOk result.1 (λ _. live result.0.history ≡ without_first header (live self.history)) }
     {
         match self.begin_unload(list, header) {
             Ok(change) => {

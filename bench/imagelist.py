@@ -1,0 +1,177 @@
+"""Loads and unloads a second, and walks a second beside a writer, of the image list and of a Mutex round a Vec.
+
+    python3 bench/imagelist.py [PROGRAM]
+
+PROGRAM is the proved program, by default crates/plcr_race/out/plcr_race (`rt run` in crates/plcr_race leaves it). The
+yardstick is plain Rust, compiled by `rustc -O` into a temporary folder, and skipped where rustc is missing. Each line
+tells the best of five runs of each program, which are run by turns, and in brackets the least of them.
+"""
+import os
+import re
+import shutil
+import subprocess
+import sys
+import tempfile
+
+from measuring import HERE, measured
+
+NODES = [1, 100, 4096]
+READERS = [1, 2, 4]
+NAMES = ["image list", "Mutex<Vec>"]
+CHANGE_ROUNDS = 200000
+WALK_ROUNDS = 1000000
+TIMES = 5
+YARDSTICK = r"""
+use std::sync::Mutex;
+use std::sync::atomic::{AtomicBool, Ordering};
+use std::time::Instant;
+
+struct Image { header: u64, _name: Vec<u8> }
+type List = Mutex<Vec<Image>>;
+
+fn load(list: &List, header: u64) {
+    let image = Image { header, _name: b"/usr/lib/libSystem.dylib".to_vec() };
+    list.lock().unwrap().push(image);
+}
+
+fn unload(list: &List, header: u64) -> bool {
+    let mut images = list.lock().unwrap();
+    match images.iter().position(|image| image.header == header) {
+        Some(at) => { images.remove(at); true }
+        None => false,
+    }
+}
+
+fn changes(nodes: u64, rounds: u64) {
+    let list = Mutex::new(Vec::with_capacity(nodes as usize));
+    let start = Instant::now();
+    for header in 1..nodes { load(&list, header); }
+    println!("{} loads {} ns", nodes - 1, start.elapsed().as_nanos());
+    let start = Instant::now();
+    let mut made = 0;
+    for round in 0..rounds {
+        load(&list, round + nodes);
+        made += 1 + unload(&list, round + 1) as u64;
+    }
+    println!("{} changes {} ns", made, start.elapsed().as_nanos());
+}
+
+fn walk(list: &List, rounds: u64) -> u64 {
+    let mut met = Vec::with_capacity(128);
+    let mut images = 0;
+    for _ in 0..rounds {
+        met.clear();
+        for image in list.lock().unwrap().iter() { met.push(image.header); }
+        images += std::hint::black_box(&met).len() as u64;
+    }
+    images
+}
+
+fn change_until(list: &List, ended: &AtomicBool) -> u64 {
+    let mut made = 0;
+    let mut oldest = 1;
+    while !ended.load(Ordering::SeqCst) {
+        load(list, oldest + 100);
+        unload(list, oldest);
+        oldest += 1;
+        made += 2;
+    }
+    made
+}
+
+fn walks(readers: u64, rounds: u64) {
+    let list = Mutex::new(Vec::with_capacity(128));
+    for header in 1..101 { load(&list, header); }
+    let ended = AtomicBool::new(false);
+    let start = Instant::now();
+    let (met, made) = std::thread::scope(|scope| {
+        let writer = scope.spawn(|| change_until(&list, &ended));
+        let all: Vec<_> = (0..readers).map(|_| scope.spawn(|| walk(&list, rounds))).collect();
+        let met: u64 = all.into_iter().map(|reader| reader.join().unwrap()).sum();
+        ended.store(true, Ordering::SeqCst);
+        (met, writer.join().unwrap())
+    });
+    println!("{} walks {} ns", readers * rounds, start.elapsed().as_nanos());
+    println!("{met} images met, {made} changes made");
+}
+
+fn main() {
+    let words: Vec<String> = std::env::args().skip(1).collect();
+    let (count, rounds) = (words[1].parse().unwrap(), words[2].parse().unwrap());
+    if words[0] == "changes" { changes(count, rounds) } else { walks(count, rounds) }
+}
+"""
+
+
+def built(folder):
+    """The yardstick, or None where it can't be built."""
+    if not shutil.which("rustc"):
+        print("rustc is missing: no yardstick")
+        return None
+    source, program = os.path.join(folder, "yardstick.rs"), os.path.join(folder, "yardstick")
+    with open(source, "w") as file:
+        file.write(YARDSTICK)
+    subprocess.run(["rustc", "-O", "-o", program, source], check=True)
+    return program
+
+
+def run(command, folder):
+    """The four numbers that a run prints."""
+    _, _, status, said = measured(command, folder, keeps=True)
+    if status != 0:
+        sys.exit("%s: status %d, %s" % (command, status, said))
+    return [int(number) for number in re.findall(r"\d+", said)]
+
+
+def a_second(count, nanoseconds):
+    return count * 1e9 / nanoseconds
+
+
+def changes(program, folder, nodes):
+    """Loads a second while the list fills, and loads and unloads a second in a list with room for one more."""
+    loads, filling, made, changing = run([program, "changes", str(nodes), str(CHANGE_ROUNDS)], folder)
+    if (loads, made) != (nodes - 1, 2 * CHANGE_ROUNDS):
+        sys.exit("%s: %d of %d changes were made" % (program, made, 2 * CHANGE_ROUNDS))
+    return [a_second(made, changing), a_second(loads, filling)]
+
+
+def walks(program, folder, readers):
+    """Walks a second of all readers, and changes a second meanwhile."""
+    made, walking, met, changed = run([program, "walks", str(readers), str(WALK_ROUNDS // readers)], folder)
+    # a walk meets each image that stays while it is inside, and while it is, at most 28 nodes are loaded
+    if met < made * 72 or met > made * 128:
+        sys.exit("%s: %d images met in %d walks" % (program, met, made))
+    return [a_second(made, walking), a_second(changed, walking)]
+
+
+def runs(measure, programs, folder, count):
+    """For each program the numbers of its best run, by the first of them, and that first number of its worst."""
+    rows = [[measure(program, folder, count) for program in programs] for _ in range(TIMES)]
+    return [max(found) + [min(found)[0]] for found in zip(*rows)]
+
+
+def tell_changes(nodes, name, made, loads, least):
+    print("%4d nodes    %s  %9.0f (%9.0f) loads and unloads a second%s" % (
+        nodes, name, made, least, ", %9.0f loads a second while it fills" % loads if loads else ""))
+
+
+def tell_walks(readers, name, made, changed, least):
+    print("%4d readers  %s  %9.0f (%9.0f) walks a second, %9.0f changes a second meanwhile" % (
+        readers, name, made, least, changed))
+
+
+def main():
+    named = sys.argv[1] if len(sys.argv) > 1 else os.path.join(HERE, "..", "crates", "plcr_race", "out", "plcr_race")
+    with tempfile.TemporaryDirectory() as folder:
+        yardstick = built(folder)
+        programs = [os.path.abspath(named)] + ([yardstick] if yardstick else [])
+        print("%d cores, load %.1f" % (os.cpu_count(), os.getloadavg()[0]))
+        for measure, tell, counts in [(changes, tell_changes, NODES), (walks, tell_walks, READERS)]:
+            for count in counts:
+                for name, row in zip(NAMES, runs(measure, programs, folder, count)):
+                    tell(count, name, *row)
+        print("load %.1f at the end" % os.getloadavg()[0])
+
+
+if __name__ == "__main__":
+    main()

@@ -1,0 +1,5 @@
+use Rattle.std.proofs.Common.{◌≡◌, ◌≤◌}
+use Rattle.plcr_race.proofs.list.fill.Given as goal
+
+abbrev pub invariant-loop-done : goal.invariant-loop-done
+invariant-loop-done l = (l.writer.table ≡ l.list) × (l.made ≤ l.done)

@@ -1,0 +1,44 @@
+//! Loads and unloads alone: the list has all images but one that it has room for, and the oldest is unloaded.
+ghost use Rattle.std.specs.Prelude.{◌≡◌, ◌≤◌, ◌*◌};
+
+use crate::list::{fill, load, open, unload};
+use plcr_imagelist::{ImageList, Writer};
+use std::alloc::Global;
+use std::io;
+use std::rt::Clock;
+use std::time::Instant;
+
+// Loads an image and unloads the oldest, so often, and gives how many changes weren't refused.
+fn change(list: &ImageList, writer: Writer, images: u32, rounds: u32) -> u64
+    requires { writer.table ≡ list.now }
+    ensures { result ≤ 2 * rounds }
+{
+    let mut writer = writer;
+    let mut made = 0u64;
+    for round in 0..rounds {
+        let oldest = round as u64 + 1;
+        let (next, loaded) = load(list, writer, oldest + images as u64);
+        let (next, unloaded) = unload(list, next, oldest);
+        writer = next;
+        made += u64::from(loaded) + u64::from(unloaded);
+    }
+    made
+}
+
+/// Prints how many loads and then how many changes were made, each with its nanoseconds.
+pub fn race<R: Clock + Alloc<A = Global> + Print>(
+    rt: &R,
+    nodes: u32,
+    rounds: u32,
+) -> io::Result<()> {
+    let (list, writer, _) = open(rt.alloc(), nodes, 1)?;
+    let images = nodes.saturating_sub(1);
+    let start = Instant::now(rt)?;
+    let (writer, filled) = fill(&list, writer, images);
+    let filling = start.elapsed(rt)?.as_nanos();
+    println!(rt; "{filled} loads {filling} ns")?;
+    let start = Instant::now(rt)?;
+    let made = change(&list, writer, images, rounds);
+    let changing = start.elapsed(rt)?.as_nanos();
+    println!(rt; "{made} changes {changing} ns")
+}

@@ -1,0 +1,33 @@
+//! A race of the image list: `changes NODES ROUNDS` loads and unloads alone, `walks READERS ROUNDS` walks on threads while
+//! a writer loads and unloads. `bench/imagelist.py` runs it.
+#![tactic(auto)]
+
+mod changes;
+mod list;
+mod walks;
+mod words;
+
+use std::process::ExitCode;
+use std::{env, io};
+use words::Task;
+
+fn main(rt: HostRuntime) -> io::Result<ExitCode> {
+    let mut words = Vec::new(rt.alloc());
+    for word in env::args(&rt)?.skip(1) {
+        words.push(word)?;
+    }
+    match words::read(words.as_slice()) {
+        Some(Task::Changes { nodes, rounds }) => changes::race(&rt, nodes, rounds)?,
+        Some(Task::Walks { readers, rounds }) => walks::race(&rt, readers, rounds)?,
+        None => {
+            println!(rt; "changes NODES ROUNDS\nwalks READERS ROUNDS")?;
+            let good = words.is_empty();
+            return Ok(if good {
+                ExitCode::SUCCESS
+            } else {
+                ExitCode::FAILURE
+            });
+        }
+    }
+    Ok(ExitCode::SUCCESS)
+}

@@ -1,0 +1,148 @@
+//! Walks on threads, while a writer on another loads and unloads until all have ended.
+ghost use Rattle.std.specs.Prelude.{◌≡◌, ◌≤◌, All};
+ghost use Rattle.std.specs.Thread.{IsSync};
+ghost use Rattle.plcr_imagelist.specs.Holds.{WalkerState};
+
+use crate::list::{fill, load, open, unload};
+use plcr_imagelist::{ImageList, Pass, Writer};
+use std::alloc::{AllocError, Global};
+use std::rt::Clock;
+use std::sync::atomic::{AtomicBool, Ordering};
+use std::thread::Threads;
+use std::time::Instant;
+use std::{io, thread};
+
+const NODES: u32 = 128;
+
+const IMAGES: u32 = 100;
+/// The rounds after which the writer gives up, many hours of them.
+const MOST_ROUNDS: u64 = 1_000_000_000_000;
+
+// Goes in, walks to the end and comes out, and gives how many images it met.
+fn walk_once(list: &ImageList, pass: Pass) -> (Pass, u32)
+    requires { pass.table ≡ list.now }
+    ensures { result.0.table ≡ list.now }
+{
+    let mut hold = pass.enter(list);
+    let mut met = 0;
+    for _ in 0..NODES + 1 {
+        if !hold.next(list) {
+            break;
+        }
+        met += 1;
+    }
+    let (pass, _) = hold.leave(list);
+    (pass, met)
+}
+
+// Walks so often, and gives how many images it met.
+fn walk(list: &ImageList, pass: Pass, rounds: u32) -> u64
+    requires { pass.table ≡ list.now }
+{
+    let mut pass = pass;
+    let mut met = 0u64;
+    for _ in 0..rounds {
+        let (out, images) = walk_once(list, pass);
+        pass = out;
+        met = met.saturating_add(images as u64);
+    }
+    met
+}
+
+// Each pass walks so often, each on a thread of its own.
+fn walk_all<R: Threads + Sync>(
+    rt: &R,
+    list: &ImageList,
+    passes: Vec<Pass>,
+    rounds: u32,
+) -> Result<Vec<u64>, AllocError>
+    requires { All (λ (p : WalkerState). p.table ≡ list.now) passes.items }
+{
+    thread::map_vec(
+        rt,
+        passes,
+        &move |pass: Pass| -> u64
+            requires { pass.table ≡ list.now }
+        { walk(list, pass, rounds) },
+    )
+}
+
+// Loads an image and unloads the oldest where the load wasn't refused, and gives how many changes were made.
+fn change_once(list: &ImageList, writer: Writer, oldest: u64) -> (Writer, u64)
+    requires { writer.table ≡ list.now }
+    ensures list { result.0.table ≡ list.now }
+    ensures made { result.1 ≤ 2 }
+{
+    let (writer, loaded) = load(list, writer, oldest.saturating_add(IMAGES as u64));
+    if !loaded {
+        return (writer, 0);
+    }
+    let (writer, unloaded) = unload(list, writer, oldest);
+    (writer, if unloaded { 2 } else { 1 })
+}
+
+// Loads and unloads until the walks have ended, and gives how many changes were made.
+fn change_until(list: &ImageList, writer: Writer, ended: &AtomicBool) -> u64
+    requires { writer.table ≡ list.now }
+{
+    let mut writer = writer;
+    let mut made = 0u64;
+    for _ in 0..MOST_ROUNDS {
+        if ended.load(Ordering::SeqCst) {
+            break;
+        }
+        let (next, changes) = change_once(list, writer, made / 2 + 1);
+        writer = next;
+        made = made.saturating_add(changes);
+    }
+    made
+}
+
+// The writer and all passes.
+fn run<R: Threads + Sync>(
+    rt: &R,
+    list: &ImageList,
+    writer: Writer,
+    passes: Vec<Pass>,
+    rounds: u32,
+) -> (u64, Result<Vec<u64>, AllocError>)
+    requires writer { writer.table ≡ list.now }
+    requires passes { All (λ (p : WalkerState). p.table ≡ list.now) passes.items }
+{
+    let ended = AtomicBool::new(false);
+    let flag = &ended;
+    thread::join(
+        rt,
+        move || -> u64
+            requires { writer.table ≡ list.now }
+        { change_until(list, writer, flag) },
+        move || -> Result<Vec<u64>, AllocError>
+            requires { IsSync R.row × All (λ (p : WalkerState). p.table ≡ list.now) passes.items }
+        {
+            let met = walk_all(rt, list, passes, rounds);
+            flag.store(true, Ordering::SeqCst);
+            met
+        },
+    )
+}
+
+/// Prints how many walks were made in how many nanoseconds, how many images they met, and how many changes the writer made
+/// meanwhile.
+pub fn race<R: Threads + Sync + Clock + Alloc<A = Global> + Print>(
+    rt: &R,
+    readers: u32,
+    rounds: u32,
+) -> io::Result<()> {
+    let (list, writer, passes) = open(rt.alloc(), NODES, readers)?;
+    let (writer, _) = fill(&list, writer, IMAGES);
+    let start = Instant::now(rt)?;
+    let (made, met) = run(rt, &list, writer, passes, rounds);
+    let walking = start.elapsed(rt)?.as_nanos();
+    let walks = readers as u64 * rounds as u64;
+    let mut images = 0u64;
+    for count in met?.iter() {
+        images = images.saturating_add(*count);
+    }
+    println!(rt; "{walks} walks {walking} ns")?;
+    println!(rt; "{images} images met, {made} changes made")
+}
