@@ -211,8 +211,8 @@ fn report<'a>(passes: u32, arguments: Option<&'a [u8]>) -> Result<Wording<'a>, K
     let Some(others) = others else {
         return Err(Kind::TooFew);
     };
-    let (file, surplus) = first_word(others);
-    if surplus.is_some() {
+    let (file, more) = first_word(others);
+    if more.is_some() {
         return Err(Kind::TooMany);
     }
     report_of(passes, pass, file)

@@ -10,3 +10,5 @@ pub mod Written
 pub mod Turning
 pub mod Turned
 pub mod Places
+pub mod Stored
+pub mod Captured

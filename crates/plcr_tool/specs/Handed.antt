@@ -1,11 +1,12 @@
 -- What is handed in for a report: each number has the width of its type, and names and uuids have lawful lengths.
-use Rattle.std.specs.Prelude.{◌≡◌, ◌^◌, ◌<◌, ◌≤◌, List, length, IfSome}
+use Rattle.std.specs.Prelude.{◌≡◌, ◌^◌, ◌<◌, ◌≤◌, List, length, All, IfSome}
 use Rattle.std.specs.List.{AllByRecursion}
 use Rattle.plcr_regs.specs.declared.registers.Registers.{Registers}
 use Rattle.plcr_report.specs.declared.messages.Image.{Image}
 use Rattle.plcr_decode.specs.Fits.{TypedProcessor}
 use Rattle.plcr_encode.specs.declared.context.Context.{Context}
-use Rattle.plcr_encode.specs.Conditions.{AreWhole, IsWritable}
+use Rattle.plcr_macho.specs.Images.{Listed}
+use Rattle.plcr_encode.specs.Conditions.{AreWhole, AreNamable, IsWritable}
 
 -- a context that can be written
 pub record IsHandedContext (context : Context) : Type 0 where
@@ -35,3 +36,8 @@ pub record IsHandedImage (image : Image) : Type 0 where
 pub record AreHandedImages (images : List Image) : Type 0 where
   pub each : AllByRecursion IsHandedImage images
   pub few : length images < 2 ^ 32
+
+-- loaded images that can be written, each at an address of 64 bits
+pub record AreHandedListed (listed : List Listed) : Type 0 where
+  pub namable : AreNamable listed
+  pub headers : All (λ (l : Listed). l.header < 2 ^ 64) listed

@@ -1,5 +1,7 @@
 use crate::fixtures::{Core, REPORT, desk, lines};
 use crate::report::report_command;
+use crate::show::show_command;
+use plcr_io::{MemDesk, MemFile, MemOut};
 use std::alloc::Global;
 use std::test::Fail;
 
@@ -96,5 +98,38 @@ fn values_stand_in_reports(rt: HostRuntime) -> Result<(), Fail> {
     report[259] = b' ';
     report[260] = b'b';
     assert_eq!(rt; desk.file("f").ok_or("not kept")?, report.as_slice());
+    Ok(())
+}
+
+// What is kept is shown: the values stand in the lines of the system and of the process, whose space is spelt out.
+#[test]
+fn values_are_shown(rt: HostRuntime) -> Result<(), Fail> {
+    let alloc = rt.alloc();
+    let script = b"set os 1\nset process a b\nreport 0 f\n";
+    let none = Vec::new(alloc);
+    let mut desk = desk(alloc, Core::Whole, script, none, Vec::new(alloc))?;
+    let mut lines = lines(alloc)?;
+    let status = report_command(alloc, "c", "s", &mut desk, &mut lines);
+    assert_eq!(rt; status, 0);
+    assert_eq!(rt; lines.bytes(), b"3 report f 271 0 0 0\n".as_slice());
+    let kept = desk.file("f").ok_or("not kept")?;
+    let file = MemFile {
+        name: String::from_str(alloc, "f")?,
+        bytes: Vec::from_slice(alloc, kept)?,
+    };
+    let files = vec![in alloc; file]?;
+    let mut second = MemDesk::new(alloc, files, Vec::new(alloc), Vec::new(alloc))?;
+    let mut text = MemOut::new(alloc, 2000, 100, Vec::new(alloc))?;
+    let status = show_command(alloc, "f", &mut second, &mut text);
+    assert_eq!(rt; status, 0);
+    assert!(rt;
+        text.bytes()
+            .starts_with(b"report 1\nsystem 1 0 1 0\napplication app 1\n")
+    );
+    assert!(rt;
+        text.bytes().ends_with(
+            b"signal SIGABRT #0 0x0000000000000000\nprocess a\\x20b 0 0 1\ninfo 0\n"
+        )
+    );
     Ok(())
 }
