@@ -2,3 +2,4 @@ pub mod Appended
 pub mod Chained
 pub mod Gained
 pub mod Risen
+pub mod Words

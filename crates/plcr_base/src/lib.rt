@@ -4,7 +4,7 @@
 
 mod numbers;
 
-pub use numbers::{read_u16, read_u32, read_u64};
+pub use numbers::{read_padded_u64, read_u16, read_u32, read_u64};
 
 #[cfg(test)]
 mod tests;

@@ -11,5 +11,8 @@ fn numbers_stand_at_their_places(rt: HostRuntime) -> Result<(), Fail> {
     assert_eq!(rt; read_u32(&bytes, 5), 0x8908_0706);
     assert_eq!(rt; read_u64(&bytes, 0), 0x0807_0605_0403_0201);
     assert_eq!(rt; read_u64(&bytes, 1), 0x8908_0706_0504_0302);
+    assert_eq!(rt; read_padded_u64(&bytes, 0), 0x0807_0605_0403_0201);
+    assert_eq!(rt; read_padded_u64(&bytes, 6), 0x0089_0807);
+    assert_eq!(rt; read_padded_u64(&bytes, 9), 0);
     Ok(())
 }

@@ -2,7 +2,6 @@ pub mod Counted
 pub mod Owned
 pub mod Placed
 pub mod Kept
-pub mod Reading
 pub mod Resting
 pub mod Storing
 pub mod Stepping

@@ -8,7 +8,8 @@ use Rattle.plcr_machine.proofs.Cases.{eqb_same}
 use Rattle.plcr_macho.specs.Images.{Listed, listed_at}
 use Rattle.plcr_base.specs.Numbers.{u64_in}
 use Rattle.plcr_nodes.specs.Entries.{among}
-use Rattle.plcr_nodes.specs.Names.{AreBytes, AreNames}
+use Rattle.plcr_base.specs.Bytes.{IsBytes}
+use Rattle.plcr_nodes.specs.Names.{AreNames}
 use Rattle.plcr_nodes.proofs.NamesKept.{name_short, bytes_named}
 use Rattle.plcr_nodes.proofs.Spelling.{no_bytes}
 use Rattle.plcr_nodes.specs.Rule.{name_on, image_word, image_words}
@@ -114,7 +115,7 @@ pub word_small : (names : List (List ℕ)) → AreNames names → (ns : List ℕ
 word_small names s ns h i j below word = let most = named_short names s ns h i (record { header = 0; name = [] }) below in omega arith
 
 -- each name is a list of bytes
-pub bytes_read : (names : List (List ℕ)) → AreNames names → (ns : List ℕ) (h : List Entry) (i : ℕ) → AreBytes (listed_at (all_named names (images_on ns h)) i).name
+pub bytes_read : (names : List (List ℕ)) → AreNames names → (ns : List ℕ) (h : List Entry) (i : ℕ) → IsBytes (listed_at (all_named names (images_on ns h)) i).name
 bytes_read names s [] h i k = no_bytes k
 bytes_read names s (n ∷ ns) h zero k = bytes_named (loaded n h).load names s k
 bytes_read names s (n ∷ ns) h (suc i) k = bytes_read names s ns h i k

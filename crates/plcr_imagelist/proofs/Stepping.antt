@@ -1,5 +1,6 @@
 -- A change between its steps.
-use Rattle.std.proofs.Common.{◌≡◌, ◌≢◌, inl, inr, ℕ, zero, suc, ◌+◌, ◌<◌, ◌≤◌, List, [], ◌∷◌, length, true, false, eqb, refl, sym, ap, ◌∙◌, subst, arith, ne_eqb, slice_index, get_or}
+use Rattle.std.proofs.Common.{◌≡◌, ◌≢◌, inl, inr, ℕ, zero, suc, ◌+◌, ◌<◌, ◌≤◌, List, [], ◌∷◌, length, true, false, eqb, refl, sym, ap, ◌∙◌, subst, arith, ne_eqb, get_or}
+use Rattle.plcr_base.specs.Bytes.{IsBytes}
 use Rattle.plcr_machine.specs.declared.image.Image.{Image}
 use Rattle.plcr_machine.specs.Lists.{live, loads, changes}
 use Rattle.plcr_machine.specs.Passes.{owes_count}
@@ -8,6 +9,7 @@ use Rattle.plcr_nodes.specs.Names.{words_of}
 use Rattle.plcr_nodes.specs.Plays.{store}
 use Rattle.plcr_nodes.specs.Tokens.{IsLinked}
 use Rattle.plcr_nodes.specs.Unlinking.{IsUnlinked}
+use Rattle.plcr_nodes.proofs.Spelling.{no_bytes}
 use Rattle.plcr_imagelist.specs.declared.change.Task.{Task}
 use Rattle.plcr_imagelist.specs.declared.change.Task.TheVariants.{Load, Unload}
 use Rattle.plcr_imagelist.specs.Keeping.{BooksState}
@@ -104,7 +106,7 @@ making_unlinked b b' at image name load made m early k =
 
 -- a change that was just begun
 pub making_begun_load : (b : BooksState) (header : ℕ) (name : List ℕ) (load : ℕ) → IsAtRest (writer_state b.owner) → changes b.owner.history < 4294967295 → b.spare ≢ 0 → length name ≤ 1024
-    → ((i : ℕ) → slice_index name i < 256) → load ≡ suc (loads b.owner.history) → IsMaking b (Load header) name load 0
+    → IsBytes name → load ≡ suc (loads b.owner.history) → IsMaking b (Load header) name load 0
 making_begun_load b header name load r few some short bytes number =
     let same = counts-rest b.owner.history r.paced r.counted in
     let w : ℕ = words_of (length name) in
@@ -118,10 +120,6 @@ making_begun_load b header name load r few some short bytes number =
       owes = r.counted ∙ sym (ne_eqb 0 (4 + w) (λ e. omega (arith, e)));
       ready = λ _. (some, number, λ k below. absurd (omega arith));
     }
-
-no_bytes : (i : ℕ) → slice_index [] i < 256
-no_bytes zero = omega arith
-no_bytes (suc i) = omega arith
 
 pub making_begun_unload : (b : BooksState) (at : ℕ) (image : Image) (load : ℕ) → IsAtRest (writer_state b.owner) → changes b.owner.history < 4294967295
     → at < length (live b.owner.history) → image ≡ get_or (live b.owner.history) at image → IsMaking b (Unload at image) [] load 0

@@ -1,6 +1,7 @@
 -- What the first steps of a load have stored in its node.
-use Rattle.std.proofs.Common.{◌≡◌, ◌≢◌, ℕ, suc, ◌+◌, ◌*◌, ◌<◌, ◌≤◌, List, ◌∷◌, length, true, false, cond, eqb, ltb, refl, sym, ap, ◌∙◌, subst, arith, Some, Option, slice_index, ne_eqb}
+use Rattle.std.proofs.Common.{◌≡◌, ◌≢◌, ℕ, suc, ◌+◌, ◌*◌, ◌<◌, ◌≤◌, List, ◌∷◌, length, true, false, cond, eqb, ltb, refl, sym, ap, ◌∙◌, subst, arith, Some, Option, ne_eqb}
 use Rattle.std.proofs.lemmas.Bool.{lt-ltb, le-ltb, eqb-true, eqb-false}
+use Rattle.plcr_base.specs.Bytes.{IsBytes}
 use Rattle.plcr_base.specs.Numbers.{u64_in}
 use Rattle.plcr_machine.proofs.Cases.{by_cases, eqb_same}
 use Rattle.plcr_nodes.specs.declared.view.Store.{Store}
@@ -35,7 +36,7 @@ pub record IsWhole (node header : ℕ) (name : List ℕ) (ss : List Store) : Typ
   pub header_is : header ≡ header_in node ss
   pub name_is : name ≡ name_in node ss
 
-pub whole : (node header : ℕ) (name : List ℕ) (ss : List Store) → ((i : ℕ) → slice_index name i < 256) → length name ≤ 1024 → AreStored node header name (3 + words_of (length name)) ss → IsWhole node header name ss
+pub whole : (node header : ℕ) (name : List ℕ) (ss : List Store) → IsBytes name → length name ≤ 1024 → AreStored node header name (3 + words_of (length name)) ss → IsWhole node header name ss
 whole node header name ss bytes short all =
     let w : ℕ = words_of (length name) in
     let at : (k : ℕ) → k < 2 + w → stored node (k + 1) ss ≡ Some (payload_word header name k) = λ k below.

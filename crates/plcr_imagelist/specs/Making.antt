@@ -1,5 +1,6 @@
 -- What the writer and a change keep between two steps.
-use Rattle.std.specs.Prelude.{◌≡◌, ◌≢◌, ℕ, suc, ◌+◌, ◌<◌, ◌≤◌, false, List, ◌∷◌, length, slice_index, slice_index_or, Some, nat_lt, ◌==◌, if◌then◌else◌}
+use Rattle.std.specs.Prelude.{◌≡◌, ◌≢◌, ℕ, suc, ◌+◌, ◌<◌, ◌≤◌, false, List, ◌∷◌, length, slice_index_or, Some, nat_lt, ◌==◌, if◌then◌else◌}
+use Rattle.plcr_base.specs.Bytes.{IsBytes}
 use Rattle.plcr_machine.specs.Lists.{live, loads}
 use Rattle.plcr_machine.specs.Passes.{counts, owes_count, IsPaced}
 use Rattle.plcr_machine.specs.Histories.{IsHistory}
@@ -50,7 +51,7 @@ pub record IsMaking (b : BooksState) (task : Task) (name : List ℕ) (load made 
   pub known : IsHistory b.owner.nodes b.owner.passes b.owner.history b.owner.names
   pub paced : IsPaced b.owner.history
   pub short : length name ≤ 1024
-  pub bytes : (i : ℕ) → slice_index name i < 256
+  pub bytes : IsBytes name
   pub most : made ≤ change_step (doing_of task name)
   pub fewer : counts b.owner.history < 4294967295
   pub owes : owes_count b.owner.history ≡ (made == change_step (doing_of task name))

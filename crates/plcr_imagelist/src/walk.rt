@@ -1,8 +1,8 @@
 //! The images that a hold has met, as a list.
 ghost use Rattle.std.specs.Prelude.{◌≡◌, ◌*◌, ◌<◌, ◌≤◌, length, All};
+ghost use Rattle.plcr_base.specs.Bytes.{IsBytes};
 ghost use Rattle.plcr_base.specs.Numbers.{u64_in};
 ghost use Rattle.plcr_macho.specs.Images.{listed_at};
-ghost use Rattle.plcr_nodes.specs.Names.{AreBytes};
 ghost use Rattle.plcr_imagelist.specs.Walk.{images_of, IsSameWalk};
 
 use crate::hold::Hold;
@@ -53,7 +53,7 @@ impl Hold {
         requires list { self.old.walker.table ≡ list.now }
         requires met { at < length (images_of self.old) }
         ensures length { result ≡ length (listed_at (images_of self.old) at).name }
-        ensures bytes { AreBytes (listed_at (images_of self.old) at).name }
+        ensures bytes { IsBytes (listed_at (images_of self.old) at).name }
         ensures same { IsSameWalk self.old self.new }
     {
         let node = self.met[at];

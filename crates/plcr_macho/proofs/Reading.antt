@@ -1,15 +1,10 @@
 -- Bytes of a list and of a memory.
-use Rattle.std.proofs.Common.{◌≡◌, ◌≤◌, ◌<◌, ℕ, zero, suc, ◌+◌, ◌-◌, List, [], ◌∷◌, length, take, drop, slice_index, Option, Some, None, is_some, refl, sym, ap, subst, ◌∙◌, arith}
+use Rattle.std.proofs.Common.{◌≡◌, ◌≤◌, ◌<◌, ℕ, zero, suc, ◌+◌, ◌-◌, List, [], ◌∷◌, length, take, drop, Option, Some, None, is_some, refl, sym, ap, subst, ◌∙◌, arith}
 use Rattle.std.specs.Prelude.{IsSome, unwrap_or}
-use Rattle.std.proofs.Math.ListN.{get_or-eq_default}
 use Rattle.plcr_commands.specs.Commands.{IsPlain}
 use Rattle.plcr_memory.specs.Regions.{Contents, byte_at, bytes_at, cons_known}
 use Rattle.plcr_macho.specs.Sources.{plus, memory_bytes}
 use Rattle.plcr_macho.specs.Keeping.{bytes_there}
-
--- past the end a byte reads as zero
-pub past_end : (xs : List ℕ) (i : ℕ) → length xs ≤ i → slice_index xs i ≡ 0
-past_end xs i h = get_or-eq_default xs 0 h
 
 -- what stands behind a byte before others
 pub cons_known_some : (o : Option ℕ) (r : Option (List ℕ)) (xs : List ℕ) → cons_known o r ≡ Some xs → (b : ℕ) × (bs : List ℕ) × (o ≡ Some b) × (r ≡ Some bs) × (xs ≡ b ∷ bs)

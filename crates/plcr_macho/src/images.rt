@@ -1,5 +1,6 @@
 //! Lists of loaded images, as a walk over them sees them.
-ghost use Rattle.std.specs.Prelude.{◌≡◌, ℕ, ◌*◌, ◌<◌, List, length, slice_index};
+ghost use Rattle.std.specs.Prelude.{◌≡◌, ℕ, ◌*◌, ◌<◌, List, length};
+ghost use Rattle.plcr_base.specs.Bytes.{IsBytes};
 ghost use Rattle.plcr_base.specs.Numbers.{u64_in};
 ghost use Rattle.plcr_macho.specs.Images.{Listed, listed_at};
 
@@ -26,7 +27,7 @@ pub trait Images {
     fn name_len(&mut self, i: usize) -> usize
         requires { i < length (images self.old) }
         ensures length { result ≡ length (listed_at (images self.old) i).name }
-        ensures bytes { (k : ℕ) → slice_index (listed_at (images self.old) i).name k < 256 }
+        ensures bytes { IsBytes (listed_at (images self.old) i).name }
         ensures same { images self.new ≡ images self.old }
         ensures follows { follows self.old self.new };
 

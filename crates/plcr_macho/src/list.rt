@@ -1,11 +1,11 @@
 ghost use Rattle.std.specs.Prelude.{◌≡◌, ℕ, ◌<◌, ◌≤◌, length, slice_index};
 ghost use Rattle.std.proofs.Common.{refl, ◌∙◌};
-ghost use Rattle.plcr_base.specs.Numbers.{u64_in};
+ghost use Rattle.plcr_base.specs.Bytes.{IsBytes};
 ghost use Rattle.plcr_macho.specs.Images.{all_listed};
 
 use crate::images::Images;
 use arrayvec::ArrayVec;
-use byteorder::{ByteOrder, LittleEndian};
+use plcr_base::read_padded_u64;
 
 /// An image of a plain list: the address of its header, and its name.
 #[derive(Drop)]
@@ -32,36 +32,9 @@ impl<'a> ListImages<'a> {
 // How many bytes there are. Each is below 256.
 fn byte_count(bytes: &[u8]) -> usize
     ensures length { result ≡ length bytes.now }
-    ensures bytes { (k : ℕ) → slice_index bytes.now k < 256 }
+    ensures bytes { IsBytes bytes.now }
 {
     bytes.len()
-}
-
-// The byte at a place, zero past the end.
-#[tactic(auto, using(crate::proofs::Reading::past_end))]
-fn byte_or_zero(bytes: &[u8], at: usize) -> u8
-    ensures { result ≡ slice_index bytes.now at }
-{
-    if at < bytes.len() { bytes[at] } else { 0 }
-}
-
-// The 8 bytes from a place on, the lowest first, with zeros past the end.
-#[tactic(auto, unfolding(plcr_base::specs::Numbers::u64_in))]
-fn word_at(bytes: &[u8], at: usize) -> u64
-    requires { at ≤ length bytes.now }
-    ensures { result ≡ u64_in bytes.now at }
-{
-    let (_, rest) = bytes.split_at(at);
-    LittleEndian::read_u64(&[
-        byte_or_zero(rest, 0),
-        byte_or_zero(rest, 1),
-        byte_or_zero(rest, 2),
-        byte_or_zero(rest, 3),
-        byte_or_zero(rest, 4),
-        byte_or_zero(rest, 5),
-        byte_or_zero(rest, 6),
-        byte_or_zero(rest, 7),
-    ])
 }
 
 impl Images for ListImages<'_> {
@@ -82,7 +55,7 @@ impl Images for ListImages<'_> {
     }
 
     fn name_word(&mut self, i: usize, j: usize) -> u64 {
-        word_at(self.images[i].name.as_slice(), 8 * j)
+        read_padded_u64(self.images[i].name.as_slice(), 8 * j)
     }
 
     ghost follows_itself = { λ x. refl };

@@ -4,7 +4,8 @@ use Rattle.std.proofs.lemmas.Bool.{cond_both}
 use Rattle.plcr_machine.specs.declared.entry.Entry.{Entry}
 use Rattle.plcr_machine.specs.Lists.{name_of, loaded}
 use Rattle.plcr_nodes.specs.Rule.{name_on, image_words}
-use Rattle.plcr_nodes.specs.Names.{IsShort, AreBytes, AreNames}
+use Rattle.plcr_base.specs.Bytes.{IsBytes}
+use Rattle.plcr_nodes.specs.Names.{IsShort, AreNames}
 use Rattle.plcr_nodes.proofs.Spelling.{no_bytes}
 
 -- the newest name is that of the newest load
@@ -20,9 +21,9 @@ pub name_short : (i : ℕ) (names : List (List ℕ)) → AreNames names → IsSh
 name_short i [] s = omega arith
 name_short i (x ∷ xs) s = cond_both (eqb i (suc (length xs))) x (name_of i xs) IsShort (λ _. s.0) (λ _. name_short i xs s.2)
 
-pub bytes_named : (i : ℕ) (names : List (List ℕ)) → AreNames names → AreBytes (name_of i names)
+pub bytes_named : (i : ℕ) (names : List (List ℕ)) → AreNames names → IsBytes (name_of i names)
 bytes_named i [] s = no_bytes
-bytes_named i (x ∷ xs) s = cond_both (eqb i (suc (length xs))) x (name_of i xs) AreBytes (λ _. s.1) (λ _. bytes_named i xs s.2)
+bytes_named i (x ∷ xs) s = cond_both (eqb i (suc (length xs))) x (name_of i xs) IsBytes (λ _. s.1) (λ _. bytes_named i xs s.2)
 
 -- an image has at most 130 payload words
 pub image_most : (n : ℕ) (h : List Entry) (names : List (List ℕ)) → AreNames names → image_words n h names ≤ 130

@@ -1,6 +1,7 @@
 -- How an image lies in the words of its node: the header, the length of its name, and the name in words of 8 bytes, the lowest byte first and zero past the end.
-use Rattle.std.specs.Prelude.{◌≡◌, ℕ, zero, suc, ◌+◌, ◌*◌, ◌/◌, ◌<◌, ◌≤◌, cond, ◌&&◌, ◌==◌, List, [], ◌∷◌, ◌++◌, length, take, slice_index, Option, Some, None}
+use Rattle.std.specs.Prelude.{◌≡◌, ℕ, zero, suc, ◌+◌, ◌*◌, ◌/◌, ◌<◌, ◌≤◌, cond, ◌&&◌, ◌==◌, List, [], ◌∷◌, ◌++◌, length, take, Option, Some, None}
 use Rattle.byteorder.specs.Endian.{little_bytes}
+use Rattle.plcr_base.specs.Bytes.{IsBytes}
 use Rattle.plcr_base.specs.Numbers.{u64_in}
 use Rattle.plcr_nodes.specs.declared.view.Store.{Store}
 
@@ -8,14 +9,10 @@ use Rattle.plcr_nodes.specs.declared.view.Store.{Store}
 abbrev pub IsShort : List ℕ → Type 0
 IsShort name = length name ≤ 1024
 
--- each byte of the list is below 256
-abbrev pub AreBytes : List ℕ → Type 0
-AreBytes xs = (i : ℕ) → slice_index xs i < 256
-
 -- short lists of bytes
 abbrev pub AreNames : List (List ℕ) → Type 0
 AreNames [] = Unit {0}
-AreNames (name ∷ names) = IsShort name × AreBytes name × AreNames names
+AreNames (name ∷ names) = IsShort name × IsBytes name × AreNames names
 
 -- the number of words that the bytes take
 abbrev pub words_of : ℕ → ℕ

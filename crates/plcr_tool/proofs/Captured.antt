@@ -13,7 +13,7 @@ use Rattle.plcr_commands.specs.declared.trouble.Trouble.{Trouble}
 use Rattle.plcr_commands.specs.declared.trouble.Trouble.TheVariants.{Bad}
 use Rattle.plcr_commands.specs.Commands.{Command, AreLaid, IsLaid, commands_at}
 use Rattle.plcr_commands.proofs.Lists.{lists_lie}
-use Rattle.plcr_wire.specs.Reading.{IsBytes}
+use Rattle.plcr_base.specs.Bytes.{IsBytes}
 use Rattle.plcr_memory.specs.Regions.{Contents, bytes_at}
 use Rattle.plcr_macho.specs.declared.image.Image as macho
 use Rattle.plcr_macho.specs.declared.image.ImageFault.{ImageFault}

@@ -2,7 +2,7 @@
 use Rattle.std.proofs.Common.{◌≡◌, ℕ, zero, suc, ◌+◌, ◌*◌, ◌^◌, ◌<◌, Bool, true, false, cond, List, [], ◌∷◌, length, drop, Option, Some, refl, sym, ap, subst, arith, lit<}
 use Rattle.std.specs.Prelude.{IfSome}
 use Rattle.std.proofs.lemmas.List.{get_or-drop}
-use Rattle.plcr_wire.specs.Reading.{IsBytes}
+use Rattle.plcr_base.specs.Bytes.{IsBytes}
 use Rattle.plcr_memory.specs.declared.region.Region.{Region}
 use Rattle.plcr_memory.specs.Regions.{Contents, covers, byte_in, byte_among, byte_at, bytes_at}
 use Rattle.plcr_macho.specs.Fields.{number}

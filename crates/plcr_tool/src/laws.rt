@@ -3,7 +3,7 @@ ghost use Rattle.std.specs.Prelude.{◌≡◌, List, Ok};
 ghost use Rattle.plcr_regs.specs.declared.registers.Registers as state;
 ghost use Rattle.plcr_memory.specs.Regions.{Contents};
 ghost use Rattle.plcr_macho.specs.Images.{Listed};
-ghost use Rattle.plcr_wire.specs.Reading.{IsBytes};
+ghost use Rattle.plcr_base.specs.Bytes.{IsBytes};
 ghost use Rattle.plcr_report.specs.declared.messages.Image as image;
 ghost use Rattle.plcr_report.specs.Spelling.{spelling_of};
 ghost use Rattle.plcr_encode.specs.declared.context.Context as context;

@@ -3,7 +3,8 @@ use Rattle.std.proofs.Common.{◌≡◌, ◌⊎◌, inl, inr, ℕ, zero, suc, �
 use Rattle.std.proofs.lemmas.Bool.Decides.{nat_tests}
 use Rattle.plcr_wire.specs.Varint.{IsVarint}
 use Rattle.plcr_base.specs.Chains.{◌>>=◌}
-use Rattle.plcr_wire.specs.Reading.{varint_at, number_at, IsBytes, ReadsNumber}
+use Rattle.plcr_base.specs.Bytes.{IsBytes}
+use Rattle.plcr_wire.specs.Reading.{varint_at, number_at, ReadsNumber}
 use Rattle.plcr_wire.specs.declared.fields.WireFault.TheVariants.{BadVarint}
 use Rattle.plcr_base.proofs.Chained.{bind_ok}
 use Rattle.plcr_wire.proofs.Places.{ok_is}

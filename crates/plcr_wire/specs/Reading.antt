@@ -1,6 +1,6 @@
 -- Reading one field from the left, with the first fault that is met (Protocol Buffers documentation, "Encoding").
 -- Only the end of the message is passed down: a list that is left begins at `end - length bytes`.
-use Rattle.std.specs.Prelude.{◌≡◌, ◌<◌, ◌≤◌, slice_index, ℕ, Bool, zero, suc, ◌+◌, ◌-◌, ◌*◌, ◌/◌, ◌%◌, ◌^◌, ◌&&◌, ◌||◌, ◌==◌, List, [], ◌∷◌, ◌++◌, length, take, drop, slice_range, Result, Ok, Err, nat_lt, if◌then◌else◌}
+use Rattle.std.specs.Prelude.{◌≡◌, ◌<◌, ◌≤◌, ℕ, Bool, zero, suc, ◌+◌, ◌-◌, ◌*◌, ◌/◌, ◌%◌, ◌^◌, ◌&&◌, ◌||◌, ◌==◌, List, [], ◌∷◌, ◌++◌, length, take, drop, slice_range, Result, Ok, Err, nat_lt, if◌then◌else◌}
 use Rattle.std.specs.Int.{Width, w32, w64, byte_len, from_le_bytes}
 use Rattle.plcr_base.specs.Chains.{◌>>=◌}
 use Rattle.plcr_wire.specs.Varint.{IsVarint}
@@ -27,10 +27,6 @@ varint_at end first (suc k) (b ∷ bs) = if nat_lt b 128 then Ok (b, bs) else (v
 
 unfoldable pub number_at : ℕ → List ℕ → Result (ℕ × List ℕ) WireFault
 number_at end bytes = varint_at end (end - length bytes) 9 bytes
-
--- each is a byte
-abbrev pub IsBytes : List ℕ → Type 0
-IsBytes bytes = (i : ℕ) → slice_index bytes i < 256
 
 -- a varint of n, of so many bytes at most, and then this rest
 pub record ReadsNumber (bytes : List ℕ) (n : ℕ) (rest : List ℕ) (most : ℕ) : Type 0 where

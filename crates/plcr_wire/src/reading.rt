@@ -1,7 +1,8 @@
 //! Reading of fields.
 ghost use Rattle.std.specs.Prelude.{◌≡◌, ℕ, List, ◌++◌, Ok, ◌+◌, ◌*◌, ◌^◌, ◌<◌, ◌≤◌, length, slice_range, IfOk};
 ghost use Rattle.std.specs.Int.{w32, w64};
-ghost use Rattle.plcr_wire.specs.Reading.{Reads, varint_at, number_at, fixed_at, text_at, field_at, value_at, found_at, Stands, piece, content, content_len, IsBytes, ReadsNumber};
+ghost use Rattle.plcr_base.specs.Bytes.{IsBytes};
+ghost use Rattle.plcr_wire.specs.Reading.{Reads, varint_at, number_at, fixed_at, text_at, field_at, value_at, found_at, Stands, piece, content, content_len, ReadsNumber};
 ghost use Rattle.plcr_wire.specs.Varint.{IsVarint};
 ghost use Rattle.plcr_wire.specs.Message as message;
 ghost use Rattle.plcr_wire.specs.Message.{FitsField, field_spelling};

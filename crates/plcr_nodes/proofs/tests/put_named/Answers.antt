@@ -1,4 +1,5 @@
-use Rattle.std.proofs.Common.{◌≡◌, ◌∙◌, ℕ, zero, suc, ◌+◌, ◌*◌, ◌<◌, arith, length, List, [], ◌∷◌, Some, refl, sym, ap, subst, slice_index}
+use Rattle.std.proofs.Common.{◌≡◌, ◌∙◌, ℕ, zero, suc, ◌+◌, ◌*◌, ◌<◌, arith, length, List, [], ◌∷◌, Some, refl, sym, ap, subst}
+use Rattle.plcr_base.specs.Bytes.{IsBytes}
 use Rattle.plcr_base.specs.Numbers.{u64_in}
 use Rattle.plcr_nodes.specs.declared.view.Store.{Store}
 use Rattle.plcr_nodes.specs.Names.{IsShort, IsFilled, words_of, stored, value_or, name_in}
@@ -14,7 +15,7 @@ letters = 97 ∷ 98 ∷ 99 ∷ 100 ∷ 101 ∷ 102 ∷ 103 ∷ 104 ∷ 105 ∷ [
 abbrev stores : ℕ → List Store → List Store
 stores header ss = store 1 0 0 ∷ store 1 4 105 ∷ store 1 3 7523094288207667809 ∷ store 1 2 9 ∷ store 1 1 header ∷ ss
 
-letters_are_bytes : (i : ℕ) → slice_index letters i < 256
+letters_are_bytes : IsBytes letters
 letters_are_bytes zero = omega arith
 letters_are_bytes (suc zero) = omega arith
 letters_are_bytes (suc (suc zero)) = omega arith

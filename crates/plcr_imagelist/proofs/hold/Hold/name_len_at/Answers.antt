@@ -1,6 +1,6 @@
 use Rattle.std.proofs.Common.{◌≡◌, ◌<◌, length, ap, sym, subst, arith}
 use Rattle.plcr_macho.specs.Images.{listed_at}
-use Rattle.plcr_nodes.specs.Names.{AreBytes}
+use Rattle.plcr_base.specs.Bytes.{IsBytes}
 use Rattle.plcr_nodes.specs.Tokens.{PassState}
 use Rattle.plcr_imagelist.specs.Holds.{HoldState}
 use Rattle.plcr_imagelist.specs.Walk.{images_of, IsSameWalk}
@@ -46,5 +46,5 @@ returns-clause-length c =
 pub returns-clause-bytes : goal.returns-clause-bytes
 returns-clause-bytes c =
     let h = c.self.inside in
-    subst (λ (s : HoldState). AreBytes (listed_at (images_of s) c.args.at).name) c.self.view_is
+    subst (λ (s : HoldState). IsBytes (listed_at (images_of s) c.args.at).name) c.self.view_is
     (bytes_read h.pass.names c.self.invariant.0.walking.short h.met.items h.pass.history c.args.at)
