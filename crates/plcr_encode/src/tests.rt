@@ -1,5 +1,4 @@
 ghost use Rattle.std.specs.Prelude.{◌≡◌, ◌≤◌, All, IsTrue, length};
-ghost use Rattle.plcr_memory.specs.Regions.{IsBacked};
 ghost use Rattle.plcr_regs.specs.States.{IsWhole};
 ghost use Rattle.plcr_macho.specs.Images.{all_listed};
 ghost use Rattle.plcr_encode.specs.Conditions.{IsWritable, AreNamable};
@@ -8,9 +7,9 @@ use super::*;
 use arrayvec::ArrayVec;
 use plcr_io::{MemOut, PutFailed, Sink};
 use plcr_macho::{ListImages, PlainImage};
-use plcr_memory::{Memory, MemoryFault, Region};
+use plcr_memory::{Memory, MemoryFault, Region, are_backed};
 use plcr_regs::{Arch, Registers};
-use std::alloc::Global;
+use std::alloc::{AllocError, Global};
 use std::test::Fail;
 
 /// The report of one x86-64 thread, which crashed with rsp 0x7000 and rip 0x100000f50, all else 0.
@@ -113,12 +112,25 @@ fn stopped() -> Registers
     }
 }
 
-fn context(crashed: u32, user: bool) -> Context<'static>
+/// An arm64 thread with sp 0x7000 and pc 0x100000f50, all else 0.
+fn stopped_arm64() -> Registers
+    ensures { IsWhole Arch.Arm64 result }
+{
+    let mut value = [Some(0); 34];
+    value[31] = Some(0x7000);
+    value[32] = Some(0x1_0000_0f50);
+    Registers {
+        arch: Arch::Arm64,
+        value,
+    }
+}
+
+fn context(arch: Arch, crashed: u32, user: bool) -> Context<'static>
     ensures writable { IsWritable result }
-    ensures arch { result.arch ≡ Arch.X86_64 }
+    ensures arch { result.arch ≡ arch }
 {
     Context {
-        arch: Arch::X86_64,
+        arch,
         os: 0,
         os_version: b"0",
         timestamp: 0,
@@ -133,24 +145,6 @@ fn context(crashed: u32, user: bool) -> Context<'static>
         crashed,
         user,
     }
-}
-
-fn all_backed(file: &[u8], regions: &[Region]) -> bool
-    ensures { IsTrue result → All (IsBacked file.now) regions.now }
-{
-    for region in regions {
-        let Region {
-            size,
-            from,
-            len,
-            ..
-        } = *region;
-        let held = from <= file.len() && len <= file.len() - from;
-        if !held || size == 0 || size < len as u64 {
-            return false;
-        }
-    }
-    true
 }
 
 /// The memory of two images.
@@ -169,7 +163,7 @@ fn memory(alloc: Global) -> Result<Memory, MemoryFault> {
             len: 128,
         })?;
     }
-    if all_backed(file.as_slice(), regions.as_slice()) {
+    if are_backed(file.as_slice(), regions.as_slice()) {
         Memory::new(alloc, file, regions)
     } else {
         Err(MemoryFault::Memory)
@@ -220,7 +214,10 @@ fn the_bytes_of_a_report(rt: HostRuntime) -> Result<(), Fail> {
     let memory = memory(alloc)?;
     for most in [1000, 100] {
         let mut out = MemOut::new(alloc, 271, most, Vec::new(alloc))?;
-        assert_eq!(rt; write(&[], &memory, &context(0, false), &mut out), Ok(271));
+        assert_eq!(rt;
+            write(&[], &memory, &context(Arch::X86_64, 0, false), &mut out),
+            Ok(271)
+        );
         assert_eq!(rt; out.bytes(), EXPECTED.as_slice());
     }
 
@@ -228,8 +225,61 @@ fn the_bytes_of_a_report(rt: HostRuntime) -> Result<(), Fail> {
     other[43] = 0;
     other[270] = 1;
     let mut out = MemOut::new(alloc, 271, 1000, Vec::new(alloc))?;
-    assert_eq!(rt; write(&[], &memory, &context(1, true), &mut out), Ok(271));
+    assert_eq!(rt;
+        write(&[], &memory, &context(Arch::X86_64, 1, true), &mut out),
+        Ok(271)
+    );
     assert_eq!(rt; out.bytes(), other.as_slice());
+    Ok(())
+}
+
+/// The names of the registers of an arm64 thread state.
+const ARM64_NAMES: [&[u8]; 34] = [
+    b"x0", b"x1", b"x2", b"x3", b"x4", b"x5", b"x6", b"x7", b"x8", b"x9", b"x10", b"x11", b"x12",
+    b"x13", b"x14", b"x15", b"x16", b"x17", b"x18", b"x19", b"x20", b"x21", b"x22", b"x23", b"x24",
+    b"x25", b"x26", b"x27", b"x28", b"fp", b"lr", b"sp", b"pc", b"cpsr",
+];
+
+/// Appends a register's message: its name, and its value as a varint of these bytes.
+fn add_register(file: &mut Vec<u8>, name: &[u8], value: &[u8]) -> Result<(), AllocError> {
+    let len = (name.len() % 100) as u8;
+    let rest = (value.len() % 100) as u8;
+    file.extend_from_slice(&[0x22, 3 + len + rest, 0x0a, len])?;
+    file.extend_from_slice(name)?;
+    file.push(0x10)?;
+    file.extend_from_slice(value)
+}
+
+#[test]
+fn the_bytes_of_an_arm64_report(rt: HostRuntime) -> Result<(), Fail> {
+    let alloc = rt.alloc();
+    let mut want = EXPECTED.as_slice().split_at(29).0.to_vec(alloc)?;
+    want[16] = 6;
+    want.extend_from_slice(&[0x1a, 0xb7, 0x02, 0x08, 0x00])?;
+    want.extend_from_slice(&[0x12, 0x06, 0x18, 0xd0, 0x9e, 0x80, 0x80, 0x10, 0x18, 0x01])?;
+    for (i, name) in ARM64_NAMES.iter().enumerate() {
+        let value: &[u8] = match i {
+            31 => &[0x80, 0xe0, 0x01],
+            32 => &[0xd0, 0x9e, 0x80, 0x80, 0x10],
+            _ => &[0x00],
+        };
+        add_register(&mut want, name, value)?;
+    }
+    want.extend_from_slice(EXPECTED.as_slice().split_at(IMAGES).1)?;
+    assert_eq!(rt; want.len(), 377);
+
+    let mut out = MemOut::new(alloc, 377, 1000, Vec::new(alloc))?;
+    let mut none = ListImages::new(&[]);
+    let about = context(Arch::Arm64, 0, false);
+    let written = capture(
+        &mut none,
+        &memory(alloc)?,
+        &[stopped_arm64()],
+        &about,
+        &mut out,
+    );
+    assert_eq!(rt; written, Ok(377));
+    assert_eq!(rt; out.bytes(), want.as_slice());
     Ok(())
 }
 
@@ -244,7 +294,7 @@ fn the_bytes_of_images(rt: HostRuntime) -> Result<(), Fail> {
     ];
     let mut out = MemOut::new(alloc, 371, 1000, Vec::new(alloc))?;
     assert_eq!(rt;
-        write(&images, &memory, &context(0, false), &mut out),
+        write(&images, &memory, &context(Arch::X86_64, 0, false), &mut out),
         Ok(371)
     );
     let mut want = EXPECTED.as_slice().split_at(IMAGES).0.to_vec(alloc)?;
@@ -273,7 +323,7 @@ fn the_lengths_of_reports_with_images(rt: HostRuntime) -> Result<(), Fail> {
     for (images, want) in rows {
         let mut out = MemOut::new(alloc, 400, 1000, Vec::new(alloc))?;
         assert_eq!(rt;
-            write(images, &memory, &context(0, false), &mut out),
+            write(images, &memory, &context(Arch::X86_64, 0, false), &mut out),
             Ok(want)
         );
         assert_eq!(rt; out.bytes().len() as u64, want);
@@ -319,7 +369,12 @@ fn pieces_are_small(rt: HostRuntime) -> Result<(), Fail> {
         largest: 0,
         total: 0,
     };
-    let written = write(&images, &memory, &context(0, false), &mut sink);
+    let written = write(
+        &images,
+        &memory,
+        &context(Arch::X86_64, 0, false),
+        &mut sink,
+    );
     assert!(rt; written == Ok(sink.total));
     assert!(rt; sink.total > 4000);
     assert!(rt; sink.largest <= 256);
@@ -343,12 +398,22 @@ fn a_sink_that_fails(rt: HostRuntime) -> Result<(), Fail> {
     assert_eq!(rt; want.len(), 623);
     for (failing, written) in [(1, 0), (2, 256), (3, 512)] {
         let mut out = MemOut::new(alloc, 623, 1000, vec![in alloc; failing]?)?;
-        let result = write(images.as_slice(), &memory, &context(0, false), &mut out);
+        let result = write(
+            images.as_slice(),
+            &memory,
+            &context(Arch::X86_64, 0, false),
+            &mut out,
+        );
         assert_eq!(rt; result, Err(PutFailed));
         assert_eq!(rt; out.bytes(), want.as_slice().split_at(written).0);
     }
     let mut out = MemOut::new(alloc, 623, 1000, Vec::new(alloc))?;
-    let result = write(images.as_slice(), &memory, &context(0, false), &mut out);
+    let result = write(
+        images.as_slice(),
+        &memory,
+        &context(Arch::X86_64, 0, false),
+        &mut out,
+    );
     assert_eq!(rt; result, Ok(623));
     assert_eq!(rt; out.bytes(), want.as_slice());
     Ok(())

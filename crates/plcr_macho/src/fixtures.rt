@@ -1,12 +1,11 @@
-ghost use Rattle.std.specs.Prelude.{IsTrue, All};
-ghost use Rattle.plcr_memory.specs.Regions.{IsBacked};
-
-use plcr_memory::{Memory, MemoryFault, Region};
+use plcr_memory::{Memory, MemoryFault, Region, are_backed};
 use std::alloc::{AllocError, Global};
 
 pub const A0: u64 = 0x1_0000_0000;
 
 pub const X86_64: u32 = 0x0100_0007;
+
+pub const ARM64: u32 = 0x0100_000c;
 
 pub const TEXT: &[u8; 16] = b"__TEXT\0\0\0\0\0\0\0\0\0\0";
 
@@ -71,27 +70,9 @@ pub fn small_image(alloc: Global, vmaddr: u64, vmsize: u64, k: u8) -> Result<Vec
     Ok(file)
 }
 
-fn all_backed(file: &[u8], regions: &[Region]) -> bool
-    ensures { IsTrue result → All (IsBacked file.now) regions.now }
-{
-    for region in regions {
-        let Region {
-            size,
-            from,
-            len,
-            ..
-        } = *region;
-        let held = from <= file.len() && len <= file.len() - from;
-        if !held || size == 0 || size < len as u64 {
-            return false;
-        }
-    }
-    true
-}
-
 pub fn memory_of(alloc: Global, file: Vec<u8>, regions: &[Region]) -> Result<Memory, MemoryFault> {
     let regions = regions.to_vec(alloc)?;
-    if all_backed(file.as_slice(), regions.as_slice()) {
+    if are_backed(file.as_slice(), regions.as_slice()) {
         Memory::new(alloc, file, regions)
     } else {
         Err(MemoryFault::Memory)

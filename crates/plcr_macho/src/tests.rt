@@ -37,6 +37,13 @@ fn small(rt: HostRuntime) -> Result<(), Fail> {
         Err(ImageFault::NotMachO { magic: 0 })
     );
     images_lie();
+
+    let memory = changed_image(rt.alloc(), 4, ARM64, 128)?;
+    let other = Image {
+        cpu: ARM64,
+        ..SMALL
+    };
+    assert_eq!(rt; parse(&memory, Arch::Arm64, A0), Ok(other));
     Ok(())
 }
 
@@ -57,11 +64,7 @@ fn faults(rt: HostRuntime) -> Result<(), Fail> {
             0xfeed_face,
             Err(ImageFault::NotMachO { magic: 0xfeed_face }),
         ),
-        (
-            4,
-            0x0100_000c,
-            Err(ImageFault::OtherCpu { cpu: 0x0100_000c }),
-        ),
+        (4, ARM64, Err(ImageFault::OtherCpu { cpu: ARM64 })),
         (12, 2, Ok(SMALL)),
         (16, 0, Err(ImageFault::NoText)),
         (16, 1, other),
@@ -145,6 +148,13 @@ fn at_the_end(rt: HostRuntime) -> Result<(), Fail> {
     assert_eq!(rt;
         parse(&memory, Arch::X86_64, header),
         Err(ImageFault::Unreadable { at: 0 })
+    );
+    let header = u64::MAX - 15;
+    let file = small_image(rt.alloc(), A0, 0x4000, 7)?;
+    let memory = memory_of(rt.alloc(), file, &[bytes(header, 0, 16), bytes(0, 16, 112)])?;
+    assert_eq!(rt;
+        parse(&memory, Arch::X86_64, header),
+        Err(ImageFault::Unreadable { at: header })
     );
     Ok(())
 }

@@ -11,7 +11,7 @@ mod search;
 
 pub use fault::MemoryFault;
 pub use memory::Memory;
-pub use region::Region;
+pub use region::{Region, are_backed};
 
 #[cfg(test)]
 mod tests;

@@ -58,6 +58,7 @@ impl Memory {
         match at.checked_add(by) {
             Some(at) => region_holding(self.regions.as_slice(), self.order.as_slice(), at),
             None => {
+                // The proof reads the memory's invariant here: no region wraps.
                 let _regions = &self.regions;
                 None
             }
@@ -111,8 +112,8 @@ impl Memory {
         }
     }
 
-    /// Copies the bytes of a range, where each of them is mapped, and else leaves `into` as it was. The region of its
-    /// first byte is searched once; a range that it doesn't hold is gone through twice.
+    /// Copies the bytes of a range, where each of them is mapped, and else leaves `into` as it was. A range within one
+    /// region takes one search; any other is gone through twice, with a search for each of its regions.
     pub fn copy(&self, at: u64, into: &mut [u8]) -> bool
         ensures mapped { result ≡ is_some (bytes_at self.now at (length into.old)) }
         ensures within { OnTrue result (at + length into.old ≤ 2 ^ 64) }

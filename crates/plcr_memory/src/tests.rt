@@ -1,6 +1,3 @@
-ghost use Rattle.std.specs.Prelude.{IsTrue, All};
-ghost use Rattle.plcr_memory.specs.Regions.{IsBacked};
-
 use super::*;
 use std::alloc::Global;
 use std::test::Fail;
@@ -11,28 +8,10 @@ const FILE: [u8; 24] = [
     255, 255,
 ];
 
-fn all_backed(file: &[u8], regions: &[Region]) -> bool
-    ensures { IsTrue result → All (IsBacked file.now) regions.now }
-{
-    for region in regions {
-        let Region {
-            size,
-            from,
-            len,
-            ..
-        } = *region;
-        let held = from <= file.len() && len <= file.len() - from;
-        if !held || size == 0 || size < len as u64 {
-            return false;
-        }
-    }
-    true
-}
-
 fn memory_of(alloc: Global, regions: &[Region]) -> Result<Memory, MemoryFault> {
     let regions = regions.to_vec(alloc)?;
     let file = FILE.to_vec(alloc)?;
-    if all_backed(file.as_slice(), regions.as_slice()) {
+    if are_backed(file.as_slice(), regions.as_slice()) {
         Memory::new(alloc, file, regions)
     } else {
         Err(MemoryFault::Memory)

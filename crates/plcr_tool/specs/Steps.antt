@@ -1,10 +1,11 @@
 -- What the statements of a run make, one after the other: files, and lines of the log.
-use Rattle.std.specs.Prelude.{ℕ, List, [], ◌∷◌, map, flat_map, length, None}
+use Rattle.std.specs.Prelude.{◌≡◌, ℕ, List, [], ◌∷◌, map, flat_map, length, None}
 use Rattle.plcr_script.specs.declared.outcomes.Outcome.TheVariants.{Reported}
 use Rattle.plcr_script.specs.Contexts.{lent}
 use Rattle.plcr_script.specs.Log.{log_line}
 use Rattle.plcr_script.specs.Scripts.{ScriptValue}
-use Rattle.plcr_script.specs.Runs.{Meanings, NumberedTurn, run_of}
+use Rattle.plcr_script.specs.Runs as runs
+use Rattle.plcr_script.specs.Runs.{Meanings, NumberedTurn, run_of, kept_by}
 
 -- what a statement makes: the files that are kept for it, each with its bytes, and its line of the log
 pub record Step : Type 0 where
@@ -42,3 +43,11 @@ names_of steps = map (λ file. file.0) (files_of steps)
 -- the log of some steps
 abbrev pub log_of : List Step → List ℕ
 log_of steps = flat_map (λ step. step.line) steps
+
+-- the steps of a run keep the files that the run keeps, and no others
+abbrev pub StepsKeepTheRunsFiles : Type 0
+StepsKeepTheRunsFiles = (process : Meanings) (script : ScriptValue) → files_of (steps_of process script) ≡ kept_by (run_of process script)
+
+-- and their log is the run's
+abbrev pub StepsLogTheRun : Type 0
+StepsLogTheRun = (process : Meanings) (script : ScriptValue) → log_of (steps_of process script) ≡ runs.log_of (run_of process script)
