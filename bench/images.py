@@ -1,4 +1,4 @@
-"""Time and peak memory of `report` on cores with many images, and on scripts of many loads and unloads.
+"""Processor time and peak memory of `report` on cores with many images, and on scripts of many loads and unloads.
 
     python3 bench/images.py [PROGRAM]
 

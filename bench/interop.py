@@ -2,8 +2,8 @@
 
     python3 bench/interop.py [PROGRAM]
 
-PROGRAM is the proved program, by default crates/plcr_tool/out/plcr_tool. Skipped with a message where protoc is
-missing (Debian: protobuf-compiler). Ends with status 1 at the first difference.
+PROGRAM is the proved program, by default crates/plcr_tool/out/plcr_tool. What takes protoc is skipped with a message
+where it is missing (Debian: protobuf-compiler). Ends with status 1 at the first difference.
 """
 import os
 import random
@@ -22,6 +22,7 @@ PROGRAM = sys.argv[1] if len(sys.argv) > 1 else os.path.join(TOP, "crates", "plc
 HEAD = b"plcrash\x01"
 LIMIT = 67_108_864
 I64 = 1 << 63
+PROTOC = shutil.which("protoc")
 
 
 def protoc(action, file, message, data):
@@ -343,10 +344,10 @@ def limit(folder):
 
 
 def answered(folder, what, data):
-    """The program answers as the plain reader does, and at 0 as protoc reads the file too."""
+    """The program answers as the plain reader does, and at 0 as protoc reads the file, where there is one."""
     status, said = show(folder, data)
     same(what, (status, said), reference.shown(data))
-    if status == 0:
+    if PROTOC and status == 0:
         shown_alike(folder, what, data)
     return status
 
@@ -367,16 +368,21 @@ def random_bytes(folder, chance, times):
         answered(folder, "random bytes %d" % time, (HEAD if time % 4 else b"") + body)
 
 
-def main():
-    if not shutil.which("protoc"):
-        print("skipped: no protoc")
+def beside_protoc(folder, chance):
+    if not PROTOC:
+        print("skipped: what takes protoc, which is missing")
         return
+    in_pieces(folder, chance, 40)
+    print("40 reports of pieces by protoc: shown right")
+
+
+def main():
+    readers = "protoc and a plain reader" if PROTOC else "a plain reader"
     chance = random.Random(1)
     with tempfile.TemporaryDirectory() as folder:
         written(folder, chance)
-        print("reports of 1 to 4096 threads, with images and values: protoc and a plain reader decode what show prints")
-        in_pieces(folder, chance, 40)
-        print("40 reports of pieces by protoc: shown right")
+        print("reports of 1 to 4096 threads, with images and values: %s decode what show prints" % readers)
+        beside_protoc(folder, chance)
         faults(folder)
         limit(folder)
         print("%d files with a known fault: each at its place; the limit" % len(FAULTS))
@@ -386,7 +392,7 @@ def main():
         with open(os.path.join(folder, "a.plcrash"), "rb") as file:
             data = file.read()
         accepted = changed(folder, data)
-        print("each byte of the example's report changed: answered as by the plain reader, the %d accepted ones as by protoc too" % accepted)
+        print("each byte of the example's report changed: answered as by the plain reader, the %d accepted ones as by %s" % (accepted, readers))
         random_bytes(folder, chance, 1000)
         print("1000 files of random bytes: answered as by the plain reader")
 

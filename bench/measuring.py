@@ -1,9 +1,9 @@
-"""What the benches share: the program, time and peak memory by GNU time, growth."""
+"""What the benches share: the program, processor time, peak memory by GNU time, growth."""
 import math
 import os
+import resource
 import subprocess
 import sys
-import time
 
 HERE = os.path.dirname(os.path.abspath(__file__))
 
@@ -14,15 +14,22 @@ def program():
     return os.path.abspath(named)
 
 
+def processor_seconds():
+    """What all children that have ended took."""
+    used = resource.getrusage(resource.RUSAGE_CHILDREN)
+    return used.ru_utime + used.ru_stime
+
+
 def measured(command, folder, source=None, keeps=False):
-    """Seconds, peak memory in bytes, status, and what was printed where it is kept. A small program starts the command,
-    since a child's peak begins with that of its parent."""
+    """Seconds of a processor, the system's work for it too; peak memory in bytes, status, and what was printed where it
+    is kept. What else the machine does counts little in such seconds. A small program starts the command, since a
+    child's peak begins with that of its parent."""
     note = os.path.join(folder, "peak")
-    begin = time.monotonic()
+    begin = processor_seconds()
     child = subprocess.Popen(["/usr/bin/time", "-q", "-f", "%M", "-o", note, *command], cwd=folder, stdin=source,
                              stdout=subprocess.PIPE if keeps else subprocess.DEVNULL)
     said, _ = child.communicate()
-    seconds = time.monotonic() - begin
+    seconds = processor_seconds() - begin
     with open(note) as file:
         peak = int(file.read()) * 1024
     os.remove(note)

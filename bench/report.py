@@ -1,4 +1,4 @@
-"""Time and peak memory of `report` on large cores.
+"""Processor time and peak memory of `report` on large cores.
 
     python3 bench/report.py [PROGRAM]
 

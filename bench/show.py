@@ -1,4 +1,4 @@
-"""Time and peak memory of `show` on large reports, beside `protoc --decode_raw` where that is installed.
+"""Processor time and peak memory of `show` on large reports, beside `protoc --decode_raw` where that is installed.
 
     python3 bench/show.py [PROGRAM]
 
