@@ -13,7 +13,10 @@ pub const NCMDS: usize = 16;
 
 pub const SIZEOFCMDS: usize = 20;
 
-/// segment_command_64: `segname` of 16 bytes, `vmaddr`, `vmsize` and `fileoff` of 8, and `nsects` of 4.
+/// segment_command_64 is so many bytes long, and its sections follow it.
+pub const SEGMENT_LENGTH: usize = 72;
+
+/// Its `segname` of 16 bytes, `vmaddr`, `vmsize` and `fileoff` of 8, and `nsects` of 4.
 pub const SEGMENT_NAME: usize = 8;
 
 pub const VMADDR: usize = 24;
@@ -24,14 +27,20 @@ pub const FILEOFF: usize = 40;
 
 pub const NSECTS: usize = 64;
 
-/// section_64: `sectname` of 16 bytes, `addr` and `size` of 8.
+/// section_64 is so many bytes long.
+pub const SECTION_LENGTH: usize = 80;
+
+/// Its `sectname` of 16 bytes, `addr` and `size` of 8.
 pub const SECTION_NAME: usize = 0;
 
 pub const SECTION_ADDR: usize = 32;
 
 pub const SECTION_SIZE: usize = 40;
 
-/// symtab_command: four numbers of 4 bytes.
+/// symtab_command is so many bytes long.
+pub const SYMTAB_LENGTH: usize = 24;
+
+/// Its four numbers of 4 bytes.
 pub const SYMOFF: usize = 8;
 
 pub const NSYMS: usize = 12;
@@ -40,7 +49,10 @@ pub const STROFF: usize = 16;
 
 pub const STRSIZE: usize = 20;
 
-/// uuid_command: `uuid` of 16 bytes.
+/// uuid_command is so many bytes long.
+pub const UUID_LENGTH: usize = 24;
+
+/// Its `uuid` of 16 bytes.
 pub const UUID: usize = 8;
 
 /// A field of 16 bytes.

@@ -5,7 +5,9 @@ ghost use Rattle.plcr_macho.specs.Fields.{bytes_of, section_name};
 ghost use Rattle.plcr_macho.specs.Loading.{sections_in};
 ghost use Rattle.plcr_macho.specs.Keeping.{Stands, bytes_there, command_of, part_in, parts_in};
 
-use crate::fields::{SECTION_ADDR, SECTION_NAME, SECTION_SIZE, has_name};
+use crate::fields::{
+    SECTION_ADDR, SECTION_LENGTH, SECTION_NAME, SECTION_SIZE, SEGMENT_LENGTH, has_name,
+};
 use crate::image::Part;
 use crate::kept::Parts;
 use crate::source::mapped_bytes;
@@ -19,7 +21,7 @@ const UNWIND_INFO: &[u8; 16] = b"__unwind_info\0\0\0";
 const EH_FRAME: &[u8; 16] = b"__eh_frame\0\0\0\0\0\0";
 
 #[tactic(auto, unfolding(crate::specs::Keeping::part_in, crate::specs::Fields::number, plcr_base::specs::Numbers::u64_in))]
-fn part_of(section: &[u8; 80]) -> Part
+fn part_of(section: &[u8; SECTION_LENGTH]) -> Part
     ensures { result ≡ part_in section.now }
 {
     Part {
@@ -29,7 +31,7 @@ fn part_of(section: &[u8; 80]) -> Part
 }
 
 #[tactic(auto, unfolding(crate::specs::Fields::bytes_of))]
-fn part_named(section: &[u8; 80], name: &[u8; 16]) -> Option<Part>
+fn part_named(section: &[u8; SECTION_LENGTH], name: &[u8; 16]) -> Option<Part>
     ensures { result ≡ if bytes_eq (bytes_of section_name section.now) name.now then Some (part_in section.now) else None }
 {
     if has_name(section, SECTION_NAME, name) {
@@ -40,7 +42,7 @@ fn part_named(section: &[u8; 80], name: &[u8; 16]) -> Option<Part>
 }
 
 #[tactic(auto, unfolding(crate::specs::Keeping::parts_in))]
-fn parts_of(section: &[u8; 80]) -> Parts
+fn parts_of(section: &[u8; SECTION_LENGTH]) -> Parts
     ensures { result ≡ parts_in (section.now ∷ []) }
 {
     Parts {
@@ -55,7 +57,11 @@ fn nameless(memory: &Memory, at: u64) -> u64
     ensures { (k : ℕ) → k < result → byte_at memory.now (at + 80 * k) ≡ Some 0 }
 {
     let zeros = memory.zeros_from(at);
-    if zeros == 0 { 0 } else { (zeros - 1) / 80 + 1 }
+    if zeros == 0 {
+        0
+    } else {
+        (zeros - 1) / SECTION_LENGTH as u64 + 1
+    }
 }
 
 // What is kept of so many sections from an address on, which stand within `size` mapped bytes.
@@ -72,7 +78,7 @@ fn parts_at(memory: &Memory, at: u64, size: u64, count: u32) -> Parts
     };
     let mut index = 0;
     while index < count {
-        let section_at = at + 80 * index;
+        let section_at = at + SECTION_LENGTH as u64 * index;
         let passed = nameless(memory, section_at);
         if passed == 0 {
             found = found.or(parts_of(&mapped_bytes(memory, section_at)));
@@ -101,5 +107,10 @@ pub fn parts_within(command: &Standing, count: u32) -> Parts
     if !command.memory.is_mapped(command.address, size) {
         unreachable!()
     }
-    parts_at(command.memory, command.address + 72, size - 72, count)
+    parts_at(
+        command.memory,
+        command.address + SEGMENT_LENGTH as u64,
+        size - SEGMENT_LENGTH as u64,
+        count,
+    )
 }

@@ -3,7 +3,9 @@ ghost use Rattle.plcr_base.specs.Chains.{result_map};
 ghost use Rattle.plcr_macho.specs.Fields.{is_named, segment_name};
 ghost use Rattle.plcr_macho.specs.Keeping.{Stands, command_of, first_kept, kept_in, kept_of, segment_in, text_of};
 
-use crate::fields::{FILEOFF, NSECTS, SEGMENT_NAME, VMADDR, VMSIZE, has_name};
+use crate::fields::{
+    FILEOFF, NSECTS, SECTION_LENGTH, SEGMENT_LENGTH, SEGMENT_NAME, VMADDR, VMSIZE, has_name,
+};
 use crate::kept::{Kept, Segment, Text};
 use crate::sections::parts_within;
 use crate::standing::Standing;
@@ -16,7 +18,7 @@ const TEXT: &[u8; 16] = b"__TEXT\0\0\0\0\0\0\0\0\0\0";
 const LINKEDIT: &[u8; 16] = b"__LINKEDIT\0\0\0\0\0\0";
 
 #[tactic(auto, unfolding(crate::specs::Keeping::segment_in, crate::specs::Fields::number, plcr_base::specs::Numbers::u32_in, plcr_base::specs::Numbers::u64_in))]
-fn segment_of(front: &[u8; 72]) -> Segment
+fn segment_of(front: &[u8; SEGMENT_LENGTH]) -> Segment
     ensures { result ≡ segment_in front.now }
 {
     Segment {
@@ -29,7 +31,7 @@ fn segment_of(front: &[u8; 72]) -> Segment
 
 // The segment where it is `__LINKEDIT`.
 #[tactic(auto, unfolding(crate::specs::Fields::bytes_of))]
-fn linkedit_of(front: &[u8; 72], segment: Segment) -> Option<Segment>
+fn linkedit_of(front: &[u8; SEGMENT_LENGTH], segment: Segment) -> Option<Segment>
     ensures { result ≡ if is_named segment_name (codes "__LINKEDIT") front.now then Some segment else None }
 {
     if has_name(front, SEGMENT_NAME, LINKEDIT) {
@@ -41,7 +43,12 @@ fn linkedit_of(front: &[u8; 72], segment: Segment) -> Option<Segment>
 
 // The segment with its sections where it is `__TEXT` and none was seen before.
 #[tactic(auto, unfolding(crate::specs::Fields::bytes_of), using(crate::proofs::Segments::text_is, crate::proofs::Fronts::sections_are))]
-fn text_from(command: &Standing, front: &[u8; 72], segment: Segment, seen: bool) -> Option<Text>
+fn text_from(
+    command: &Standing,
+    front: &[u8; SEGMENT_LENGTH],
+    segment: Segment,
+    seen: bool,
+) -> Option<Text>
     requires stands { Stands command.now }
     requires within { 72 + 80 * segment.sections ≤ command.now.head.size }
     requires segment { segment ≡ segment_in (command_of command.now).bytes }
@@ -64,12 +71,12 @@ pub fn segment_kept(command: &Standing, index: u32, before: &Kept) -> Result<Kep
     ensures { result ≡ result_map (first_kept before.now) (kept_in index (command_of command.now)) }
 {
     let size = u64::from(command.head.size);
-    if size < 72 {
+    if size < SEGMENT_LENGTH as u64 {
         return Err(Trouble::Bad { index });
     }
-    let front = command.front::<72>();
+    let front = command.front::<SEGMENT_LENGTH>();
     let segment = segment_of(&front);
-    if size < 72 + 80 * u64::from(segment.sections) {
+    if size < SEGMENT_LENGTH as u64 + SECTION_LENGTH as u64 * u64::from(segment.sections) {
         return Err(Trouble::Bad { index });
     }
     let seen = before.text.is_some();

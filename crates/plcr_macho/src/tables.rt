@@ -1,14 +1,14 @@
 ghost use Rattle.std.specs.Prelude.{◌≡◌, take, drop};
 ghost use Rattle.plcr_macho.specs.Keeping.{Stands, command_of, kept_in, tables_in};
 
-use crate::fields::{NSYMS, STROFF, STRSIZE, SYMOFF, UUID, field_of};
+use crate::fields::{NSYMS, STROFF, STRSIZE, SYMOFF, SYMTAB_LENGTH, UUID, UUID_LENGTH, field_of};
 use crate::kept::{Kept, Tables};
 use crate::standing::Standing;
 use plcr_base::read_u32;
 use plcr_commands::Trouble;
 
 #[tactic(auto, unfolding(crate::specs::Keeping::tables_in, crate::specs::Fields::number, plcr_base::specs::Numbers::u32_in))]
-fn tables_of(front: &[u8; 24]) -> Tables
+fn tables_of(front: &[u8; SYMTAB_LENGTH]) -> Tables
     ensures { result ≡ tables_in front.now }
 {
     Tables {
@@ -19,7 +19,7 @@ fn tables_of(front: &[u8; 24]) -> Tables
     }
 }
 
-fn uuid_of(front: &[u8; 24]) -> [u8; 16]
+fn uuid_of(front: &[u8; UUID_LENGTH]) -> [u8; 16]
     ensures { result ≡ take 16 (drop 8 front.now) }
 {
     let mut uuid = [0; 16];
@@ -33,7 +33,7 @@ pub fn symtab_kept(command: &Standing, index: u32) -> Result<Kept, Trouble>
     requires kind { command.now.head.kind ≡ 2 }
     ensures { result ≡ kept_in index (command_of command.now) }
 {
-    if command.head.size < 24 {
+    if command.head.size < SYMTAB_LENGTH as u32 {
         return Err(Trouble::Bad { index });
     }
     let tables = tables_of(&command.front());
@@ -51,7 +51,7 @@ pub fn uuid_kept(command: &Standing, index: u32) -> Result<Kept, Trouble>
     requires kind { command.now.head.kind ≡ 0x1b }
     ensures { result ≡ kept_in index (command_of command.now) }
 {
-    if command.head.size < 24 {
+    if command.head.size < UUID_LENGTH as u32 {
         return Err(Trouble::Bad { index });
     }
     let uuid = uuid_of(&command.front());

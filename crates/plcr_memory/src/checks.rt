@@ -65,8 +65,8 @@ fn are_apart(regions: &[Region], order: &[Placed], count: usize) -> bool
     true
 }
 
-#[tactic(auto, using(crate::proofs::Halves::halves_start, crate::proofs::Halves::halves_end))]
 // The first region that shares an address with an earlier one, by halves over the length of the front.
+#[tactic(auto, using(crate::proofs::Halves::halves_start, crate::proofs::Halves::halves_end))]
 fn second_of_overlap(regions: &[Region], order: &[Placed]) -> usize
     requires sized { All (λ r. 1 ≤ r.size) regions.now }
     requires order { IsOrder regions.now order.now }
@@ -88,8 +88,8 @@ fn second_of_overlap(regions: &[Region], order: &[Placed]) -> usize
     low
 }
 
-#[tactic(auto, using(crate::proofs::Halves::apart_more))]
 // The first region that shares an address with an earlier one, behind the first such earlier one.
+#[tactic(auto, using(crate::proofs::Halves::apart_more))]
 fn first_overlap(regions: &[Region], order: &[Placed]) -> (usize, usize)
     requires sized { All (λ r. 1 ≤ r.size) regions.now }
     requires order { IsOrder regions.now order.now }

@@ -12,8 +12,8 @@ pub struct Placed {
     pub index: usize,
 }
 
+/// The regions by rising starts.
 #[tactic(auto, using(crate::proofs::Orders::listed_more))]
-// The regions by rising starts.
 pub fn order_of(alloc: Global, regions: &[Region]) -> Result<Vec<Placed>, AllocError>
     ensures { IfOk result (λ order. IsOrder regions.now order.items) }
 {

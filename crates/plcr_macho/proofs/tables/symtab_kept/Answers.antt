@@ -7,5 +7,5 @@ use Rattle.plcr_macho.proofs.tables.symtab_kept.Goals as goal
 pub returns : goal.returns
 returns c =
     let command = command_of c.args.command.now in
-    symtab_kept_is c.args.index command c.tables_of-tables.result c.requires.kind c.if-command-lt24.false
+    symtab_kept_is c.args.index command c.tables_of-tables.result c.requires.kind c.if-command.false
     (c.tables_of-tables.ensures ∙ ap tables_in c.front.ensures ∙ tables_front command.bytes)
