@@ -1,5 +1,5 @@
 -- A change between its steps.
-use Rattle.std.proofs.Common.{◌≡◌, ◌≢◌, inl, inr, ℕ, zero, suc, ◌+◌, ◌<◌, ◌≤◌, List, [], ◌∷◌, length, true, false, eqb, refl, sym, ap, ◌∙◌, subst, arith, ne_eqb, get_or}
+use Rattle.std.proofs.Common.{◌≡◌, ◌≢◌, inl, inr, ℕ, suc, ◌+◌, ◌<◌, ◌≤◌, List, [], ◌∷◌, length, true, false, eqb, refl, sym, ap, ◌∙◌, subst, arith, ne_eqb, get_or}
 use Rattle.plcr_base.specs.Bytes.{IsBytes}
 use Rattle.plcr_machine.specs.declared.image.Image.{Image}
 use Rattle.plcr_machine.specs.Lists.{live, loads, changes}
@@ -14,7 +14,7 @@ use Rattle.plcr_imagelist.specs.declared.change.Task.{Task}
 use Rattle.plcr_imagelist.specs.declared.change.Task.TheVariants.{Load, Unload}
 use Rattle.plcr_imagelist.specs.Keeping.{BooksState}
 use Rattle.plcr_imagelist.specs.States.{WriterState, writer_state, change_step, ChangeState}
-use Rattle.plcr_imagelist.specs.Changes.{IsBegunLoad, begun_load}
+use Rattle.plcr_imagelist.specs.Changes.{IsBegunLoad, begun_load, IsFreeIn}
 use Rattle.plcr_imagelist.specs.Refusing.{FindsRoom}
 use Rattle.plcr_imagelist.specs.Making.{IsMaking, MakesStep, AreStored, doing_of, word_stored, value_stored, IsAtRest}
 use Rattle.plcr_imagelist.proofs.Resting.{loaded_at, unloaded_at, due_linked, due_unlinked, counts-rest}
@@ -142,6 +142,6 @@ begun old b b' header name change view r e =
     subst (λ (s : WriterState). IsBegunLoad s header name change) view
     (subst (λ (c : ChangeState). IsBegunLoad (writer_state b.owner) header name c) (sym e)
     (elim r.how [
-      | inl p ↦ inl (p.0, ap (λ (s : BooksState). begun_load (writer_state s.owner) header name b'.spare b'.owner.filled) p.1)
+      | inl p ↦ inl (subst (λ (s : BooksState). IsFreeIn (writer_state b.owner) s.spare) (sym p.1) p.0, ap (λ (s : BooksState). begun_load (writer_state s.owner) header name b'.spare b'.owner.filled) p.1)
       | inr q ↦ inr (q.0, q.1, r.free, refl)
     ]))

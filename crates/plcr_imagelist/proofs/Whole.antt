@@ -71,7 +71,7 @@ name_counted old header name load node mid new k c =
     let grew : new.names ≡ c.sees.named.0 ++ (name ∷ k.names) = ap (λ (s : WriterState). s.names) c.now ∙ c.sees.named.1 ∙ ap (λ (l : List (List ℕ)). c.sees.named.0 ++ l) there in
     ap (name_of load) grew ∙ name-older load c.sees.named.0 (name ∷ k.names) (omega arith) ∙ name-new load name k.names number
 
-pub loaded_whole : (old ready : WriterState) (header : ℕ) (name : List ℕ) (number node : ℕ) (mid new : WriterState) → HasRoom old ready → IsLoadedAt ready header name number node mid → IsCountedAt mid new → IsAtRest new → IsLoaded old header name number new
+pub loaded_whole : (old ready : WriterState) (header : ℕ) (name : List ℕ) (number node : ℕ) (mid new : WriterState) → HasRoom old node ready → IsLoadedAt ready header name number node mid → IsCountedAt mid new → IsAtRest new → IsLoaded old header name number new
 loaded_whole old ready header name number node mid new room k c rest =
     let own = k.sees.added.owner refl in
     let lists : (live ready.history ≡ live old.history) × (loads ready.history ≡ loads old.history) =
@@ -86,9 +86,9 @@ loaded_whole old ready header name number node mid new room k c rest =
     ] in
     let all = goes_again old mid new (goes_again old ready mid start (loaded_goes ready header name number node mid k)) (counted_goes mid new c) in
     record {
+      node = node;
       ready = ready;
       room = room;
-      node = node;
       linked = mid;
       link = k;
       count = c;

@@ -57,9 +57,9 @@ abbrev pub IsChangedAt : WriterState → Doing → ℕ → ℕ → WriterState �
 IsChangedAt old (Loads header name) load node new = IsLoadedAt old header name load node new
 IsChangedAt old (Unloads image) load node new = IsUnloadedAt old image new
 
--- a node is free
-abbrev pub SomeFree : WriterState → Type 0
-SomeFree s = (n : ℕ) × (0 < n) × (n ≤ s.nodes) × (is_free n s.history ≡ true)
+-- the number is that of a node that is free in what the writer has seen
+abbrev pub IsFreeIn : WriterState → ℕ → Type 0
+IsFreeIn s node = (0 < node) × (node ≤ s.nodes) × (is_free node s.history ≡ true)
 
 -- as many changes were made as a list takes
 abbrev pub IsWorn : WriterState → Type 0
@@ -69,8 +69,8 @@ IsWorn s = changes s.history ≡ 4294967295
 abbrev pub begun_load : WriterState → ℕ → List ℕ → ℕ → List Store → ChangeState
 begun_load s header name node stores = record { writer = s; doing = Loads header name; load = suc (loads s.history); made = 0; node = node; stores = stores }
 
--- a load began: where a node was free at once, or else after one look at the gate
+-- a load began, on a node that was free at once, or else, where none was, on one that is free after one look at the gate
 abbrev pub IsBegunLoad : WriterState → ℕ → List ℕ → ChangeState → Type 0
 IsBegunLoad old header name change =
-    (SomeFree old × (change ≡ begun_load old header name change.node change.stores))
-    ⊎ (NoneFree old.nodes old.history × ((found : ℕ) × IsLookedAt old found change.writer) × SomeFree change.writer × (change ≡ begun_load change.writer header name change.node change.stores))
+    (IsFreeIn old change.node × (change ≡ begun_load old header name change.node change.stores))
+    ⊎ (NoneFree old.nodes old.history × ((found : ℕ) × IsLookedAt old found change.writer) × IsFreeIn change.writer change.node × (change ≡ begun_load change.writer header name change.node change.stores))
