@@ -17,7 +17,8 @@ use Rattle.plcr_imagelist.specs.Making.{IsAtRest, IsMaking, IsReady}
 use Rattle.plcr_imagelist.specs.Holds.{walker_state, images_on, IsHolding, IsOut, EndedAt}
 use Rattle.plcr_imagelist.specs.Tellings.{IsWriterTold, IsWalkerTold, IsHoldTold, IsMet}
 use Rattle.plcr_imagelist.proofs.Owned.{changes_same, counts_same, owes_same, paced_same}
-use Rattle.plcr_imagelist.proofs.Walking.{holding_stays, hold_of, images_stay, before_enter-same, ended_on}
+use Rattle.plcr_imagelist.proofs.Meeting.{images_stay, before_enter-same, ended_on}
+use Rattle.plcr_imagelist.proofs.Walking.{holding_stays, hold_of}
 
 -- books that agree with a history agree with one that went on by entries of others
 agrees_seen : (o : OwnerState) (past : List Entry) (names : List (List ℕ)) (joined : List ℕ) (spares gone : List ℕ) (listed : List Image) (c l : ℕ) → owner_entries past ≡ owner_entries o.history → IsHistory o.nodes o.passes past names
