@@ -7,6 +7,7 @@ pub mod Storing
 pub mod Stepping
 pub mod Finishing
 pub mod Whole
+pub mod Meeting
 pub mod Walking
 pub mod Opened
 pub mod Told

@@ -1,20 +1,24 @@
 -- What the writer knows after a step of its owner.
-use Rattle.std.proofs.Common.{◌≡◌, ℕ, suc, ◌<◌, List, ◌∷◌, true, false, refl, sym, ap, ◌∙◌, subst, arith}
+use Rattle.std.proofs.Common.{◌≡◌, ℕ, suc, ◌<◌, List, ◌∷◌, Some, true, false, refl, sym, ap, ◌∙◌, subst, arith}
 use Rattle.plcr_machine.specs.declared.image.Image.{Image}
 use Rattle.plcr_machine.specs.declared.entry.Entry.{Entry}
 use Rattle.plcr_machine.specs.declared.entry.Entry.TheVariants.{Load}
-use Rattle.plcr_machine.specs.Lists.{loads, changes}
+use Rattle.plcr_machine.specs.Lists.{live, without, loads, changes}
 use Rattle.plcr_machine.specs.Passes.{counts, owes_count, IsPaced}
 use Rattle.plcr_machine.specs.Histories.{IsLegal}
 use Rattle.plcr_machine.proofs.Pace.{changes-paced}
-use Rattle.plcr_nodes.specs.Names.{header_in, name_in}
+use Rattle.plcr_machine.proofs.OnNodes.{IsApart}
+use Rattle.plcr_machine.proofs.Freedom.{live_apart}
+use Rattle.plcr_nodes.specs.Names.{header_in, name_in, stored_elsewhere}
 use Rattle.plcr_nodes.specs.Tokens.{OwnerState, IsLinked}
 use Rattle.plcr_nodes.specs.Unlinking.{IsUnlinked}
 use Rattle.plcr_nodes.specs.Counting.{IsCounted, IsLooked}
-use Rattle.plcr_nodes.proofs.Known.{loads_same}
+use Rattle.plcr_nodes.proofs.Known.{live_same, loads_same}
+use Rattle.plcr_imagelist.specs.Keeping.{first_with}
 use Rattle.plcr_imagelist.specs.States.{writer_state}
 use Rattle.plcr_imagelist.specs.Making.{IsAtRest}
 use Rattle.plcr_imagelist.specs.Changes.{IsLookedAt, IsCountedAt, IsLoadedAt, IsUnloadedAt}
+use Rattle.plcr_imagelist.proofs.Placed.{first_cut}
 use Rattle.plcr_imagelist.proofs.Owned.{changes_same, counts_same, owes_same, paced_same}
 
 pub looked_at : (old : OwnerState) (found : ℕ) (new : OwnerState) → IsLooked old found new → IsLookedAt (writer_state old) found (writer_state new)
@@ -34,12 +38,22 @@ loaded_at old node header load name new k number h n =
       sees = k.sees;
       free = (may.0.0, may.0.1, may.0.2);
       number = same;
-      now = ap writer_state k.now ∙ (λ i. record (writer_state old) { history = Load node (sym same i) (sym h i) ∷ k.past; names = sym n i ∷ k.names });
+      now = ap writer_state k.now ∙ (λ i. record (writer_state old) { history = Load node (sym same i) (sym h i) ∷ k.past; names = sym n i ∷ k.names; stores = stored_elsewhere node old.filled });
       legal = k.legal;
     }
 
-pub unloaded_at : (old : OwnerState) (image : Image) (new : OwnerState) → IsUnlinked old image.node new → IsUnloadedAt (writer_state old) image (writer_state new)
-unloaded_at old image new k = record { past = k.past; names = k.names; sees = k.sees; now = ap writer_state k.now; legal = k.legal }
+pub unloaded_at : (old : OwnerState) (image : Image) (new : OwnerState) → IsUnlinked old image.node new → first_with image.header (live old.history) ≡ Some image → IsUnloadedAt (writer_state old) image (writer_state new)
+unloaded_at old image new k first =
+    let lists = live_same k.past old.history (k.sees.added.owner refl) in
+    let apart = subst (λ (xs : List Image). IsApart xs) lists (live_apart old.nodes old.passes k.past k.sees.legal.legal) in
+    record {
+      past = k.past;
+      names = k.names;
+      sees = k.sees;
+      now = ap writer_state k.now;
+      legal = k.legal;
+      list = ap (λ (s : OwnerState). live s.history) k.now ∙ ap (without image.node) lists ∙ first_cut image.header (live old.history) image apart first;
+    }
 
 -- a look leaves the writer at rest
 pub rest_looked : (old : OwnerState) (found : ℕ) (new : OwnerState) → IsLooked old found new → IsAtRest (writer_state old) → IsAtRest (writer_state new)

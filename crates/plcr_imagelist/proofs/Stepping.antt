@@ -1,5 +1,5 @@
 -- A change between its steps.
-use Rattle.std.proofs.Common.{◌≡◌, ◌≢◌, inl, inr, ℕ, zero, suc, ◌+◌, ◌<◌, ◌≤◌, List, [], ◌∷◌, length, true, false, eqb, refl, sym, ap, ◌∙◌, subst, arith, ne_eqb, get_or}
+use Rattle.std.proofs.Common.{◌≡◌, ◌≢◌, inl, inr, ℕ, suc, ◌+◌, ◌<◌, ◌≤◌, List, [], ◌∷◌, length, true, false, eqb, Some, refl, sym, ap, ◌∙◌, subst, arith, ne_eqb, get_or}
 use Rattle.plcr_base.specs.Bytes.{IsBytes}
 use Rattle.plcr_machine.specs.declared.image.Image.{Image}
 use Rattle.plcr_machine.specs.Lists.{live, loads, changes}
@@ -12,9 +12,9 @@ use Rattle.plcr_nodes.specs.Unlinking.{IsUnlinked}
 use Rattle.plcr_nodes.proofs.Spelling.{no_bytes}
 use Rattle.plcr_imagelist.specs.declared.change.Task.{Task}
 use Rattle.plcr_imagelist.specs.declared.change.Task.TheVariants.{Load, Unload}
-use Rattle.plcr_imagelist.specs.Keeping.{BooksState}
+use Rattle.plcr_imagelist.specs.Keeping.{BooksState, first_with}
 use Rattle.plcr_imagelist.specs.States.{WriterState, writer_state, change_step, ChangeState}
-use Rattle.plcr_imagelist.specs.Changes.{IsBegunLoad, begun_load}
+use Rattle.plcr_imagelist.specs.Changes.{IsBegunLoad, begun_load, IsFreeIn}
 use Rattle.plcr_imagelist.specs.Refusing.{FindsRoom}
 use Rattle.plcr_imagelist.specs.Making.{IsMaking, MakesStep, AreStored, doing_of, word_stored, value_stored, IsAtRest}
 use Rattle.plcr_imagelist.proofs.Resting.{loaded_at, unloaded_at, due_linked, due_unlinked, counts-rest}
@@ -50,7 +50,7 @@ making_stored b b' header name load made m early e =
         owes = (making_rest b (Load header) name load made m (omega arith)).0 ∙ sym (ne_eqb (made + 1) (4 + w) (λ q. omega arith));
         ready = λ _. let r = m.ready (omega arith) in (r.0, r.1, stored_more b.spare header name made b.owner.filled early r.2);
       };
-      before = λ _. (refl, refl, refl);
+      before = λ _. (refl, refl);
       change = λ q. absurd (omega arith);
     })
 
@@ -101,7 +101,7 @@ making_unlinked b b' at image name load made m early k =
         ready = λ early'. absurd (omega arith);
       };
       before = λ other. absurd (other (omega arith));
-      change = λ _. unloaded_at b.owner image b'.owner k;
+      change = λ _. unloaded_at b.owner image b'.owner k (m.ready (omega arith)).2;
     }
 
 -- a change that was just begun
@@ -122,8 +122,8 @@ making_begun_load b header name load r few some short bytes number =
     }
 
 pub making_begun_unload : (b : BooksState) (at : ℕ) (image : Image) (load : ℕ) → IsAtRest (writer_state b.owner) → changes b.owner.history < 4294967295
-    → at < length (live b.owner.history) → image ≡ get_or (live b.owner.history) at image → IsMaking b (Unload at image) [] load 0
-making_begun_unload b at image load r few below is =
+    → at < length (live b.owner.history) → image ≡ get_or (live b.owner.history) at image → first_with image.header (live b.owner.history) ≡ Some image → IsMaking b (Unload at image) [] load 0
+making_begun_unload b at image load r few below is first =
     let same = counts-rest b.owner.history r.paced r.counted in
     record {
       known = r.known;
@@ -133,15 +133,15 @@ making_begun_unload b at image load r few below is =
       most = omega arith;
       fewer = omega arith;
       owes = r.counted;
-      ready = λ _. (below, is);
+      ready = λ _. (below, is, first);
     }
 
-pub begun : (old : WriterState) (b b' : BooksState) (header : ℕ) (name : List ℕ) (change : ChangeState) → writer_state b.owner ≡ old → FindsRoom b b' → change ≡ begun_load (writer_state b'.owner) header name b'.spare b'.owner.filled
+pub begun : (old : WriterState) (b b' : BooksState) (header : ℕ) (name : List ℕ) (change : ChangeState) → writer_state b.owner ≡ old → FindsRoom b b' → change ≡ begun_load (writer_state b'.owner) header name b'.spare
     → IsBegunLoad old header name change
 begun old b b' header name change view r e =
     subst (λ (s : WriterState). IsBegunLoad s header name change) view
     (subst (λ (c : ChangeState). IsBegunLoad (writer_state b.owner) header name c) (sym e)
     (elim r.how [
-      | inl p ↦ inl (p.0, ap (λ (s : BooksState). begun_load (writer_state s.owner) header name b'.spare b'.owner.filled) p.1)
+      | inl p ↦ inl (subst (λ (s : BooksState). IsFreeIn (writer_state b.owner) s.spare) (sym p.1) p.0, ap (λ (s : BooksState). begun_load (writer_state s.owner) header name b'.spare) p.1)
       | inr q ↦ inr (q.0, q.1, r.free, refl)
     ]))

@@ -1,5 +1,5 @@
 -- What a token keeps as it is told.
-use Rattle.std.proofs.Common.{◌≡◌, ℕ, suc, ◌<◌, Bool, List, ◌∷◌, length, not, ◌&&◌, refl, sym, ap, ◌∙◌, subst, get_or}
+use Rattle.std.proofs.Common.{◌≡◌, ℕ, suc, ◌<◌, Bool, List, ◌∷◌, length, Some, not, ◌&&◌, refl, sym, ap, ◌∙◌, subst, get_or}
 use Rattle.plcr_machine.specs.declared.image.Image.{Image}
 use Rattle.plcr_machine.specs.declared.entry.Entry.{Entry}
 use Rattle.plcr_machine.specs.Lists.{has, live}
@@ -11,13 +11,14 @@ use Rattle.plcr_nodes.proofs.Known.{inside_same, live_same, loads_same, free_sam
 use Rattle.plcr_nodes.proofs.Seeing.{own_of}
 use Rattle.plcr_imagelist.specs.declared.change.Task.{Task}
 use Rattle.plcr_imagelist.specs.declared.change.Task.TheVariants.{Load, Unload}
-use Rattle.plcr_imagelist.specs.Keeping.{BooksState, Agrees, is_node, once_where}
+use Rattle.plcr_imagelist.specs.Keeping.{BooksState, Agrees, is_node, once_where, first_with}
 use Rattle.plcr_imagelist.specs.States.{writer_state}
 use Rattle.plcr_imagelist.specs.Making.{IsAtRest, IsMaking, IsReady}
 use Rattle.plcr_imagelist.specs.Holds.{walker_state, images_on, IsHolding, IsOut, EndedAt}
 use Rattle.plcr_imagelist.specs.Tellings.{IsWriterTold, IsWalkerTold, IsHoldTold, IsMet}
 use Rattle.plcr_imagelist.proofs.Owned.{changes_same, counts_same, owes_same, paced_same}
-use Rattle.plcr_imagelist.proofs.Walking.{holding_stays, hold_of, images_stay, before_enter-same, ended_on}
+use Rattle.plcr_imagelist.proofs.Meeting.{images_stay, before_enter-same, ended_on}
+use Rattle.plcr_imagelist.proofs.Walking.{holding_stays, hold_of}
 
 -- books that agree with a history agree with one that went on by entries of others
 agrees_seen : (o : OwnerState) (past : List Entry) (names : List (List ℕ)) (joined : List ℕ) (spares gone : List ℕ) (listed : List Image) (c l : ℕ) → owner_entries past ≡ owner_entries o.history → IsHistory o.nodes o.passes past names
@@ -66,7 +67,7 @@ ready_told : (old : OwnerState) (past : List Entry) (names : List (List ℕ)) (s
 ready_told old past names spare (Load header) name load made own r = (r.0, r.1 ∙ ap suc (sym (loads_same past old.history own)), r.2)
 ready_told old past names spare (Unload at image) name load made own r =
     let lists : live old.history ≡ live past = sym (live_same past old.history own) in
-    (subst (λ (xs : List Image). at < length xs) lists r.0, subst (λ (xs : List Image). image ≡ get_or xs at image) lists r.1)
+    (subst (λ (xs : List Image). at < length xs) lists r.0, subst (λ (xs : List Image). image ≡ get_or xs at image) lists r.1, subst (λ (xs : List Image). first_with image.header xs ≡ Some image) lists r.2)
 
 pub making_told : (b : BooksState) (new : OwnerState) (note : NoteState) (task : Task) (name : List ℕ) (load made : ℕ) → IsOwnerTold b.owner note new → IsMaking b task name load made → IsMaking (record { owner = new; spare = b.spare }) task name load made
 making_told b new note task name load made k m =

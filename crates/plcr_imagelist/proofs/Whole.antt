@@ -71,7 +71,7 @@ name_counted old header name load node mid new k c =
     let grew : new.names ≡ c.sees.named.0 ++ (name ∷ k.names) = ap (λ (s : WriterState). s.names) c.now ∙ c.sees.named.1 ∙ ap (λ (l : List (List ℕ)). c.sees.named.0 ++ l) there in
     ap (name_of load) grew ∙ name-older load c.sees.named.0 (name ∷ k.names) (omega arith) ∙ name-new load name k.names number
 
-pub loaded_whole : (old ready : WriterState) (header : ℕ) (name : List ℕ) (number node : ℕ) (mid new : WriterState) → HasRoom old ready → IsLoadedAt ready header name number node mid → IsCountedAt mid new → IsAtRest new → IsLoaded old header name number new
+pub loaded_whole : (old ready : WriterState) (header : ℕ) (name : List ℕ) (number node : ℕ) (mid new : WriterState) → HasRoom old node ready → IsLoadedAt ready header name number node mid → IsCountedAt mid new → IsAtRest new → IsLoaded old header name number new
 loaded_whole old ready header name number node mid new room k c rest =
     let own = k.sees.added.owner refl in
     let lists : (live ready.history ≡ live old.history) × (loads ready.history ≡ loads old.history) =
@@ -86,9 +86,9 @@ loaded_whole old ready header name number node mid new room k c rest =
     ] in
     let all = goes_again old mid new (goes_again old ready mid start (loaded_goes ready header name number node mid k)) (counted_goes mid new c) in
     record {
+      node = node;
       ready = ready;
       room = room;
-      node = node;
       linked = mid;
       link = k;
       count = c;
@@ -124,18 +124,18 @@ finished_load old header name change new b f =
           (λ g. loaded_whole old change.writer header name (suc (loads change.writer.history)) change.node g.changed new (inr (q.0, q.1, q.2)) g.change g.count g.rest) f
     ]
 
-pub finished_unload : (old : WriterState) (image : Image) (change : ChangeState) (new : WriterState) → change ≡ begun_unload old image change.node change.stores → IsFinished change new → (change.load ≡ image.load) × IsUnloaded old image new
+pub finished_unload : (old : WriterState) (image : Image) (change : ChangeState) (new : WriterState) → change ≡ begun_unload old image change.node → IsFinished change new → (change.load ≡ image.load) × IsUnloaded old image new
 finished_unload old image change new e f =
     subst (λ (c : ChangeState). IsFinished c new → (c.load ≡ image.load) × IsUnloaded old image new) (sym e) (λ g. (refl, unloaded_whole old image g.changed new g.change g.count g.rest)) f
 
 -- whichever image there is
-pub unloads : (old : WriterState) (found : Option Image) (change : ChangeState) (load : ℕ) (new : WriterState) → BeginsUnload old found (Ok change) → IsFinished change new → load ≡ change.load → UnloadsOrRefuses old found new (Ok load)
-unloads old None change load new e f n = absurd e
-unloads old (Some image) change load new e f n = let all = finished_unload old image change new e f in (n ∙ all.0, all.1)
+pub unloads : (old : WriterState) (header : ℕ) (found : Option Image) (change : ChangeState) (load : ℕ) (new : WriterState) → BeginsUnload old header found (Ok change) → IsFinished change new → load ≡ change.load → UnloadsOrRefuses old found new (Ok load)
+unloads old header None change load new e f n = absurd e
+unloads old header (Some image) change load new e f n = let all = finished_unload old image change new e.1 f in (n ∙ all.0, all.1)
 
-pub unload_refused : (old : WriterState) (found : Option Image) (r : WriterState × UnloadRefused) → BeginsUnload old found (Err r) → UnloadsOrRefuses old found r.0 (Err r.1)
-unload_refused old None r e = (ap (λ (q : WriterState × UnloadRefused). q.1) e, ap (λ (q : WriterState × UnloadRefused). q.0) e)
-unload_refused old (Some image) r e = absurd e
+pub unload_refused : (old : WriterState) (header : ℕ) (found : Option Image) (r : WriterState × UnloadRefused) → BeginsUnload old header found (Err r) → UnloadsOrRefuses old found r.0 (Err r.1)
+unload_refused old header None r e = (ap (λ (q : WriterState × UnloadRefused). q.1) e, ap (λ (q : WriterState × UnloadRefused). q.0) e)
+unload_refused old header (Some image) r e = absurd e
 
 -- the image taken out is the first with the header
 pub unloads_first : (old : WriterState) (header : ℕ) (found : Option Image) (load : ℕ) (new : WriterState) → first_with header (live old.history) ≡ found

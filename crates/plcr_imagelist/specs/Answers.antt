@@ -3,7 +3,6 @@ use Rattle.std.specs.Prelude.{◌≡◌, ◌≢◌, ℕ, suc, ◌<◌, ◌≤◌
 use Rattle.atomic_table.specs.Seated.{TableId}
 use Rattle.plcr_machine.specs.declared.image.Image.{Image}
 use Rattle.plcr_machine.specs.declared.entry.Entry.{Entry}
-use Rattle.plcr_nodes.specs.declared.view.Store.{Store}
 use Rattle.plcr_imagelist.specs.declared.refusals.LoadRefused.{LoadRefused}
 use Rattle.plcr_imagelist.specs.declared.refusals.UnloadRefused.{UnloadRefused}
 use Rattle.plcr_imagelist.specs.declared.refusals.UnloadRefused.TheVariants.{NotLoaded}
@@ -11,7 +10,7 @@ use Rattle.plcr_imagelist.specs.declared.change.Progress.{Progress}
 use Rattle.plcr_imagelist.specs.declared.change.Progress.TheVariants.{More, Done}
 use Rattle.plcr_imagelist.specs.Refusing.{RefusesFull}
 use Rattle.plcr_imagelist.specs.States.{WriterState, Unloads, change_step, steps_of, ChangeState}
-use Rattle.plcr_imagelist.specs.Making.{IsAtRest, MakesStore}
+use Rattle.plcr_imagelist.specs.Making.{IsAtRest, MakesStore, OnlyStores}
 use Rattle.plcr_imagelist.specs.Changes.{IsCountedAt, IsChangedAt, IsBegunLoad}
 
 -- a load began, or no node was free
@@ -20,22 +19,22 @@ BeginsLoad old header name (Ok change) = IsBegunLoad old header name change
 BeginsLoad old header name (Err r) = RefusesFull old r.0 r.1
 
 -- an unload that was begun
-abbrev pub begun_unload : WriterState → Image → ℕ → List Store → ChangeState
-begun_unload s image node stores = record { writer = s; doing = Unloads image; load = image.load; made = 0; node = node; stores = stores }
+abbrev pub begun_unload : WriterState → Image → ℕ → ChangeState
+begun_unload s image node = record { writer = s; doing = Unloads image; load = image.load; made = 0; node = node }
 
--- the first image with the header is to go, if there is one
-abbrev pub BeginsUnload : WriterState → Option Image → Result ChangeState (WriterState × UnloadRefused) → Type 0
-BeginsUnload old (Some image) (Ok change) = change ≡ begun_unload old image change.node change.stores
-BeginsUnload old (Some image) (Err r) = ⊥
-BeginsUnload old None (Ok change) = ⊥
-BeginsUnload old None (Err r) = r ≡ (old, NotLoaded)
+-- the first image with the header is to go, if there is one; nothing is done yet
+abbrev pub BeginsUnload : WriterState → ℕ → Option Image → Result ChangeState (WriterState × UnloadRefused) → Type 0
+BeginsUnload old header (Some image) (Ok change) = (image.header ≡ header) × (change ≡ begun_unload old image change.node)
+BeginsUnload old header (Some image) (Err r) = ⊥
+BeginsUnload old header None (Ok change) = ⊥
+BeginsUnload old header None (Err r) = r ≡ (old, NotLoaded)
 
--- one more step was made: the change itself, or one store in the node that a load takes, of which nobody else learns
+-- one more step was made: the change itself, or one store in the node that a load takes, of which nobody else learns. Which node would be taken after the change itself is open
 pub record Advances (old new : ChangeState) : Type 0 where
   pub doing : new.doing ≡ old.doing
   pub load : new.load ≡ old.load
   pub made : new.made ≡ suc old.made
-  pub before : new.made ≢ change_step old.doing → (new.writer ≡ old.writer) × (new.node ≡ old.node) × MakesStore old.doing old.made old.node old.stores new.stores
+  pub before : new.made ≢ change_step old.doing → (new.node ≡ old.node) × MakesStore old.doing old.made old.node old.writer new.writer
   pub change : new.made ≡ change_step old.doing → IsChangedAt old.writer old.doing old.load old.node new.writer
 
 -- what a step says: the last one counts the change
@@ -49,7 +48,7 @@ pub record HasCome (start now : ChangeState) : Type 0 where
   pub doing : now.doing ≡ start.doing
   pub load : now.load ≡ start.load
   pub most : now.made ≤ change_step start.doing
-  pub before : now.made < change_step start.doing → (now.writer ≡ start.writer) × (now.node ≡ start.node)
+  pub before : now.made < change_step start.doing → (now.node ≡ start.node) × OnlyStores start.doing start.node start.writer now.writer
   pub after : now.made ≡ change_step start.doing → IsChangedAt start.writer start.doing start.load start.node now.writer
 
 -- all steps were made: the change itself, and then the count

@@ -3,14 +3,14 @@ use Rattle.std.specs.Prelude.{◌≡◌, ◌⊎◌, ℕ, suc, ◌<◌, ◌≤◌
 use Rattle.plcr_machine.specs.declared.image.Image.{Image}
 use Rattle.plcr_machine.specs.declared.entry.Entry.{Entry}
 use Rattle.plcr_machine.specs.declared.entry.Entry.TheVariants.{Load, Unload, Count, Look}
-use Rattle.plcr_machine.specs.Lists.{loads, changes}
+use Rattle.plcr_machine.specs.Lists.{live, loads, changes}
 use Rattle.plcr_machine.specs.Histories.{IsHistory}
 use Rattle.plcr_machine.specs.Nodes.{is_free}
 use Rattle.plcr_machine.specs.Passes.{readers}
-use Rattle.plcr_nodes.specs.declared.view.Store.{Store}
+use Rattle.plcr_nodes.specs.Names.{stored_elsewhere}
 use Rattle.plcr_nodes.specs.Seeing.{GoesOn}
 use Rattle.plcr_nodes.specs.Rule.{gate_of}
-use Rattle.plcr_imagelist.specs.Keeping.{NoneFree}
+use Rattle.plcr_imagelist.specs.Keeping.{NoneFree, without_first}
 use Rattle.plcr_imagelist.specs.States.{WriterState, Doing, Loads, Unloads, ChangeState}
 
 -- the writer saw more of the history, none of it an entry of a writer or of a pass that it had met
@@ -34,43 +34,44 @@ pub record IsCountedAt (old : WriterState) (new : WriterState) : Type 0 where
   pub now : new ≡ record old { history = Count (readers old.passes past) ∷ past; names = names }
   pub legal : IsHistory new.nodes new.passes new.history new.names
 
--- an image with this name stands at the end of the list, on a node that was free: the change of a load
+-- an image with this name stands at the end of the list, on a node that was free: the change of a load. What was stored in the node is no longer among the stores in free nodes
 pub record IsLoadedAt (old : WriterState) (header : ℕ) (name : List ℕ) (load node : ℕ) (new : WriterState) : Type 0 where
   pub past : List Entry
   pub names : List (List ℕ)
   pub sees : WriterSeesMore old past names
   pub free : (0 < node) × (node ≤ old.nodes) × (is_free node past ≡ true)
   pub number : load ≡ suc (loads past)
-  pub now : new ≡ record old { history = Load node load header ∷ past; names = name ∷ names }
+  pub now : new ≡ record old { history = Load node load header ∷ past; names = name ∷ names; stores = stored_elsewhere node old.stores }
   pub legal : IsHistory new.nodes new.passes new.history new.names
 
--- the image was taken out of the list: the change of an unload
+-- the image, which was the first with its header, was taken out of the list: the change of an unload
 pub record IsUnloadedAt (old : WriterState) (image : Image) (new : WriterState) : Type 0 where
   pub past : List Entry
   pub names : List (List ℕ)
   pub sees : WriterSeesMore old past names
   pub now : new ≡ record old { history = Unload image.node ∷ past; names = names }
   pub legal : IsHistory new.nodes new.passes new.history new.names
+  pub list : live new.history ≡ without_first image.header (live old.history)
 
 -- the change itself was made: a load on this node, or an unload
 abbrev pub IsChangedAt : WriterState → Doing → ℕ → ℕ → WriterState → Type 0
 IsChangedAt old (Loads header name) load node new = IsLoadedAt old header name load node new
 IsChangedAt old (Unloads image) load node new = IsUnloadedAt old image new
 
--- a node is free
-abbrev pub SomeFree : WriterState → Type 0
-SomeFree s = (n : ℕ) × (0 < n) × (n ≤ s.nodes) × (is_free n s.history ≡ true)
+-- the number is that of a node that is free in what the writer has seen
+abbrev pub IsFreeIn : WriterState → ℕ → Type 0
+IsFreeIn s node = (0 < node) × (node ≤ s.nodes) × (is_free node s.history ≡ true)
 
 -- as many changes were made as a list takes
 abbrev pub IsWorn : WriterState → Type 0
 IsWorn s = changes s.history ≡ 4294967295
 
--- a load that was begun
-abbrev pub begun_load : WriterState → ℕ → List ℕ → ℕ → List Store → ChangeState
-begun_load s header name node stores = record { writer = s; doing = Loads header name; load = suc (loads s.history); made = 0; node = node; stores = stores }
+-- a load that was begun, of which no word is stored yet
+abbrev pub begun_load : WriterState → ℕ → List ℕ → ℕ → ChangeState
+begun_load s header name node = record { writer = s; doing = Loads header name; load = suc (loads s.history); made = 0; node = node }
 
--- a load began: where a node was free at once, or else after one look at the gate
+-- a load began, on a node that was free at once, or else, where none was, on one that is free after one look at the gate
 abbrev pub IsBegunLoad : WriterState → ℕ → List ℕ → ChangeState → Type 0
 IsBegunLoad old header name change =
-    (SomeFree old × (change ≡ begun_load old header name change.node change.stores))
-    ⊎ (NoneFree old.nodes old.history × ((found : ℕ) × IsLookedAt old found change.writer) × SomeFree change.writer × (change ≡ begun_load change.writer header name change.node change.stores))
+    (IsFreeIn old change.node × (change ≡ begun_load old header name change.node))
+    ⊎ (NoneFree old.nodes old.history × ((found : ℕ) × IsLookedAt old found change.writer) × IsFreeIn change.writer change.node × (change ≡ begun_load change.writer header name change.node))

@@ -10,3 +10,4 @@ pub mod Opening
 pub mod Tellings
 pub mod Walk
 pub mod SameWalk
+pub mod Lending

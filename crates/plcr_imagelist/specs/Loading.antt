@@ -9,19 +9,19 @@ use Rattle.plcr_imagelist.specs.declared.refusals.UnloadRefused.TheVariants.{Not
 use Rattle.plcr_imagelist.specs.Keeping.{NoneFree}
 use Rattle.plcr_imagelist.specs.States.{WriterState}
 use Rattle.plcr_imagelist.specs.Making.{IsAtRest}
-use Rattle.plcr_imagelist.specs.Changes.{IsLookedAt, IsCountedAt, IsLoadedAt, IsUnloadedAt, SomeFree}
+use Rattle.plcr_imagelist.specs.Changes.{IsLookedAt, IsCountedAt, IsLoadedAt, IsUnloadedAt, IsFreeIn}
 use Rattle.plcr_imagelist.specs.Refusing.{RefusesFull}
 
--- the writer began at once, where a node was free, or else after one look at the gate that found one
-abbrev pub HasRoom : WriterState → WriterState → Type 0
-HasRoom old ready = (SomeFree old × (ready ≡ old)) ⊎ (NoneFree old.nodes old.history × ((found : ℕ) × IsLookedAt old found ready) × SomeFree ready)
+-- the writer began at once, where the node was free, or else, where none was, after one look at the gate that found it free
+abbrev pub HasRoom : WriterState → ℕ → WriterState → Type 0
+HasRoom old node ready = (IsFreeIn old node × (ready ≡ old)) ⊎ (NoneFree old.nodes old.history × ((found : ℕ) × IsLookedAt old found ready) × IsFreeIn ready node)
 
 -- an image with this name stands at the end of the writer's list, and its number is the next
 pub record IsLoaded (old : WriterState) (header : ℕ) (name : List ℕ) (number : ℕ) (new : WriterState) : Type 0 where
-  -- the steps: the writer was ready, the image was linked, and the change was counted
-  pub ready : WriterState
-  pub room : HasRoom old ready
+  -- the steps: the writer was ready with a free node, the image was linked, and the change was counted
   pub node : ℕ
+  pub ready : WriterState
+  pub room : HasRoom old node ready
   pub linked : WriterState
   pub link : IsLoadedAt ready header name number node linked
   pub count : IsCountedAt linked new

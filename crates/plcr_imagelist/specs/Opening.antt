@@ -5,7 +5,7 @@ use Rattle.plcr_imagelist.specs.States.{WriterState}
 use Rattle.plcr_imagelist.specs.Holds.{WalkerState}
 
 abbrev pub opened_writer : TableId → ℕ → ℕ → WriterState
-opened_writer table nodes passes = record { table = table; nodes = nodes; passes = passes; history = []; names = []; joined = [] }
+opened_writer table nodes passes = record { table = table; nodes = nodes; passes = passes; history = []; names = []; joined = []; stores = [] }
 
 abbrev pub opened_walker : TableId → ℕ → ℕ → ℕ → WalkerState
 opened_walker table nodes passes number = record { table = table; nodes = nodes; passes = passes; number = number; history = []; names = [] }

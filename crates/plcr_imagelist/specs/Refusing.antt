@@ -5,7 +5,7 @@ use Rattle.plcr_imagelist.specs.declared.refusals.LoadRefused.{LoadRefused}
 use Rattle.plcr_imagelist.specs.declared.refusals.LoadRefused.TheVariants.{Full, NameTooLong, Worn}
 use Rattle.plcr_imagelist.specs.Keeping.{BooksState, NoneFree, readers_in}
 use Rattle.plcr_imagelist.specs.States.{WriterState, writer_state}
-use Rattle.plcr_imagelist.specs.Changes.{IsLookedAt, SomeFree}
+use Rattle.plcr_imagelist.specs.Changes.{IsLookedAt, IsFreeIn}
 
 -- no node is free, even after one look at the gate
 pub record IsFull (old : WriterState) (lives held seen : ℕ) (new : WriterState) : Type 0 where
@@ -21,8 +21,8 @@ RefusesFull old new (Full lives held seen) = IsFull old lives held seen new
 RefusesFull old new (NameTooLong len) = ⊥
 RefusesFull old new (Worn changes) = ⊥
 
--- a node is free, at once or after one look at the gate
+-- the node that the next load takes is free, at once or after one look at the gate
 pub record FindsRoom (old new : BooksState) : Type 0 where
   pub some : new.spare ≢ 0
-  pub free : SomeFree (writer_state new.owner)
-  pub how : (SomeFree (writer_state old.owner) × (new ≡ old)) ⊎ (NoneFree old.owner.nodes old.owner.history × ((found : ℕ) × IsLookedAt (writer_state old.owner) found (writer_state new.owner)))
+  pub free : IsFreeIn (writer_state new.owner) new.spare
+  pub how : (IsFreeIn (writer_state old.owner) old.spare × (new ≡ old)) ⊎ (NoneFree old.owner.nodes old.owner.history × ((found : ℕ) × IsLookedAt (writer_state old.owner) found (writer_state new.owner)))

@@ -7,7 +7,7 @@ use Rattle.plcr_nodes.specs.declared.view.Store.{Store}
 use Rattle.plcr_nodes.specs.Names.{words_of}
 use Rattle.plcr_nodes.specs.Tokens.{OwnerState}
 
--- what the writer knows: its list with its sizes, the history that it has seen with the names of its loads, and the numbers of the passes that it has met
+-- what the writer knows: its list with its sizes, the history that it has seen with the names of its loads, the numbers of the passes that it has met, and what it has stored in nodes that are still free, the last first
 pub record WriterState : Type 0 where
   pub table : TableId
   pub nodes : ℕ
@@ -15,9 +15,10 @@ pub record WriterState : Type 0 where
   pub history : List Entry
   pub names : List (List ℕ)
   pub joined : List ℕ
+  pub stores : List Store
 
 abbrev pub writer_state : OwnerState → WriterState
-writer_state o = record { table = o.table; nodes = o.nodes; passes = o.passes; history = o.history; names = o.names; joined = o.joined }
+writer_state o = record { table = o.table; nodes = o.nodes; passes = o.passes; history = o.history; names = o.names; joined = o.joined; stores = o.filled }
 
 -- what a change does: it loads an image with a header and a name, or unloads an image of the list
 pub data Doing : Type 0 where
@@ -33,11 +34,10 @@ change_step (Unloads image) = 1
 abbrev pub steps_of : Doing → ℕ
 steps_of doing = suc (change_step doing)
 
--- a change that was begun: what its writer knows, what it does, the number of its image's load, how many steps were made, the free node that is taken next, 0 where there is none, and what was stored in free nodes, the last first
+-- a change that was begun: what its writer knows, what it does, the number of its image's load, how many steps were made, and the free node that is taken next, 0 where there is none
 pub record ChangeState : Type 0 where
   pub writer : WriterState
   pub doing : Doing
   pub load : ℕ
   pub made : ℕ
   pub node : ℕ
-  pub stores : List Store

@@ -158,7 +158,6 @@ impl Books {
     /// Looks at the gate. Where no pass is inside, the nodes that wait are free.
     pub(crate) fn look(&mut self, nodes: &Nodes) -> u64
         requires table { self.old.owner.table ≡ nodes.now }
-
         ensures entry { IsLooked self.old.owner result self.new.owner }
         ensures free { readers_in result ≡ 0 → self.new.spare ≡ 0 → length (live self.new.owner.history) ≡ self.new.owner.nodes }
     {
@@ -216,7 +215,7 @@ impl Books {
 
     /// The first image with a header, with its place in the list.
     pub(crate) fn find(&self, header: u64) -> Option<(usize, Image)>
-        ensures some { IfSome result (λ r. (r.0 < length (live self.now.owner.history)) × (r.1 ≡ slice_index_or (live self.now.owner.history) r.0 r.1) × (first_with header (live self.now.owner.history) ≡ Some r.1)) }
+        ensures some { IfSome result (λ r. (r.0 < length (live self.now.owner.history)) × (r.1 ≡ slice_index_or (live self.now.owner.history) r.0 r.1) × (first_with header (live self.now.owner.history) ≡ Some r.1) × (r.1.header ≡ header)) }
         ensures none { IfNone result (first_with header (live self.now.owner.history) ≡ None) }
     {
         find_header(&self.images, header)
@@ -283,7 +282,7 @@ fn settle(free: &mut Vec<u32>, removed: &mut Vec<u32>, word: u64)
 /// The first image with a header, with its place.
 #[tactic(auto, using(crate::proofs::Placed::first_skip, crate::proofs::Placed::first_here, crate::proofs::Placed::first_none))]
 fn find_header(images: &[Image], header: u64) -> Option<(usize, Image)>
-    ensures some { IfSome result (λ r. (r.0 < length images.now) × (r.1 ≡ slice_index_or images.now r.0 r.1) × (first_with header images.now ≡ Some r.1)) }
+    ensures some { IfSome result (λ r. (r.0 < length images.now) × (r.1 ≡ slice_index_or images.now r.0 r.1) × (first_with header images.now ≡ Some r.1) × (r.1.header ≡ header)) }
     ensures none { IfNone result (first_with header images.now ≡ None) }
 {
     for (at, image) in images.iter().enumerate() {

@@ -43,7 +43,7 @@ impl Model for Change {
 
     ghost use Rattle.plcr_imagelist.specs.Making.{IsMaking, doing_of};
 
-    ghost view = { λ c. record { writer = writer_state c.books.owner; doing = doing_of c.task c.name.items; load = c.load; made = c.made; node = c.books.spare; stores = c.books.owner.filled } };
+    ghost view = { λ c. record { writer = writer_state c.books.owner; doing = doing_of c.task c.name.items; load = c.load; made = c.made; node = c.books.spare } };
 
     ghost invariant = { λ c. IsMaking c.books c.task c.name.items c.load c.made × (1024 ≤ vec_capacity c.name) };
 }

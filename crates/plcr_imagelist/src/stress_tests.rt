@@ -1,17 +1,26 @@
 //! A writer changes the list on one thread while three passes walk it on others until it has ended. Each walk is checked
 //! against the journal of the changes: three loads, and then an unload of the oldest image and a load by turns. So after
-//! each number of changes the list has images with numbers one after the other, and an image's header is its number.
+//! each number of changes the list has images with numbers one after the other, and an image's header is its number. There
+//! are few nodes, so a load may find none free while passes are inside: it is tried until there is one.
 ghost use Rattle.std.specs.Prelude.{◌≡◌, ◌<◌, ◌≤◌, length};
 ghost use Rattle.std.specs.Thread.{IsSync};
 ghost use Rattle.plcr_imagelist.specs.Walk.{images_of};
 
-use crate::{Hold, ImageList, Pass, Window, Writer};
+use crate::tests::count;
+use crate::{Hold, ImageList, LoadRefused, Pass, Window, Writer};
 use plcr_macho::Images;
 use std::test::Fail;
 use std::thread;
 use std::thread::Threads;
 
+/// So few nodes that each is loaded many times over.
+const NODES: u32 = 64;
+
+/// How many changes are made.
 const TOTAL: u32 = 4003;
+
+/// The tries after which a thread gives up, many hours of them.
+const MOST_TRIES: u32 = 1_000_000_000;
 
 // The number of the first image of the list after so many changes.
 fn first_after(changes: u32) -> u32
@@ -59,8 +68,7 @@ fn change_once(list: &ImageList, writer: Writer, done: u32) -> (Writer, bool)
 {
     if done < 3 || done % 2 == 0 {
         let number = last_after(done + 1);
-        let (writer, loaded) = writer.load(list, number as u64, b"x");
-        (writer, loaded == Ok(number))
+        load_at_last(list, writer, number)
     } else {
         let number = first_after(done);
         let (writer, unloaded) = writer.unload(list, number as u64);
@@ -68,14 +76,22 @@ fn change_once(list: &ImageList, writer: Writer, done: u32) -> (Writer, bool)
     }
 }
 
-// How many images were met.
-fn count_met(hold: &mut Hold, list: &ImageList) -> usize
-    requires { hold.old.walker.table ≡ list.now }
-    ensures list { hold.new.walker.table ≡ list.now }
-    ensures met { result ≡ length (images_of hold.new) }
+// Loads the image with this number once a node is free.
+fn load_at_last(list: &ImageList, writer: Writer, number: u32) -> (Writer, bool)
+    requires { writer.table ≡ list.now }
+    ensures { result.0.table ≡ list.now }
 {
-    let images = hold.images(list);
-    images.count()
+    let mut writer = writer;
+    for _ in 0..MOST_TRIES {
+        let (next, loaded) = writer.load(list, number as u64, b"x");
+        writer = next;
+        match loaded {
+            Ok(load) => return (writer, load == number),
+            Err(LoadRefused::Full { .. }) => {}
+            Err(_) => break,
+        }
+    }
+    (writer, false)
 }
 
 // The header of an image that was met.
@@ -103,7 +119,7 @@ fn read(hold: &mut Hold, list: &ImageList) -> Met
     requires { hold.old.walker.table ≡ list.now }
     ensures { hold.new.walker.table ≡ list.now }
 {
-    let count = count_met(hold, list);
+    let count = count(hold, list);
     let mut first = [0; 4];
     let mut last = 0;
     let mut rises = true;
@@ -147,7 +163,7 @@ fn walk_once(list: &ImageList, pass: Pass) -> (Pass, u32, bool)
     ensures { result.0.table ≡ list.now }
 {
     let mut hold = pass.enter(list);
-    for _ in 0..4097 {
+    for _ in 0..NODES + 1 {
         if !hold.next(list) {
             break;
         }
@@ -162,7 +178,7 @@ fn walk_all(list: &ImageList, pass: Pass) -> bool
     requires { pass.table ≡ list.now }
 {
     let mut pass = pass;
-    for _ in 0..1_000_000_000u32 {
+    for _ in 0..MOST_TRIES {
         let (out, high, lawful) = walk_once(list, pass);
         pass = out;
         if !lawful || high == TOTAL {
@@ -172,7 +188,42 @@ fn walk_all(list: &ImageList, pass: Pass) -> bool
     false
 }
 
-// The writer and three passes, each on a thread of its own.
+// Two passes, each on a thread of its own.
+fn walk_both<R: Threads + Sync>(rt: &R, list: &ImageList, first: Pass, second: Pass) -> (bool, bool)
+    requires { (first.table ≡ list.now) × (second.table ≡ list.now) }
+{
+    thread::join(
+        rt,
+        move || -> bool
+            requires { first.table ≡ list.now }
+        { walk_all(list, first) },
+        move || -> bool
+            requires { second.table ≡ list.now }
+        { walk_all(list, second) },
+    )
+}
+
+// A pass and the writer, each on a thread of its own.
+fn walk_beside<R: Threads + Sync>(
+    rt: &R,
+    list: &ImageList,
+    writer: Writer,
+    pass: Pass,
+) -> (bool, bool)
+    requires { (writer.table ≡ list.now) × (pass.table ≡ list.now) }
+{
+    thread::join(
+        rt,
+        move || -> bool
+            requires { writer.table ≡ list.now }
+        { change_all(list, writer) },
+        move || -> bool
+            requires { pass.table ≡ list.now }
+        { walk_all(list, pass) },
+    )
+}
+
+// The writer and three passes. Says whether all changes were made and all walks were lawful.
 fn run<R: Threads + Sync>(
     rt: &R,
     list: &ImageList,
@@ -180,44 +231,25 @@ fn run<R: Threads + Sync>(
     first: Pass,
     second: Pass,
     third: Pass,
-) -> (bool, (bool, (bool, bool)))
+) -> bool
     requires writer { writer.table ≡ list.now }
     requires passes { (first.table ≡ list.now) × (second.table ≡ list.now) × (third.table ≡ list.now) }
 {
-    thread::join(
+    let ((made, one), (two, three)) = thread::join(
         rt,
-        move || -> bool
-            requires { writer.table ≡ list.now }
-        { change_all(list, writer) },
-        move || -> (bool, (bool, bool))
-            requires { IsSync R.row × (first.table ≡ list.now) × (second.table ≡ list.now) × (third.table ≡ list.now) }
-        {
-            thread::join(
-                rt,
-                move || -> bool
-                    requires { first.table ≡ list.now }
-                { walk_all(list, first) },
-                move || -> (bool, bool)
-                    requires { IsSync R.row × (second.table ≡ list.now) × (third.table ≡ list.now) }
-                {
-                    thread::join(
-                        rt,
-                        move || -> bool
-                            requires { second.table ≡ list.now }
-                        { walk_all(list, second) },
-                        move || -> bool
-                            requires { third.table ≡ list.now }
-                        { walk_all(list, third) },
-                    )
-                },
-            )
-        },
-    )
+        move || -> (bool, bool)
+            requires { IsSync R.row × (writer.table ≡ list.now) × (first.table ≡ list.now) }
+        { walk_beside(rt, list, writer, first) },
+        move || -> (bool, bool)
+            requires { IsSync R.row × (second.table ≡ list.now) × (third.table ≡ list.now) }
+        { walk_both(rt, list, second, third) },
+    );
+    made && one && two && three
 }
 
 #[test]
 fn walks_are_lawful_while_the_list_changes(rt: HostRuntime) -> Result<(), Fail> {
-    let Ok((list, writer, mut passes)) = ImageList::open(rt.alloc(), 4096, 3) else {
+    let Ok((list, writer, mut passes)) = ImageList::open(rt.alloc(), NODES, 3) else {
         panic!(rt; "no memory")
     };
     let Some(third) = passes.pop() else {
@@ -229,7 +261,6 @@ fn walks_are_lawful_while_the_list_changes(rt: HostRuntime) -> Result<(), Fail> 
     let Some(first) = passes.pop() else {
         panic!(rt; "no pass")
     };
-    let (made, (one, (two, three))) = run(&rt, &list, writer, first, second, third);
-    assert!(rt; made && one && two && three);
+    assert!(rt; run(&rt, &list, writer, first, second, third));
     Ok(())
 }

@@ -18,14 +18,19 @@ pub struct Walk<'a> {
 }
 
 impl Hold {
-    /// The images met so far, as a list. As the walk ends, the hold is as the walk's last value has it.
+    ghost use Rattle.plcr_imagelist.specs.Lending.{lent_hold, walked_list};
+
+    /// The images met so far, as a list. The walk borrows the hold: once it is dropped, the hold is as the walk's last value
+    /// has it.
     pub fn images<'a>(&'a mut self, list: &'a ImageList) -> Walk<'a>
         requires { self.old.walker.table ≡ list.now }
-        ensures same_reference { result.hold.ghost_name ≡ self.entry.ghost_name }
-        ensures hold { result.hold.now ≡ self.old }
-        ensures list { result.list.now ≡ list.now }
+        ensures same_reference { (lent_hold result).ghost_name ≡ self.entry.ghost_name }
+        ensures hold { (lent_hold result).now ≡ self.old }
+        ensures list { walked_list result ≡ list.now }
+        ensures few { length (images_of self.old) ≤ 4096 }
         ensures short { All (λ image. length image.name ≤ 1024) (images_of self.old) }
     {
+        // The hold has to be read here, so that its invariant is known where it is lent.
         let _ = &self.met;
         Walk { hold: self, list }
     }
@@ -77,11 +82,12 @@ impl Images for Walk<'_> {
     ghost use Rattle.std.specs.Prelude.{◌≡◌};
     ghost use Rattle.std.proofs.Common.{refl, ◌∙◌};
     ghost use Rattle.plcr_imagelist.specs.Walk.{images_of, IsSameWalk};
+    ghost use Rattle.plcr_imagelist.specs.Lending.{lent_hold, walked_list};
     ghost use Rattle.plcr_imagelist.specs.SameWalk.{walk_itself, walk_again};
 
-    ghost images = { λ w. images_of w.hold.now };
+    ghost images = { λ w. images_of (lent_hold w).now };
 
-    ghost follows = { λ x y. (y.hold.ghost_name ≡ x.hold.ghost_name) × (y.list.now ≡ x.list.now) × IsSameWalk x.hold.now y.hold.now };
+    ghost follows = { λ x y. ((lent_hold y).ghost_name ≡ (lent_hold x).ghost_name) × (walked_list y ≡ walked_list x) × IsSameWalk (lent_hold x).now (lent_hold y).now };
 
     fn count(&self) -> usize {
         self.hold.count()

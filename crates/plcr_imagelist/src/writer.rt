@@ -1,5 +1,5 @@
 //! The writer, which loads and unloads images.
-ghost use Rattle.std.specs.Prelude.{◌≡◌, ◌≢◌, ◌<◌, ◌≤◌, length, slice_index_or, vec_capacity, Err, IfOk, IfErr};
+ghost use Rattle.std.specs.Prelude.{◌≡◌, ◌≢◌, ◌<◌, ◌≤◌, length, slice_index_or, vec_capacity, Some, Err, IfOk, IfErr};
 ghost use Rattle.plcr_machine.specs.Lists.{live, changes};
 ghost use Rattle.plcr_machine.specs.Passes.{IsPaced};
 ghost use Rattle.plcr_nodes.specs.Tokens.{IsSized, opened_owner};
@@ -47,7 +47,7 @@ fn start_load(books: Books, kept: Vec<u8>, header: u64, name: &[u8]) -> Change
     requires free { books.spare ≢ 0 }
     requires short { length name.now ≤ 1024 }
     requires room { 1024 ≤ vec_capacity kept }
-    ensures { result ≡ begun_load (writer_state books.owner) header name.now books.spare books.owner.filled }
+    ensures { result ≡ begun_load (writer_state books.owner) header name.now books.spare }
 {
     let load = books.loads() + 1;
     let mut kept = kept;
@@ -70,8 +70,9 @@ fn start_unload(books: Books, kept: Vec<u8>, at: usize, image: Image) -> Change
     requires rest { IsAtRest (writer_state books.owner) }
     requires fresh { changes books.owner.history < 4294967295 }
     requires image { (at < length (live books.owner.history)) × (image ≡ slice_index_or (live books.owner.history) at image) }
+    requires first { first_with image.header (live books.owner.history) ≡ Some image }
     requires room { 1024 ≤ vec_capacity kept }
-    ensures { result ≡ begun_unload (writer_state books.owner) image books.spare books.owner.filled }
+    ensures { result ≡ begun_unload (writer_state books.owner) image books.spare }
 {
     let mut kept = kept;
     kept.clear();
@@ -95,9 +96,9 @@ impl Writer {
         Ok(Writer { books, name })
     }
 
-    /// Begins a load, of which no step is made yet. It looks at the gate once where no node is free. `Worn` comes exactly
-    /// where 4,294,967,295 changes were made, then `NameTooLong` exactly above 1,024 bytes, and `Full` exactly where no
-    /// node is free after that look.
+    /// Begins a load on a free node. No step is made yet and nothing stored, but where no node is free it looks at the
+    /// gate once. `Worn` comes exactly where 4,294,967,295 changes were made, then `NameTooLong` exactly above 1,024
+    /// bytes, and `Full` exactly where no node is free after that look.
     pub fn begin_load(
         self,
         list: &ImageList,
@@ -141,7 +142,7 @@ impl Writer {
     ) -> Result<Change, (Writer, UnloadRefused)>
         requires { self.table ≡ list.now }
         ensures worn { IsWorn self → result ≡ Err (self, UnloadRefused.Worn 4294967295) }
-        ensures begins { ¬ IsWorn self → BeginsUnload self (first_with header (live self.history)) result }
+        ensures begins { ¬ IsWorn self → BeginsUnload self header (first_with header (live self.history)) result }
         ensures open { IfOk result (IsOpen self.table) }
         ensures back { IfErr result (λ r. (r.0.table ≡ self.table) × IsAtRest r.0) }
         ensures paced { IfOk result (λ change. IsPaced change.writer.history) }

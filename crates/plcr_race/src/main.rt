@@ -4,6 +4,8 @@
 
 mod changes;
 mod list;
+#[cfg(test)]
+mod tests;
 mod walks;
 mod words;
 

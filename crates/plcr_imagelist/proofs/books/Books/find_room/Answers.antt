@@ -1,4 +1,6 @@
-use Rattle.std.proofs.Common.{◌∙◌, inr, arith}
+use Rattle.std.proofs.Common.{◌∙◌, inr, arith, subst}
+use Rattle.plcr_imagelist.specs.States.{writer_state}
+use Rattle.plcr_imagelist.specs.Changes.{IsFreeIn}
 use Rattle.plcr_imagelist.proofs.Resting.{looked_at, looked_changes, rest_looked}
 use Rattle.plcr_imagelist.proofs.books.Books.find_room.Goals as goal
 
@@ -8,7 +10,7 @@ returns-then-spare-ne0-2-clause-none c =
     let free = c.spare-2.ensures.free some in
     record {
       some = λ z. some (c.spare-2.ensures.node ∙ z);
-      free = (c.spare-2.result, omega arith, free.0, free.1);
+      free = subst (λ n. IsFreeIn (writer_state c.look-seen.new.self.owner) n) c.spare-2.ensures.node (omega arith, free.0, free.1);
       how = inr (c.spare.ensures.none c.if-spare-ne0.false, (c.look-seen.result, looked_at c.args.self.now.owner c.look-seen.result c.look-seen.new.self.owner c.look-seen.ensures.entry));
     }
 

@@ -1,5 +1,5 @@
 use Rattle.std.proofs.Common.{sym, ap, ◌∙◌, subst}
-use Rattle.plcr_nodes.specs.Tokens.{NoteState, OwnerState}
+use Rattle.plcr_nodes.specs.Tokens.{NoteState}
 use Rattle.plcr_imagelist.specs.Keeping.{BooksState}
 use Rattle.plcr_imagelist.specs.States.{writer_state, ChangeState}
 use Rattle.plcr_imagelist.specs.Making.{IsMaking, doing_of}
@@ -21,10 +21,9 @@ returns-clause-told c =
     let h = c.self.inside in
     let new = writer_state c.told.new.self.owner in
     let told = writer_told h.books.owner c.note.inside.note c.told.new.self.owner c.told.ensures.told in
-    let filled = ap (λ (s : OwnerState). s.filled) c.told.ensures.told.now in
     record {
       writer = subst (λ (n : NoteState). IsWriterTold c.args.self.now.writer n new) c.note.view_is (subst (λ (s : ChangeState). IsWriterTold s.writer c.note.inside.note new) c.self.view_is told);
-      same = (λ i. record { writer = new; doing = doing_of h.task h.name.items; load = h.load; made = h.made; node = c.told.ensures.spare i; stores = filled i }) ∙ ap (λ (s : ChangeState). record s { writer = new }) c.self.view_is;
+      same = (λ i. record { writer = new; doing = doing_of h.task h.name.items; load = h.load; made = h.made; node = c.told.ensures.spare i }) ∙ ap (λ (s : ChangeState). record s { writer = new }) c.self.view_is;
     }
 
 pub returns-clause-paced : goal.returns-clause-paced

@@ -4,7 +4,8 @@ use Rattle.plcr_nodes.specs.Entries.{among}
 use Rattle.plcr_nodes.specs.Tokens.{PassState, IsFollowed}
 use Rattle.plcr_imagelist.specs.Keeping.{last_of}
 use Rattle.plcr_imagelist.specs.Holds.{HoldState, IsHolding, IsNext, IsWalking}
-use Rattle.plcr_imagelist.proofs.Walking.{among_last, hold_of, holding_ended, next_ended, holding_met, next_met, length-images_on}
+use Rattle.plcr_imagelist.proofs.Meeting.{among_last, length-images_on}
+use Rattle.plcr_imagelist.proofs.Walking.{hold_of, holding_ended, next_ended, holding_met, next_met}
 use Rattle.plcr_imagelist.proofs.hold.Hold.next.Goals as goal
 
 pub next_link-found-requires-clause-known : goal.next_link-found-requires-clause-known

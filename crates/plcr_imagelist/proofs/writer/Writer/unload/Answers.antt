@@ -6,12 +6,12 @@ use Rattle.plcr_imagelist.proofs.writer.Writer.unload.Goals as goal
 
 pub returns-in-Ok-clause-unloads : goal.returns-in-Ok-clause-unloads
 returns-in-Ok-clause-unloads c = λ fresh.
-    unloads c.args.self (first_with c.args.header (live c.args.self.history)) c.in-Ok.change c.load-load.result c.finish.result (c.in-Ok.ensures.begins fresh) c.finish.ensures.finished c.load-load.ensures
+    unloads c.args.self c.args.header (first_with c.args.header (live c.args.self.history)) c.in-Ok.change c.load-load.result c.finish.result (c.in-Ok.ensures.begins fresh) c.finish.ensures.finished c.load-load.ensures
 
 pub returns-in-Ok-clause-first : goal.returns-in-Ok-clause-first
 returns-in-Ok-clause-first c = λ fresh.
     unloads_first c.args.self c.args.header (first_with c.args.header (live c.args.self.history)) c.load-load.result c.finish.result refl
-    (unloads c.args.self (first_with c.args.header (live c.args.self.history)) c.in-Ok.change c.load-load.result c.finish.result (c.in-Ok.ensures.begins fresh) c.finish.ensures.finished c.load-load.ensures)
+    (unloads c.args.self c.args.header (first_with c.args.header (live c.args.self.history)) c.in-Ok.change c.load-load.result c.finish.result (c.in-Ok.ensures.begins fresh) c.finish.ensures.finished c.load-load.ensures)
 
 pub returns-in-Err-clause-unloads : goal.returns-in-Err-clause-unloads
-returns-in-Err-clause-unloads c = λ fresh. unload_refused c.args.self (first_with c.args.header (live c.args.self.history)) (c.in-Err.writer, c.in-Err.refused) (c.in-Err.ensures.begins fresh)
+returns-in-Err-clause-unloads c = λ fresh. unload_refused c.args.self c.args.header (first_with c.args.header (live c.args.self.history)) (c.in-Err.writer, c.in-Err.refused) (c.in-Err.ensures.begins fresh)

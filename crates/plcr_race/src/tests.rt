@@ -1,0 +1,63 @@
+//! A hold lends the images that it has met to whoever reads such a list, and then comes out.
+ghost use Rattle.std.specs.Prelude.{◌≡◌, ◌<◌, ◌≤◌, ◌^◌, length, All, IfSome, IfNone};
+ghost use Rattle.plcr_macho.specs.Images.{Listed, listed_at};
+ghost use Rattle.plcr_imagelist.specs.Walk.{images_of, IsSameWalk};
+
+use crate::list::{fill, open};
+use plcr_imagelist::{Hold, ImageList, Pass, Window};
+use plcr_macho::Images;
+use std::test::Fail;
+
+// The header of the first of any images, which are few and have short names, if there is one.
+fn first_header<I: Images>(images: &mut I) -> Option<u64>
+    requires few { length (I.images images.old) < 2 ^ 32 }
+    requires short { All (λ (image : Listed). length image.name ≤ 1024) (I.images images.old) }
+    ensures some { IfSome result (λ header. header ≡ (listed_at (I.images images.old) 0).header) }
+    ensures none { IfNone result (length (I.images images.old) ≡ 0) }
+    ensures same { I.images images.new ≡ I.images images.old }
+    ensures follows { I.follows images.old images.new }
+{
+    if images.count() == 0 {
+        return None;
+    }
+    Some(images.header(0))
+}
+
+// The same of the images that a hold has met. Its walk stays as it was.
+fn first_met(hold: &mut Hold, list: &ImageList) -> Option<u64>
+    requires { hold.old.walker.table ≡ list.now }
+    ensures some { IfSome result (λ header. header ≡ (listed_at (images_of hold.old) 0).header) }
+    ensures none { IfNone result (length (images_of hold.old) ≡ 0) }
+    ensures same { IsSameWalk hold.old hold.new }
+{
+    first_header(&mut hold.images(list))
+}
+
+// Goes in, walks to the end, reads what was met twice over, and comes out.
+fn visit(list: &ImageList, pass: Pass) -> (Option<u64>, Option<u64>, Window)
+    requires { pass.table ≡ list.now }
+{
+    let mut hold = pass.enter(list);
+    for _ in 0..9 {
+        if !hold.next(list) {
+            break;
+        }
+    }
+    let lent = first_header(&mut hold.images(list));
+    let met = first_met(&mut hold, list);
+    let (_, window) = hold.leave(list);
+    (lent, met, window)
+}
+
+#[test]
+fn a_hold_lends_what_it_met(rt: HostRuntime) -> Result<(), Fail> {
+    let (list, writer, mut passes) = open(rt.alloc(), 4, 1)?;
+    let Some(pass) = passes.pop() else {
+        panic!(rt; "no pass")
+    };
+    let _ = fill(&list, writer, 3);
+    let (lent, met, window) = visit(&list, pass);
+    assert_eq!(rt; (lent, met), (Some(1), Some(1)));
+    assert_eq!(rt; window, Window { low: 3, high: 3 });
+    Ok(())
+}
