@@ -16,7 +16,7 @@ use Rattle.plcr_decode.specs.Scan.{fits, inside, Step, step_at, scan}
 use Rattle.plcr_decode.specs.Required.{each_whole}
 use Rattle.plcr_decode.proofs.Listed.{fields_none, fields_step}
 use Rattle.plcr_decode.proofs.Scans.{scan_none, scan_more}
-use Rattle.plcr_decode.proofs.Smaller.{field_smaller}
+use Rattle.plcr_wire.proofs.Smaller.{field_smaller}
 
 -- a field that is read again, and has no fault in its message
 pub record IsGood (kind : Kind) (f : Field) : Type 0 where

@@ -1,4 +1,3 @@
-pub mod Smaller
 pub mod Scans
 pub mod Listed
 pub mod Kept

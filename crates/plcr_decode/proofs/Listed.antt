@@ -5,7 +5,7 @@ use Rattle.plcr_wire.specs.Message.{Value, Field, value_bytes}
 use Rattle.plcr_wire.specs.Reading.{field_at, number_at}
 use Rattle.plcr_wire.specs.declared.fields.WireFault.{WireFault}
 use Rattle.plcr_decode.specs.Fields.{front_of, fields_within, fields_of, messages_in, together, joined, last_or, is_there, has}
-use Rattle.plcr_decode.proofs.Smaller.{field_smaller}
+use Rattle.plcr_wire.proofs.Smaller.{field_smaller}
 
 -- what follows a field may be listed by any number of steps that is enough
 front_same : (r : Result (Field × List ℕ) WireFault) (f g : List ℕ → List Field) → ((x : Field × List ℕ) → r ≡ Ok x → f x.1 ≡ g x.1) → front_of f r ≡ front_of g r

@@ -4,7 +4,7 @@ use Rattle.plcr_wire.specs.Message.{Value, value_bytes}
 use Rattle.plcr_base.specs.Chains.{◌>>=◌}
 use Rattle.plcr_wire.specs.Reading.{field_at}
 use Rattle.plcr_base.proofs.Chained.{bind_ok}
-use Rattle.plcr_wire.proofs.Places.{ok_is}
+use Rattle.plcr_wire.proofs.Places.{ok_is, chosen}
 use Rattle.plcr_wire.specs.declared.fields.WireFault.{WireFault}
 use Rattle.plcr_report.specs.Schema.{rule}
 use Rattle.plcr_report.specs.declared.kinds.Kind.{Kind}
@@ -13,7 +13,7 @@ use Rattle.plcr_report.specs.declared.kinds.Holds.TheVariants as holds
 use Rattle.plcr_decode.specs.declared.faults.DecodeFault.{DecodeFault}
 use Rattle.plcr_decode.specs.declared.faults.DecodeFault.TheVariants.{WrongWire}
 use Rattle.plcr_decode.specs.Scan.{lifted, fits, inside, Step, step_at, scan_within, scan}
-use Rattle.plcr_decode.proofs.Smaller.{chosen, field_smaller}
+use Rattle.plcr_wire.proofs.Smaller.{field_smaller}
 
 -- two chains agree where their first results do, and what follows an Ok
 pub bind_same : {A B E : Type 0} (r : Result A E) (f g : A → Result B E) → ((x : A) → r ≡ Ok x → f x ≡ g x) → (r >>= f) ≡ (r >>= g)

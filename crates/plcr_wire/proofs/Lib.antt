@@ -7,3 +7,5 @@ pub mod Groups
 pub mod ReadAgain
 pub mod Places
 pub mod ReadVarints
+pub mod Smaller
+pub mod AnyEnd

@@ -1,17 +1,20 @@
 -- Where a field that was read stands in the bytes that it was read from.
-use Rattle.std.proofs.Common.{◌≡◌, ◌⊎◌, inl, inr, ℕ, zero, suc, ◌+◌, ◌-◌, ◌*◌, ◌/◌, ◌%◌, ◌≤◌, List, [], ◌∷◌, ◌++◌, length, take, drop, slice_range, Result, Ok, Err, Bool, cond, nat_lt, true, false, refl, sym, ap, subst, ◌∙◌, append_assoc, append-nil, length-append, length-take, length-drop, take-append-drop, arith}
+use Rattle.std.proofs.Common.{◌≡◌, ◌⊎◌, inl, inr, ℕ, zero, suc, ◌+◌, ◌-◌, ◌*◌, ◌/◌, ◌≤◌, List, [], ◌∷◌, ◌++◌, length, take, drop, slice_range, Some, Result, Ok, Err, ok_or, Bool, cond, nat_lt, true, false, refl, sym, ap, subst, ◌∙◌, append_assoc, append-nil, length-append, length-take, length-drop, take-append-drop, arith}
 use Rattle.std.proofs.lemmas.List.{take_at, drop_at}
 use Rattle.std.proofs.lemmas.List.Folds.{drop_split}
 use Rattle.std.specs.Int.{Width, w32, w64, byte_len}
 use Rattle.plcr_wire.specs.Message.{Number, Fixed64, Bytes, Fixed32, value_bytes}
 use Rattle.plcr_wire.specs.Message as message
 use Rattle.plcr_base.specs.Chains.{◌>>=◌}
-use Rattle.plcr_base.proofs.Chained.{bind_ok}
-use Rattle.plcr_wire.specs.Reading.{varint_at, number_at, fixed_at, text_at, value_at, field_at, found_at, placed, value_in, Stands, is_tag, EndsWith}
+use Rattle.plcr_base.proofs.Chained.{bind_ok, ok_or_ok}
+use Rattle.plcr_wire.specs.Reading.{varint_at, number_at, fixed_at, text_at, value_at, field_at, found_at, placed, value_in, Stands, wire_of, EndsWith}
+use Rattle.plcr_wire.specs.declared.wires.Wire.{Wire}
+use Rattle.plcr_wire.specs.declared.wires.Wire.TheVariants as wires
 use Rattle.plcr_wire.specs.declared.fields.Field.{Field}
 use Rattle.plcr_wire.specs.declared.fields.WireFault.TheVariants.{Truncated, BadTag}
 
-chosen : {A : Type 0} (b : Bool) (x y z : A) → cond b x y ≡ z → (x ≡ z) ⊎ (y ≡ z)
+-- one of the two sides of a test
+pub chosen : {A : Type 0} (b : Bool) (x y z : A) → cond b x y ≡ z → (x ≡ z) ⊎ (y ≡ z)
 chosen true x y z h = inl h
 chosen false x y z h = inr h
 
@@ -66,32 +69,44 @@ text_ends end bytes t h =
           (subst (EndsWith bytes) (sym (take-append-drop n.0.0 n.0.1)) (number_ends end bytes n.0 n.1))
     ]
 
-value_ends : (end wire : ℕ) (bytes : List ℕ) (v : message.Value × List ℕ) → value_at end wire bytes ≡ Ok v → EndsWith bytes (value_bytes v.0 ++ v.1)
+value_ends : (end : ℕ) (wire : Wire) (bytes : List ℕ) (v : message.Value × List ℕ) → value_at end wire bytes ≡ Ok v → EndsWith bytes (value_bytes v.0 ++ v.1)
 unfolding value_at
-value_ends end zero bytes v h =
+value_ends end wires.Number bytes v h =
     let n = bind_ok (number_at end bytes) (λ n. Ok (Number n.0, n.1)) v h in
     subst (λ (v : message.Value × List ℕ). EndsWith bytes (value_bytes v.0 ++ v.1)) (ok_is _ _ n.2) (number_ends end bytes n.0 n.1)
-value_ends end (suc zero) bytes v h =
+value_ends end wires.Fixed64 bytes v h =
     let n = bind_ok (fixed_at w64 end bytes) (λ n. Ok (Fixed64 n.0, n.1)) v h in
     subst (λ (v : message.Value × List ℕ). EndsWith bytes (value_bytes v.0 ++ v.1)) (ok_is _ _ n.2) (fixed_ends w64 end bytes n.0 n.1)
-value_ends end (suc (suc zero)) bytes v h =
+value_ends end wires.Bytes bytes v h =
     let t = bind_ok (text_at end bytes) (λ t. Ok (Bytes t.0, t.1)) v h in
     subst (λ (v : message.Value × List ℕ). EndsWith bytes (value_bytes v.0 ++ v.1)) (ok_is _ _ t.2) (text_ends end bytes t.0 t.1)
-value_ends end (suc (suc (suc wire))) bytes v h =
+value_ends end wires.Fixed32 bytes v h =
     let n = bind_ok (fixed_at w32 end bytes) (λ n. Ok (Fixed32 n.0, n.1)) v h in
     subst (λ (v : message.Value × List ℕ). EndsWith bytes (value_bytes v.0 ++ v.1)) (ok_is _ _ n.2) (fixed_ends w32 end bytes n.0 n.1)
 
-pub field_ends : (end : ℕ) (bytes : List ℕ) (f : message.Field × List ℕ) → field_at end bytes ≡ Ok f → EndsWith bytes (value_bytes f.0.value ++ f.1)
+-- the steps by which a field was read: its tag, the wire type that the tag names, and the value
+pub record FieldSteps (end : ℕ) (bytes : List ℕ) (f : message.Field × List ℕ) : Type 0 where
+  pub tag : ℕ × List ℕ
+  pub wire : Wire
+  pub value : message.Value × List ℕ
+  pub tag_read : number_at end bytes ≡ Ok tag
+  pub wire_is : wire_of tag.0 ≡ Some wire
+  pub value_read : value_at end wire tag.1 ≡ Ok value
+  pub whole : ◌≡◌ {A = message.Field × List ℕ} (record { number = tag.0 / 8; value = value.0 }, value.1) f
+
+pub field_steps : (end : ℕ) (bytes : List ℕ) (f : message.Field × List ℕ) → field_at end bytes ≡ Ok f → FieldSteps end bytes f
 unfolding field_at
+field_steps end bytes f h =
+    let t = bind_ok (number_at end bytes) (λ t. ok_or (wire_of t.0) (BadTag (end - length bytes)) >>= λ wire. value_at end wire t.1 >>= λ v. Ok (record { number = t.0 / 8; value = v.0 }, v.1)) f h in
+    let w = bind_ok (ok_or (wire_of t.0.0) (BadTag (end - length bytes))) (λ wire. value_at end wire t.0.1 >>= λ v. Ok (record { number = t.0.0 / 8; value = v.0 }, v.1)) f t.2 in
+    let v = bind_ok (value_at end w.0 t.0.1) (λ v. Ok (record { number = t.0.0 / 8; value = v.0 }, v.1)) f w.2 in
+    record { tag = t.0; wire = w.0; value = v.0; tag_read = t.1; wire_is = ok_or_ok (wire_of t.0.0) (BadTag (end - length bytes)) w.0 w.1; value_read = v.1; whole = ok_is (record { number = t.0.0 / 8; value = v.0.0 }, v.0.1) f v.2 }
+
+pub field_ends : (end : ℕ) (bytes : List ℕ) (f : message.Field × List ℕ) → field_at end bytes ≡ Ok f → EndsWith bytes (value_bytes f.0.value ++ f.1)
 field_ends end bytes f h =
-    let t = bind_ok (number_at end bytes) (λ t. cond (is_tag t.0) (value_at end (t.0 % 8) t.1 >>= λ v. Ok (record { number = t.0 / 8; value = v.0 }, v.1)) (Err (BadTag (end - length bytes)))) f h in
-    elim (chosen (is_tag t.0.0) _ _ _ t.2) [
-      | inl e ↦
-          let v = bind_ok (value_at end (t.0.0 % 8) t.0.1) (λ v. Ok (record { number = t.0.0 / 8; value = v.0 }, v.1)) f e in
-          subst (λ (f : message.Field × List ℕ). EndsWith bytes (value_bytes f.0.value ++ f.1)) (ok_is _ _ v.2)
-          (ends_twice bytes t.0.1 (value_bytes v.0.0 ++ v.0.1) (number_ends end bytes t.0 t.1) (value_ends end (t.0.0 % 8) t.0.1 v.0 v.1))
-      | inr e ↦ absurd (cc)
-    ]
+    let s = field_steps end bytes f h in
+    subst (λ (f : message.Field × List ℕ). EndsWith bytes (value_bytes f.0.value ++ f.1)) s.whole
+    (ends_twice bytes s.tag.1 (value_bytes s.value.0 ++ s.value.1) (number_ends end bytes s.tag s.tag_read) (value_ends end s.wire s.tag.1 s.value s.value_read))
 
 -- the middle of three parts
 range_mid : (xs a t b : List ℕ) (i j : ℕ) → xs ≡ a ++ (t ++ b) → i ≡ length a → j ≡ length a + length t → slice_range xs i j ≡ t

@@ -1,5 +1,5 @@
 -- What is spelled is read again, whatever follows it.
-use Rattle.std.proofs.Common.{Bool, ◌≡◌, ◌⊎◌, inl, inr, ℕ, zero, suc, ◌+◌, ◌-◌, ◌*◌, ◌/◌, ◌%◌, ◌^◌, ◌<◌, ◌≤◌, List, ◌++◌, length, Ok, cond, nat_lt, true, false, refl, ap, ◌∙◌, append_assoc, length-append, pow-suc, arith}
+use Rattle.std.proofs.Common.{◌≡◌, ◌⊎◌, inl, inr, ℕ, zero, suc, ◌+◌, ◌-◌, ◌*◌, ◌/◌, ◌%◌, ◌^◌, ◌<◌, ◌≤◌, ◌||◌, List, ◌++◌, length, Some, Ok, cond, nat_lt, refl, ap, ◌∙◌, append_assoc, length-append, pow-suc, arith}
 use Rattle.std.proofs.lemmas.Bool.Decides.{nat_tests}
 use Rattle.std.proofs.lemmas.List.{take_at, drop_at}
 use Rattle.std.proofs.lemmas.Nat.{from_le_bytes-to_le_bytes_4, from_le_bytes-to_le_bytes_8}
@@ -7,7 +7,9 @@ use Rattle.std.specs.Int.{w32, w64, to_le_bytes}
 use Rattle.plcr_wire.specs.Varint.{varint, tag}
 use Rattle.plcr_wire.specs.Message.{Value, Number, Fixed64, Bytes, Fixed32, Field, wire_type, value_spelling, field_spelling, FitsValue, FitsField}
 use Rattle.plcr_base.specs.Chains.{◌>>=◌}
-use Rattle.plcr_wire.specs.Reading.{varint_at, number_at, fixed_at, text_at, value_at, field_at, is_tag}
+use Rattle.plcr_wire.specs.Reading.{varint_at, number_at, fixed_at, text_at, value_at, field_at, wire_of, wire_named}
+use Rattle.plcr_wire.specs.declared.wires.Wire.{Wire}
+use Rattle.plcr_wire.specs.declared.wires.Wire.TheVariants as wires
 use Rattle.plcr_wire.proofs.Varints.{varint_small, varint_large}
 
 small_or_large : (n : ℕ) → (n < 128) ⊎ (128 ≤ n)
@@ -55,39 +57,48 @@ text_again end bytes rest h =
     (long_enough (length (bytes ++ rest)) (length bytes) _ _ (let e = length-append bytes rest in omega (arith, e))
     ∙ rw (take_at bytes rest (length bytes) refl, drop_at bytes rest (length bytes) refl) refl)
 
-value_again : (end : ℕ) (v : Value) (rest : List ℕ) → FitsValue v → value_at end (wire_type v) (value_spelling v ++ rest) ≡ Ok (v, rest)
+-- the wire type of a value
+abbrev wire_in : Value → Wire
+wire_in (Number n) = wires.Number
+wire_in (Fixed64 n) = wires.Fixed64
+wire_in (Bytes bytes) = wires.Bytes
+wire_in (Fixed32 n) = wires.Fixed32
+
+value_again : (end : ℕ) (v : Value) (rest : List ℕ) → FitsValue v → value_at end (wire_in v) (value_spelling v ++ rest) ≡ Ok (v, rest)
 unfolding value_at
 value_again end (Number n) rest h = rw (number_again n end rest h) refl
 value_again end (Fixed64 n) rest h = ap (λ r. r >>= λ m. Ok (Fixed64 m.0, m.1)) (fixed64_again n end rest h)
 value_again end (Bytes bytes) rest h = ap (λ r. r >>= λ m. Ok (Bytes m.0, m.1)) (text_again end bytes rest h)
 value_again end (Fixed32 n) rest h = ap (λ r. r >>= λ m. Ok (Fixed32 m.0, m.1)) (fixed32_again n end rest h)
 
-wire_of : (v : Value) → (wire_type v ≡ 0) ⊎ ((wire_type v ≡ 1) ⊎ ((wire_type v ≡ 2) ⊎ (wire_type v ≡ 5)))
-wire_of (Number n) = inl refl
-wire_of (Fixed64 n) = inr (inl refl)
-wire_of (Bytes bytes) = inr (inr (inl refl))
-wire_of (Fixed32 n) = inr (inr (inr refl))
+wire_named_again : (v : Value) → wire_named (wire_type v) ≡ Some (wire_in v)
+wire_named_again (Number n) = refl
+wire_named_again (Fixed64 n) = refl
+wire_named_again (Bytes bytes) = refl
+wire_named_again (Fixed32 n) = refl
 
-tag_is : (field : ℕ) (wire : ℕ) → 0 < field → field < 2 ^ 29 → (wire ≡ 0) ⊎ ((wire ≡ 1) ⊎ ((wire ≡ 2) ⊎ (wire ≡ 5))) → is_tag (field * 8 + wire) ≡ true
-tag_is field wire some within which = grind (arith, nat_tests)
+wire_small : (v : Value) → wire_type v < 8
+wire_small (Number n) = omega arith
+wire_small (Fixed64 n) = omega arith
+wire_small (Bytes bytes) = omega arith
+wire_small (Fixed32 n) = omega arith
 
-wire_small : (wire : ℕ) → (wire ≡ 0) ⊎ ((wire ≡ 1) ⊎ ((wire ≡ 2) ⊎ (wire ≡ 5))) → wire < 8
-wire_small wire which = grind arith
+within_tags : (t : ℕ) {A : Type 0} (x y : A) → 8 ≤ t → t < 2 ^ 32 → cond (nat_lt t 8 || nat_lt (2 ^ 32 - 1) t) x y ≡ y
+within_tags t x y some within = grind (arith, nat_tests)
 
-if_true : (b : Bool) {A : Type 0} (x y : A) → b ≡ true → cond b x y ≡ x
-if_true true x y h = refl
-if_true false x y h = absurd (cc)
+wire_again : (field : ℕ) (v : Value) → 0 < field → field < 2 ^ 29 → wire_of (field * 8 + wire_type v) ≡ Some (wire_in v)
+wire_again field v some within =
+    let small = wire_small v in
+    let low : (field * 8 + wire_type v) % 8 ≡ wire_type v = omega (arith, small) in
+    within_tags (field * 8 + wire_type v) _ _ (omega arith) (omega (arith, small)) ∙ ap wire_named low ∙ wire_named_again v
 
 pub field_again : (end : ℕ) (f : Field) (rest : List ℕ) → FitsField f → field_at end (field_spelling f ++ rest) ≡ Ok (f, rest)
 unfolding field_at field_spelling tag
 field_again end f rest fits =
     let w = wire_type f.value in
     let t = f.number * 8 + w in
-    let small = wire_small w (wire_of f.value) in
+    let small = wire_small f.value in
     let number : t / 8 ≡ f.number = omega (arith, small) in
-    let wire : t % 8 ≡ w = omega (arith, small) in
     let below : t < 2 ^ 64 = let within = fits.within in omega (arith, small, within) in
     let after = value_spelling f.value ++ rest in
-    rw (append_assoc (varint t) (value_spelling f.value) rest, number_again t end after below)
-    (if_true (is_tag t) _ _ (tag_is f.number w fits.some fits.within (wire_of f.value))
-    ∙ rw (wire, number, value_again end f.value rest fits.fits) refl)
+    rw (append_assoc (varint t) (value_spelling f.value) rest, number_again t end after below, wire_again f.number f.value fits.some fits.within, number, value_again end f.value rest fits.fits) refl

@@ -1,6 +1,6 @@
 -- Reading one field from the left, with the first fault that is met (Protocol Buffers documentation, "Encoding").
 -- Only the end of the message is passed down: a list that is left begins at `end - length bytes`.
-use Rattle.std.specs.Prelude.{◌≡◌, ◌≤◌, ℕ, Bool, zero, suc, ◌+◌, ◌-◌, ◌*◌, ◌/◌, ◌%◌, ◌^◌, ◌&&◌, ◌||◌, ◌==◌, List, [], ◌∷◌, ◌++◌, length, take, drop, slice_range, Result, Ok, Err, nat_lt, if◌then◌else◌}
+use Rattle.std.specs.Prelude.{◌≡◌, ◌≤◌, ℕ, Option, Some, None, ok_or, zero, suc, ◌+◌, ◌-◌, ◌*◌, ◌/◌, ◌%◌, ◌^◌, ◌||◌, ◌==◌, List, [], ◌∷◌, ◌++◌, length, take, drop, slice_range, Result, Ok, Err, nat_lt, if◌then◌else◌}
 use Rattle.std.specs.Int.{Width, w32, w64, byte_len, from_le_bytes}
 use Rattle.plcr_base.specs.Chains.{◌>>=◌}
 use Rattle.plcr_wire.specs.Varint.{IsVarint}
@@ -10,6 +10,8 @@ use Rattle.plcr_wire.specs.declared.fields.Value.{Value}
 use Rattle.plcr_wire.specs.declared.fields.Value.TheVariants.{Varint, Fixed64, Span, Fixed32}
 use Rattle.plcr_wire.specs.declared.fields.WireFault.{WireFault}
 use Rattle.plcr_wire.specs.declared.fields.WireFault.TheVariants.{Truncated, BadVarint, BadTag}
+use Rattle.plcr_wire.specs.declared.wires.Wire.{Wire}
+use Rattle.plcr_wire.specs.declared.wires.Wire.TheVariants as wires
 use Rattle.plcr_wire.specs.declared.pieces.Piece.{Piece}
 use Rattle.plcr_wire.specs.declared.pieces.Content.{Content}
 use Rattle.plcr_wire.specs.declared.pieces.Content.TheVariants as contents
@@ -45,22 +47,33 @@ text_at end bytes = do
   n ← number_at end bytes
   if nat_lt (length n.1) n.0 then Err (Truncated end) else Ok (take n.0 n.1, drop n.0 n.1)
 
--- the number is a tag of field 1 to 2^29 - 1 and wire type 0, 1, 2 or 5
-abbrev pub is_tag : ℕ → Bool
-is_tag t = nat_lt 7 t && nat_lt t (2 ^ 32) && (nat_lt (t % 8) 3 || (t % 8 == 5))
+-- the wire type that these three bits of a tag name
+abbrev pub wire_named : ℕ → Option Wire
+wire_named n =
+    if n == 0 then Some wires.Number
+    else if n == 1 then Some wires.Fixed64
+    else if n == 2 then Some wires.Bytes
+    else if n == 5 then Some wires.Fixed32
+    else None
+
+-- the wire type of a tag, where its field is 1 to 2^29 - 1 and the type is one in use
+abbrev pub wire_of : ℕ → Option Wire
+wire_of t = if nat_lt t 8 || nat_lt (2 ^ 32 - 1) t then None else wire_named (t % 8)
 
 -- a value of this wire type
-unfoldable pub value_at : ℕ → ℕ → List ℕ → Result (message.Value × List ℕ) WireFault
-value_at end zero bytes = number_at end bytes >>= λ n. Ok (message.Number n.0, n.1)
-value_at end (suc zero) bytes = fixed_at w64 end bytes >>= λ n. Ok (message.Fixed64 n.0, n.1)
-value_at end (suc (suc zero)) bytes = text_at end bytes >>= λ t. Ok (message.Bytes t.0, t.1)
-value_at end (suc (suc (suc wire))) bytes = fixed_at w32 end bytes >>= λ n. Ok (message.Fixed32 n.0, n.1)
+unfoldable pub value_at : ℕ → Wire → List ℕ → Result (message.Value × List ℕ) WireFault
+value_at end wires.Number bytes = number_at end bytes >>= λ n. Ok (message.Number n.0, n.1)
+value_at end wires.Fixed64 bytes = fixed_at w64 end bytes >>= λ n. Ok (message.Fixed64 n.0, n.1)
+value_at end wires.Bytes bytes = text_at end bytes >>= λ t. Ok (message.Bytes t.0, t.1)
+value_at end wires.Fixed32 bytes = fixed_at w32 end bytes >>= λ n. Ok (message.Fixed32 n.0, n.1)
 
 -- the field that these bytes begin with, and what is left
 unfoldable pub field_at : ℕ → List ℕ → Result (message.Field × List ℕ) WireFault
 field_at end bytes = do
   t ← number_at end bytes
-  if is_tag t.0 then (value_at end (t.0 % 8) t.1 >>= λ v. Ok (record { number = t.0 / 8; value = v.0 }, v.1)) else Err (BadTag (end - length bytes))
+  wire ← ok_or (wire_of t.0) (BadTag (end - length bytes))
+  v ← value_at end wire t.1
+  Ok (record { number = t.0 / 8; value = v.0 }, v.1)
 
 -- a value as it lies in memory
 abbrev pub content : Content → message.Value

@@ -5,6 +5,7 @@ ghost use Rattle.plcr_wire.specs.Pen.{Wrote};
 ghost use Rattle.plcr_wire.specs.Varint.{varint, tag};
 
 use crate::Put;
+use crate::wires::tag_number;
 
 /// A writer whose calls can't fail. Once a byte is lost it takes nothing any more, and its owner hears of that at the end.
 pub trait Ink: Put {
@@ -24,7 +25,7 @@ pub trait Ink: Put {
         requires wire { wire < 8 }
         ensures { Wrote (Self.pen self.old) (Self.pen self.new) (tag field wire) }
     {
-        self.varint(field as u64 * 8 + wire as u64)
+        self.varint(tag_number(field, wire))
     }
 
     /// Writes a field that is a varint.

@@ -12,6 +12,7 @@ mod pieces;
 mod put;
 mod reading;
 mod varint;
+mod wires;
 
 pub use buffered::Buffered;
 pub use counter::Counter;

@@ -4,6 +4,7 @@ ghost use Rattle.plcr_base.specs.Causes.{Rose};
 ghost use Rattle.plcr_wire.specs.Pen.{Pen, Puts, PutsProperFront};
 ghost use Rattle.plcr_wire.specs.Varint.{varint, tag};
 
+use crate::wires::tag_number;
 use plcr_io::PutFailed;
 
 /// A writer of bytes.
@@ -57,5 +58,5 @@ pub fn put_tag<P: Put>(p: &mut P, field: u32, wire: u8) -> Result<(), PutFailed>
     ensures err { OnErr result (PutsProperFront (P.pen p.old) (P.pen p.new) (tag field wire)) }
     ensures cause { OnErr result (Rose (P.pen p.old).faults (P.pen p.new).faults) }
 {
-    put_varint(p, field as u64 * 8 + wire as u64)
+    put_varint(p, tag_number(field, wire))
 }

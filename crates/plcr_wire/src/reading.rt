@@ -10,6 +10,7 @@ ghost use Rattle.plcr_wire.specs.Reading as spec;
 
 use crate::fields::{Field, Value, WireFault};
 use crate::pieces::{Content, Piece};
+use crate::wires::{Wire, wire_of};
 
 // A varint, of which so many more groups may follow the next, and what is left.
 fn groups_of(bytes: &[u8], end: usize, first: usize, more: u32) -> Result<(u64, &[u8]), WireFault>
@@ -92,36 +93,29 @@ fn text_of(bytes: &[u8], end: usize) -> Result<(&[u8], &[u8]), WireFault>
 
 // A value of this wire type, and what is left.
 #[tactic(auto, unfolding(crate::specs::Reading::value_at))]
-fn value_of(bytes: &[u8], end: usize, wire: u64) -> Result<(Content<'_>, &[u8]), WireFault>
+fn value_of(bytes: &[u8], end: usize, wire: Wire) -> Result<(Content<'_>, &[u8]), WireFault>
     requires { length bytes.now ≤ end }
     ensures reads { Reads (λ x. (content x.0, x.1.now)) result (value_at end wire bytes.now) }
     ensures shorter { IfOk result (λ x. content_len x.0 + length x.1.now < length bytes.now) }
 {
     match wire {
-        0 => {
+        Wire::Number => {
             let (number, rest) = number_of(bytes, end)?;
             Ok((Content::Number(number), rest))
         }
-        1 => {
+        Wire::Fixed64 => {
             let (number, rest) = fixed64_of(bytes, end)?;
             Ok((Content::Fixed64(number), rest))
         }
-        2 => {
+        Wire::Bytes => {
             let (text, rest) = text_of(bytes, end)?;
             Ok((Content::Bytes(text), rest))
         }
-        _ => {
+        Wire::Fixed32 => {
             let (number, rest) = fixed32_of(bytes, end)?;
             Ok((Content::Fixed32(number), rest))
         }
     }
-}
-
-// Whether a number is the tag of a field that may be.
-fn is_tag(tag: u64) -> bool
-    ensures { result ≡ spec.is_tag tag }
-{
-    tag > 7 && tag <= u32::MAX as u64 && (tag % 8 < 3 || tag % 8 == 5)
 }
 
 /// The field that these bytes, the last of a message that ends at `end`, begin with. Its faults have places
@@ -133,12 +127,12 @@ pub fn field_of(bytes: &[u8], end: usize) -> Result<Piece<'_>, WireFault>
     ensures shorter { IfOk result (λ p. content_len p.value + length p.rest.now < length bytes.now) }
 {
     let (tag, rest) = number_of(bytes, end)?;
-    if !is_tag(tag) {
+    let Some(wire) = wire_of(tag) else {
         return Err(WireFault::BadTag {
             at: end - bytes.len(),
         });
-    }
-    let (value, rest) = value_of(rest, end, tag % 8)?;
+    };
+    let (value, rest) = value_of(rest, end, wire)?;
     Ok(Piece {
         number: (tag / 8) as u32,
         value,

@@ -1,16 +1,13 @@
 -- What is left after a field is shorter: a field has a byte at least besides its content.
-use Rattle.std.proofs.Common.{◌≡◌, ◌⊎◌, inl, inr, ℕ, zero, suc, ◌+◌, ◌-◌, ◌*◌, ◌/◌, ◌%◌, ◌<◌, ◌≤◌, List, [], ◌∷◌, length, take, drop, Ok, Err, Bool, cond, nat_lt, true, false, subst, length-take, length-drop, arith}
+use Rattle.std.proofs.Common.{◌≡◌, inl, inr, ℕ, zero, suc, ◌+◌, ◌-◌, ◌*◌, ◌<◌, ◌≤◌, List, [], ◌∷◌, length, take, drop, Ok, Err, cond, nat_lt, subst, length-take, length-drop, arith}
 use Rattle.std.specs.Int.{Width, w32, w64, byte_len}
 use Rattle.plcr_wire.specs.Message.{Value, Number, Fixed64, Bytes, Fixed32, Field, value_bytes}
-use Rattle.plcr_base.specs.Chains.{◌>>=◌}
-use Rattle.plcr_wire.specs.Reading.{varint_at, number_at, fixed_at, text_at, value_at, field_at, is_tag}
-use Rattle.plcr_wire.specs.declared.fields.WireFault.TheVariants.{Truncated, BadTag}
+use Rattle.plcr_wire.specs.Reading.{varint_at, number_at, fixed_at, text_at, value_at, field_at}
+use Rattle.plcr_wire.specs.declared.wires.Wire.{Wire}
+use Rattle.plcr_wire.specs.declared.wires.Wire.TheVariants as wires
+use Rattle.plcr_wire.specs.declared.fields.WireFault.TheVariants.{Truncated}
 use Rattle.plcr_base.proofs.Chained.{bind_ok}
-use Rattle.plcr_wire.proofs.Places.{ok_is}
-
-pub chosen : {A : Type 0} (b : Bool) (x y z : A) → cond b x y ≡ z → (x ≡ z) ⊎ (y ≡ z)
-chosen true x y z h = inl h
-chosen false x y z h = inr h
+use Rattle.plcr_wire.proofs.Places.{ok_is, chosen, field_steps}
 
 varint_smaller : (end first k : ℕ) (bytes : List ℕ) (n : ℕ × List ℕ) → varint_at end first k bytes ≡ Ok n → length n.1 < length bytes
 varint_smaller end first zero [] n h = absurd (cc)
@@ -49,34 +46,28 @@ text_smaller end bytes t h =
           (let a = length-take n.0.0 n.0.1 in let b = length-drop n.0.0 n.0.1 in omega arith)
     ]
 
-value_smaller : (end wire : ℕ) (bytes : List ℕ) (v : Value × List ℕ) → value_at end wire bytes ≡ Ok v → length (value_bytes v.0) + length v.1 ≤ length bytes
+value_smaller : (end : ℕ) (wire : Wire) (bytes : List ℕ) (v : Value × List ℕ) → value_at end wire bytes ≡ Ok v → length (value_bytes v.0) + length v.1 ≤ length bytes
 unfolding value_at
-value_smaller end zero bytes v h =
+value_smaller end wires.Number bytes v h =
     let n = bind_ok (number_at end bytes) (λ n. Ok (Number n.0, n.1)) v h in
     let less : length n.0.1 < length bytes = number_smaller end bytes n.0 n.1 in
     subst (λ (v : Value × List ℕ). length (value_bytes v.0) + length v.1 ≤ length bytes) (ok_is _ _ n.2) (omega arith)
-value_smaller end (suc zero) bytes v h =
+value_smaller end wires.Fixed64 bytes v h =
     let n = bind_ok (fixed_at w64 end bytes) (λ n. Ok (Fixed64 n.0, n.1)) v h in
     let less : length n.0.1 ≤ length bytes = fixed_smaller w64 end bytes n.0 n.1 in
     subst (λ (v : Value × List ℕ). length (value_bytes v.0) + length v.1 ≤ length bytes) (ok_is _ _ n.2) (omega arith)
-value_smaller end (suc (suc zero)) bytes v h =
+value_smaller end wires.Bytes bytes v h =
     let t = bind_ok (text_at end bytes) (λ t. Ok (Bytes t.0, t.1)) v h in
     let less : length t.0.0 + length t.0.1 < length bytes = text_smaller end bytes t.0 t.1 in
     subst (λ (v : Value × List ℕ). length (value_bytes v.0) + length v.1 ≤ length bytes) (ok_is _ _ t.2) (omega arith)
-value_smaller end (suc (suc (suc wire))) bytes v h =
+value_smaller end wires.Fixed32 bytes v h =
     let n = bind_ok (fixed_at w32 end bytes) (λ n. Ok (Fixed32 n.0, n.1)) v h in
     let less : length n.0.1 ≤ length bytes = fixed_smaller w32 end bytes n.0 n.1 in
     subst (λ (v : Value × List ℕ). length (value_bytes v.0) + length v.1 ≤ length bytes) (ok_is _ _ n.2) (omega arith)
 
 pub field_smaller : (end : ℕ) (bytes : List ℕ) (f : Field × List ℕ) → field_at end bytes ≡ Ok f → length (value_bytes f.0.value) + length f.1 < length bytes
-unfolding field_at
 field_smaller end bytes f h =
-    let t = bind_ok (number_at end bytes) (λ t. cond (is_tag t.0) (value_at end (t.0 % 8) t.1 >>= λ v. Ok (record { number = t.0 / 8; value = v.0 }, v.1)) (Err (BadTag (end - length bytes)))) f h in
-    let less : length t.0.1 < length bytes = number_smaller end bytes t.0 t.1 in
-    elim (chosen (is_tag t.0.0) _ _ _ t.2) [
-      | inl e ↦
-          let v = bind_ok (value_at end (t.0.0 % 8) t.0.1) (λ v. Ok (record { number = t.0.0 / 8; value = v.0 }, v.1)) f e in
-          let more : length (value_bytes v.0.0) + length v.0.1 ≤ length t.0.1 = value_smaller end (t.0.0 % 8) t.0.1 v.0 v.1 in
-          subst (λ (f : Field × List ℕ). length (value_bytes f.0.value) + length f.1 < length bytes) (ok_is _ _ v.2) (omega arith)
-      | inr e ↦ absurd (cc)
-    ]
+    let s = field_steps end bytes f h in
+    let less : length s.tag.1 < length bytes = number_smaller end bytes s.tag s.tag_read in
+    let more : length (value_bytes s.value.0) + length s.value.1 ≤ length s.tag.1 = value_smaller end s.wire s.tag.1 s.value s.value_read in
+    subst (λ (f : Field × List ℕ). length (value_bytes f.0.value) + length f.1 < length bytes) s.whole (omega arith)
