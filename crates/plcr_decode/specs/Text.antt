@@ -1,6 +1,7 @@
 -- A report as lines of text.
 use Rattle.std.specs.Prelude.{ℕ, zero, suc, ◌+◌, ◌/◌, ◌%◌, ◌==◌, ◌&&◌, Bool, true, false, not, nat_lt, List, [], ◌∷◌, ◌++◌, codes, decimal, Option, Some, None, if◌then◌else◌}
 use Rattle.std.specs.Fmt.{signed_decimal}
+use Rattle.plcr_report.specs.Spelling.{version}
 use Rattle.plcr_report.specs.declared.messages.Report.{Report}
 use Rattle.plcr_report.specs.declared.messages.System.{System}
 use Rattle.plcr_report.specs.declared.messages.Application.{Application}
@@ -58,6 +59,9 @@ flag b = decimal (if b then 1 else 0)
 abbrev pub line : List ℕ → List (List ℕ) → List ℕ
 line first words = first ++ (all_from (λ n word. codes " " ++ word) 0 words ++ codes "\n")
 
+abbrev pub version_line : List ℕ
+version_line = line (codes "report") (decimal version ∷ [])
+
 abbrev pub system_line : System → List ℕ
 system_line s = line (codes "system") (decimal s.operating_system ∷ shown s.os_version ∷ decimal s.architecture ∷ signed_decimal s.timestamp ∷ [])
 
@@ -101,5 +105,5 @@ info_line (Some i) = line (codes "info") (flag i.user_requested ∷ [])
 -- the text of a report: its version, and then each part that is there, in the order of its fields
 unfoldable pub text_of : Report → List ℕ
 text_of r =
-    line (codes "report") (decimal 1 ∷ []) ++ (system_line r.system_info ++ (application_line r.application_info ++ (all_from (λ n t. thread_text t) 0 r.threads
+    version_line ++ (system_line r.system_info ++ (application_line r.application_info ++ (all_from (λ n t. thread_text t) 0 r.threads
     ++ (all_from (λ n i. image_line i) 0 r.binary_images ++ (signal_line r.signal ++ (process_line r.process_info ++ info_line r.report_info))))))

@@ -8,14 +8,8 @@ use crate::faults::DecodeFault;
 use crate::judging::judge;
 use crate::messages::Row;
 use crate::scanning::scan;
-use plcr_report::{Kind, Report};
+use plcr_report::{Kind, MAGIC, Report, VERSION};
 use std::alloc::Global;
-
-/// What a report file begins with; its version follows.
-const MAGIC: [u8; 7] = *b"plcrash";
-
-/// The version of the files that are read.
-const VERSION: u8 = 1;
 
 /// What stands behind this text and the version.
 fn behind<'a>(text: &[u8], bytes: &'a [u8], at: usize) -> Result<&'a [u8], DecodeFault>

@@ -12,11 +12,15 @@ use crate::ink::{Word, put_line};
 use plcr_io::{PutFailed, Sink};
 use plcr_report::{
     Application, Bytes, Frame, Image, Info, Process, Register, Report, Signal, System, Thread,
+    VERSION,
 };
 use plcr_wire::{Buffered, Ink};
 
-/// The version of the files that are read.
-const VERSION: u64 = 1;
+fn put_version<W: Ink>(ink: &mut W)
+    ensures { Wrote (W.pen ink.old) (W.pen ink.new) spec.version_line }
+{
+    put_line(ink, b"report", &[Word::Decimal(u64::from(VERSION))]);
+}
 
 fn put_system<W: Ink>(ink: &mut W, system: &System)
     ensures { Wrote (W.pen ink.old) (W.pen ink.new) (spec.system_line system.now) }
@@ -201,7 +205,7 @@ fn put_info<W: Ink>(ink: &mut W, info: &Option<Info>)
 fn put_report<W: Ink>(ink: &mut W, report: &Report)
     ensures { Wrote (W.pen ink.old) (W.pen ink.new) (text_of report.now) }
 {
-    put_line(ink, b"report", &[Word::Decimal(VERSION)]);
+    put_version(ink);
     put_system(ink, &report.system_info);
     put_application(ink, &report.application_info);
     put_threads(ink, report.threads.as_slice());

@@ -1,5 +1,5 @@
 -- The bytes of a list, read in words of 8.
-use Rattle.std.proofs.Common.{◌≡◌, ◌⊎◌, inl, inr, ℕ, ◌+◌, ◌-◌, ◌*◌, ◌<◌, ◌≤◌, min, List, ◌++◌, refl, sym, ap, ◌∙◌, subst, arith, length, take, drop}
+use Rattle.std.proofs.Common.{◌≡◌, ◌⊎◌, inl, inr, ℕ, ◌+◌, ◌-◌, ◌*◌, ◌<◌, ◌≤◌, min, List, ◌++◌, sym, ap, ◌∙◌, arith, length, take, drop}
 use Rattle.std.proofs.lemmas.List.{take_all}
 use Rattle.std.proofs.Math.Seq.{take-add}
 use Rattle.std.specs.Int.{w64, to_le_bytes}

@@ -6,7 +6,7 @@ ghost use Rattle.plcr_base.specs.Told.{AppendsProperFront};
 ghost use Rattle.plcr_wire.specs.Message.{spelling};
 ghost use Rattle.plcr_wire.specs.Pen.{Wrote};
 ghost use Rattle.plcr_report.specs.Messages.{report_message};
-ghost use Rattle.plcr_report.specs.Spelling.{spelling_of};
+ghost use Rattle.plcr_report.specs.Spelling.{file_head, spelling_of};
 ghost use Rattle.plcr_encode.specs.Conditions.{AreWhole, AreNamable, IsWritable};
 ghost use Rattle.plcr_encode.specs.Values.{process_report};
 
@@ -19,11 +19,19 @@ use plcr_io::{PutFailed, Sink};
 use plcr_macho::Images;
 use plcr_memory::Memory;
 use plcr_regs::Registers;
-use plcr_report::Report;
+use plcr_report::{MAGIC, Report, VERSION};
 use plcr_wire::{Buffered, Ink};
 
-/// What a report file begins with: its magic text and its version, 1.
-const HEAD: [u8; 8] = *b"plcrash\x01";
+/// Writes the magic text and the version, and gives their length.
+#[tactic(auto, using(plcr_wire::proofs::Writing::wrote_twice))]
+fn put_head<W: Ink>(ink: &mut W) -> u64
+    ensures wrote { Wrote (W.pen ink.old) (W.pen ink.new) file_head }
+    ensures size { result ≡ length file_head }
+{
+    ink.raw(&MAGIC);
+    ink.raw(&[VERSION]);
+    MAGIC.len() as u64 + 1
+}
 
 /// Writes the fields of a report, and gives the length of what was written.
 fn put_root<I: Images, W: Ink>(
@@ -77,8 +85,8 @@ pub fn capture<I: Images, K: Sink>(
     ensures follows { I.follows images.old images.new }
 {
     let mut buffered = Buffered::new(sink);
-    buffered.raw(&HEAD);
+    let head = put_head(&mut buffered);
     let length = put_root(&mut buffered, images, memory, threads, context);
     buffered.finish()?;
-    Ok(HEAD.len() as u64 + length)
+    Ok(head + length)
 }

@@ -2,10 +2,12 @@
 //! crash_report.proto, the table of the messages' fields, and the spelling of a report.
 #![tactic(auto)]
 
+mod head;
 mod kinds;
 mod messages;
 mod owned;
 
+pub use head::{MAGIC, VERSION};
 pub use kinds::{Holds, Kind};
 pub use messages::{
     Application, Frame, Image, Info, Process, Processor, Register, Report, Signal, Symbol, System,

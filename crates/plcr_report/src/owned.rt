@@ -28,6 +28,13 @@ impl Bytes {
     {
         self.bytes.as_slice()
     }
+
+    pub fn into_vec(self) -> Vec<u8>
+        ensures { result.items ≡ self }
+    {
+        let Bytes { bytes } = self;
+        bytes
+    }
 }
 
 /// The values of a repeated field, in their order.
@@ -56,6 +63,13 @@ impl<T> Rows<T> {
     {
         self.rows.as_slice()
     }
+
+    pub fn into_vec(self) -> Vec<T>
+        ensures { result.items ≡ self }
+    {
+        let Rows { rows } = self;
+        rows
+    }
 }
 
 #[cfg(test)]
@@ -68,8 +82,10 @@ mod tests {
         let alloc = rt.alloc();
         let bytes = Bytes::new(b"rax".to_vec(alloc)?);
         assert_eq!(rt; bytes.as_slice(), b"rax".as_slice());
+        assert_eq!(rt; bytes.into_vec().as_slice(), b"rax".as_slice());
         let rows = Rows::new(vec![in alloc; 7u64, 9]?);
         assert_eq!(rt; rows.as_slice(), [7, 9].as_slice());
+        assert_eq!(rt; rows.into_vec().as_slice(), [7, 9].as_slice());
         Ok(())
     }
 }
