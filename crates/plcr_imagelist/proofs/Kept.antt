@@ -23,7 +23,7 @@ use Rattle.plcr_nodes.proofs.Known.{live_same, loads_same, free_same}
 use Rattle.plcr_imagelist.specs.Keeping.{times, is_node, waits, once_where, Agrees, last_of, NoneFree, Settles}
 use Rattle.plcr_imagelist.proofs.Counted.{times-append, times-snoc, times_empty, once_true, once_false, is_node_bound, is_node_at, last_none, last_some}
 use Rattle.plcr_imagelist.proofs.Placed.{cut_out}
-use Rattle.plcr_imagelist.proofs.Owned.{changes_same, owes_same, paced_same}
+use Rattle.plcr_nodes.proofs.Pacing.{changes_same, owes_same, paced_same}
 
 once_never : (a : Bool) → once_where (a && false) ≡ 0
 once_never true = refl

@@ -1,5 +1,4 @@
 pub mod Counted
-pub mod Owned
 pub mod Placed
 pub mod Kept
 pub mod Resting

@@ -19,7 +19,8 @@ use Rattle.plcr_imagelist.specs.States.{writer_state}
 use Rattle.plcr_imagelist.specs.Making.{IsAtRest}
 use Rattle.plcr_imagelist.specs.Changes.{IsLookedAt, IsCountedAt, IsLoadedAt, IsUnloadedAt}
 use Rattle.plcr_imagelist.proofs.Placed.{first_cut}
-use Rattle.plcr_imagelist.proofs.Owned.{changes_same, counts_same, owes_same, paced_same}
+use Rattle.plcr_nodes.proofs.CountStep.{counts_same}
+use Rattle.plcr_nodes.proofs.Pacing.{changes_same, owes_same, paced_same}
 
 pub looked_at : (old : OwnerState) (found : ℕ) (new : OwnerState) → IsLooked old found new → IsLookedAt (writer_state old) found (writer_state new)
 looked_at old found new k = record { past = k.past; names = k.names; sees = k.sees; now = ap writer_state k.now; legal = k.legal; gate = k.gate }

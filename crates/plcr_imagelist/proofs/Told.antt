@@ -16,7 +16,8 @@ use Rattle.plcr_imagelist.specs.States.{writer_state}
 use Rattle.plcr_imagelist.specs.Making.{IsAtRest, IsMaking, IsReady}
 use Rattle.plcr_imagelist.specs.Holds.{walker_state, images_on, IsHolding, IsOut, EndedAt}
 use Rattle.plcr_imagelist.specs.Tellings.{IsWriterTold, IsWalkerTold, IsHoldTold, IsMet}
-use Rattle.plcr_imagelist.proofs.Owned.{changes_same, counts_same, owes_same, paced_same}
+use Rattle.plcr_nodes.proofs.CountStep.{counts_same}
+use Rattle.plcr_nodes.proofs.Pacing.{changes_same, owes_same, paced_same}
 use Rattle.plcr_imagelist.proofs.Meeting.{images_stay, before_enter-same, ended_on}
 use Rattle.plcr_imagelist.proofs.Walking.{holding_stays, hold_of}
 
