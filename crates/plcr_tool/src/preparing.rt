@@ -76,7 +76,9 @@ fn read_files<'a>(alloc: Global, files: Files) -> Result<Job, Refusal<'a>>
     let Files { core, script } = files;
     let core = core_of(alloc, core)?;
     let script = script_of(alloc, script.as_slice())?;
-    let list = ImageList::open(alloc, script.nodes()).map_err(|_| Refusal::OutOfMemory)?;
+    let Ok(list) = ImageList::open(alloc, script.nodes()) else {
+        return Err(Refusal::OutOfMemory);
+    };
     Ok(Job { core, script, list })
 }
 
