@@ -54,11 +54,7 @@ fn root_of(bytes: &[u8]) -> Result<&[u8], DecodeFault>
     behind(&MAGIC, bytes, bytes.len())
 }
 
-/// The report that a file spells. Its bytes are scanned once for faults. Then the fields of the root are passed
-/// over about 20 times where they stand in rising order, and at most 35 times in any other, for the fields that
-/// it has to have and for its values; those of the messages in it a few times each. What is refused takes no
-/// memory. A report takes up to 16 bytes for each of the file, as a frame that has four bytes there takes 64,
-/// besides what the allocator adds to each text; lists have room for just their rows.
+/// The report that a file spells.
 ///
 /// # Errors
 ///
@@ -73,8 +69,5 @@ pub fn decode(alloc: Global, bytes: &[u8]) -> Result<Report, DecodeFault>
     let root = root_of(bytes)?;
     scan(Kind::Root, root, bytes.len())?;
     judge(Kind::Root, root)?;
-    match Report::build(alloc, root) {
-        Ok(report) => Ok(report),
-        Err(_) => Err(DecodeFault::Memory),
-    }
+    Report::build(alloc, root).map_err(|_| DecodeFault::Memory)
 }

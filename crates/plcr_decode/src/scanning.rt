@@ -69,10 +69,7 @@ fn step_of(kind: Kind, bytes: &[u8], end: usize) -> Result<Step<'_>, DecodeFault
     ensures shorter { IfOk result (λ s. length s.text.now + length s.rest.now < length bytes.now) }
     ensures real { IfErr result (λ e. e ≢ DecodeFault.Memory) }
 {
-    let piece = match field_of(bytes, end) {
-        Ok(piece) => piece,
-        Err(fault) => return Err(fault_of(fault)),
-    };
+    let piece = field_of(bytes, end).map_err(fault_of)?;
     let holds = held(kind, piece.number);
     if !fits(holds, piece.value) {
         return Err(DecodeFault::WrongWire {

@@ -8,7 +8,7 @@ use std::alloc::{AllocError, AllocFailed};
 /// What is wrong with a line of a script, in the order of the numbers that faults print.
 #[derive(Clone, Copy, Debug, PartialEq, Eq)]
 pub enum Kind {
-    /// An unknown first word, or a file name that isn't one.
+    /// An unknown first word or key of `set`, or a file name that isn't one.
     BadWord,
     /// A word that isn't a number of its place.
     BadNumber,
@@ -41,8 +41,8 @@ impl Kind {
 /// Why a script isn't read.
 #[derive(Debug, Drop)]
 pub enum ScriptFault {
-    /// The first refused line, from 1, and what is wrong with it: 1 for an unknown word or a bad
-    /// file name, 2 for a bad number, 3 for too few words, 4 for too many, 5 for a pass that the
+    /// The first refused line, from 1, and what is wrong with it: 1 for an unknown word or key, or
+    /// a bad file name, 2 for a bad number, 3 for too few words, 4 for too many, 5 for a pass that the
     /// sizes don't have, 6 for a statement out of place.
     Refused { line: u32, kind: u8 },
     /// Want of memory.

@@ -32,6 +32,14 @@ impl Text {
     {
         self.bytes.as_slice()
     }
+
+    /// The bytes, given back.
+    pub fn into_vec(self) -> Vec<u8>
+        ensures { result.items ≡ self }
+    {
+        let Text { bytes } = self;
+        bytes
+    }
 }
 
 /// One statement of a script.

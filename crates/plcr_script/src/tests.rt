@@ -166,6 +166,14 @@ fn a_file_has_up_to_255_bytes(rt: HostRuntime) -> Result<(), Fail> {
 }
 
 #[test]
+fn a_text_gives_back_its_bytes(rt: HostRuntime) -> Result<(), Fail> {
+    let text = Text::new(rt.alloc(), b"a.plcrash")?;
+    assert_eq!(rt; text.as_slice(), b"a.plcrash".as_slice());
+    assert_eq!(rt; text.into_vec().as_slice(), b"a.plcrash".as_slice());
+    Ok(())
+}
+
+#[test]
 fn a_script_tells_its_statements_and_values(rt: HostRuntime) -> Result<(), Fail> {
     let text = b"# run\nreport 0 a.plcrash\n\nreport 0x3 b";
     let script = read_script(rt.alloc(), text, Mode::Single, &[])?;

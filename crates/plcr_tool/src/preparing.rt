@@ -44,10 +44,8 @@ pub fn prepare<'a, D: Desk>(
     ensures runnable { IfOk result IsRunnable }
     ensures nothing { MadeNothing (D.told desk.old) (D.told desk.new) }
 {
-    match take_files(alloc, core, script, desk) {
-        Ok(files) => read_files(alloc, files),
-        Err(refusal) => Err(refusal),
-    }
+    let files = take_files(alloc, core, script, desk)?;
+    read_files(alloc, files)
 }
 
 /// Takes the core and then the script.
@@ -62,16 +60,9 @@ fn take_files<'a, D: Desk>(
         (Untaken (job_files core.now script.now) (D.told desk.old) (D.told desk.new)) }
     ensures nothing { MadeNothing (D.told desk.old) (D.told desk.new) }
 {
-    match take_file(alloc, core_file(core), desk) {
-        Err(refusal) => Err(refusal),
-        Ok(core_bytes) => match take_file(alloc, script_file(script), desk) {
-            Err(refusal) => Err(refusal),
-            Ok(script_bytes) => Ok(Files {
-                core: core_bytes,
-                script: script_bytes,
-            }),
-        },
-    }
+    let core = take_file(alloc, core_file(core), desk)?;
+    let script = take_file(alloc, script_file(script), desk)?;
+    Ok(Files { core, script })
 }
 
 /// Reads the core and then the script.
@@ -83,16 +74,12 @@ fn read_files<'a>(alloc: Global, files: Files) -> Result<Job, Refusal<'a>>
     ensures runnable { IfOk result IsRunnable }
 {
     let Files { core, script } = files;
-    match core_of(alloc, core) {
-        Err(refusal) => Err(refusal),
-        Ok(core) => match script_of(alloc, script.as_slice()) {
-            Err(refusal) => Err(refusal),
-            Ok(script) => match ImageList::open(alloc, script.nodes()) {
-                Err(_) => Err(Refusal::OutOfMemory),
-                Ok(list) => Ok(Job { core, script, list }),
-            },
-        },
-    }
+    let core = core_of(alloc, core)?;
+    let script = script_of(alloc, script.as_slice())?;
+    let Ok(list) = ImageList::open(alloc, script.nodes()) else {
+        return Err(Refusal::OutOfMemory);
+    };
+    Ok(Job { core, script, list })
 }
 
 /// The core that the bytes are.

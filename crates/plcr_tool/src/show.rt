@@ -69,10 +69,8 @@ fn read_report<'a, D: Desk>(
         (Refuses ReportMisread (shown_files report.now) (D.told desk.old) (D.told desk.new)) }
     ensures nothing { MadeNothing (D.told desk.old) (D.told desk.new) }
 {
-    match take_file(alloc, report_file(report), desk) {
-        Ok(bytes) => report_of(alloc, bytes.as_slice()),
-        Err(refusal) => Err(refusal),
-    }
+    let bytes = take_file(alloc, report_file(report), desk)?;
+    report_of(alloc, bytes.as_slice())
 }
 
 /// The report that the bytes are.
