@@ -1,7 +1,8 @@
 //! A writer changes the list on one thread while three passes walk it on others until it has ended. Each walk is checked
 //! against the journal of the changes: three loads, and then an unload of the oldest image and a load by turns. So after
-//! each number of changes the list has images with numbers one after the other, and an image's header is its number. There
-//! are few nodes, so a load may find none free while passes are inside: it is tried until there is one.
+//! each number of changes the list has images with numbers one after the other. An image's header is its number, and its
+//! name the bytes of it. There are few nodes, so a load may find none free while passes are inside: it is tried until
+//! there is one.
 ghost use Rattle.std.specs.Prelude.{◌≡◌, ◌<◌, ◌≤◌, length};
 ghost use Rattle.std.specs.Thread.{IsSync};
 ghost use Rattle.plcr_imagelist.specs.Walk.{images_of};
@@ -83,7 +84,8 @@ fn load_at_last(list: &ImageList, writer: Writer, number: u32) -> (Writer, bool)
 {
     let mut writer = writer;
     for _ in 0..MOST_TRIES {
-        let (next, loaded) = writer.load(list, number as u64, b"x");
+        let header = number as u64;
+        let (next, loaded) = writer.load(list, header, &header.to_le_bytes());
         writer = next;
         match loaded {
             Ok(load) => return (writer, load == number),
@@ -94,15 +96,20 @@ fn load_at_last(list: &ImageList, writer: Writer, number: u32) -> (Writer, bool)
     (writer, false)
 }
 
-// The header of an image that was met.
-fn header_of(hold: &mut Hold, list: &ImageList, at: usize) -> u64
+// The header of an image that was met, where its name says the same, and else 0.
+fn number_of(hold: &mut Hold, list: &ImageList, at: usize) -> u64
     requires list { hold.old.walker.table ≡ list.now }
     requires met { at < length (images_of hold.old) }
     ensures list { hold.new.walker.table ≡ list.now }
     ensures met { length (images_of hold.new) ≡ length (images_of hold.old) }
 {
     let mut images = hold.images(list);
-    images.header(at)
+    let number = images.header(at);
+    if images.name_len(at) == 8 && images.name_word(at, 0) == number {
+        number
+    } else {
+        0
+    }
 }
 
 /// What a walk met: how many images, the first four, the last, and whether their numbers rise.
@@ -124,7 +131,7 @@ fn read(hold: &mut Hold, list: &ImageList) -> Met
     let mut last = 0;
     let mut rises = true;
     for at in 0..count {
-        let number = header_of(hold, list, at);
+        let number = number_of(hold, list, at);
         rises = rises && last < number;
         last = number;
         if at < 4 {

@@ -193,6 +193,23 @@ fn a_node_is_taken_again(rt: HostRuntime) -> Result<(), Fail> {
     Ok(())
 }
 
+// Three images of one header: the first of them goes first.
+#[test]
+fn the_first_image_with_a_header_goes(rt: HostRuntime) -> Result<(), Fail> {
+    let Ok((list, writer, _passes)) = ImageList::open(rt.alloc(), 3, 1) else {
+        panic!(rt; "no memory")
+    };
+    let writer = load(&rt, &list, writer, A, b"x", 1);
+    let writer = load(&rt, &list, writer, A, b"y", 2);
+    let writer = load(&rt, &list, writer, A, b"z", 3);
+    let writer = unload(&rt, &list, writer, A, 1);
+    let writer = unload(&rt, &list, writer, A, 2);
+    let writer = unload(&rt, &list, writer, A, 3);
+    let (_, unloaded) = writer.unload(&list, A);
+    assert_eq!(rt; unloaded, Err(UnloadRefused::NotLoaded));
+    Ok(())
+}
+
 // Goes in, walks to the end, and says how many images it met.
 fn count_met(list: &ImageList, pass: Pass) -> (Pass, u32)
     requires { pass.table ≡ list.now }
