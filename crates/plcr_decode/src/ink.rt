@@ -5,6 +5,7 @@ ghost use Rattle.plcr_wire.specs.Pen.{Wrote};
 ghost use Rattle.plcr_decode.specs.Text as spec;
 ghost use Rattle.plcr_decode.specs.Words.{word_text};
 
+use crate::written::{Written, put_each};
 use itoa::Buffer;
 use plcr_wire::Ink;
 
@@ -131,21 +132,15 @@ fn put_word<W: Ink>(ink: &mut W, word: Word<'_>)
     }
 }
 
-/// Writes a word behind a space.
-#[tactic(auto, using(plcr_wire::proofs::Writing::wrote_twice))]
-fn put_next<W: Ink>(ink: &mut W, word: Word<'_>)
-    ensures { Wrote (W.pen ink.old) (W.pen ink.new) (codes " " ++ word_text word.entry) }
-{
-    ink.raw(b" ");
-    put_word(ink, word);
-}
+impl<'a> Written for Word<'a> {
+    ghost use Rattle.plcr_decode.specs.Words.{word_text};
 
-/// Writes the words of a line, each behind a space.
-fn put_words<W: Ink>(ink: &mut W, words: &[Word<'_>])
-    ensures { Wrote (W.pen ink.old) (W.pen ink.new) (spec.all_from (λ n word. codes " " ++ word_text word) 0 words.now) }
-{
-    for i in 0..words.len() {
-        put_next(ink, words[i]);
+    ghost text = { λ _ word. codes " " ++ word_text word };
+
+    #[tactic(auto, using(plcr_wire::proofs::Writing::wrote_twice))]
+    fn put<W: Ink>(&self, ink: &mut W, _place: u64) {
+        ink.raw(b" ");
+        put_word(ink, *self);
     }
 }
 
@@ -155,6 +150,6 @@ pub(crate) fn put_line<W: Ink>(ink: &mut W, first: &[u8], words: &[Word<'_>])
     ensures { Wrote (W.pen ink.old) (W.pen ink.new) (spec.line first.now (map word_text words.now)) }
 {
     ink.raw(first);
-    put_words(ink, words);
+    put_each(ink, words);
     ink.raw(b"\n");
 }

@@ -16,6 +16,7 @@ mod reader;
 mod scanning;
 mod table;
 mod text;
+mod written;
 
 pub use faults::DecodeFault;
 pub use laws::{fields_cover, reads_again, whole_by_parts};

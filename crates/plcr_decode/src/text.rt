@@ -9,6 +9,7 @@ ghost use Rattle.plcr_decode.specs.Text.{text_of};
 ghost use Rattle.plcr_decode.specs.Words.{word_text};
 
 use crate::ink::{Word, put_line};
+use crate::written::{Written, put_each};
 use plcr_io::{PutFailed, Sink};
 use plcr_report::{
     Application, Bytes, Frame, Image, Info, Process, Register, Report, Signal, System, Thread,
@@ -44,47 +45,34 @@ fn put_application<W: Ink>(ink: &mut W, application: &Application)
     put_line(ink, b"application", &words);
 }
 
-/// Writes a frame with its place among its thread's frames.
-fn put_frame<W: Ink>(ink: &mut W, place: u64, frame: &Frame)
-    ensures { Wrote (W.pen ink.old) (W.pen ink.new) (spec.frame_line place frame.now.pc frame.now.symbol) }
-{
-    match &frame.symbol {
-        None => {
-            let words = [Word::Decimal(place), Word::Address(frame.pc)];
-            put_line(ink, b"frame", &words);
-        }
-        Some(symbol) => {
-            let words = [
-                Word::Decimal(place),
-                Word::Address(frame.pc),
-                Word::Text(symbol.name.as_slice()),
-                Word::Address(symbol.start_address),
-            ];
-            put_line(ink, b"frame", &words);
+impl Written for Frame {
+    ghost text = { λ n f. spec.frame_line n f.pc f.symbol };
+
+    fn put<W: Ink>(&self, ink: &mut W, place: u64) {
+        match &self.symbol {
+            None => {
+                let words = [Word::Decimal(place), Word::Address(self.pc)];
+                put_line(ink, b"frame", &words);
+            }
+            Some(symbol) => {
+                let words = [
+                    Word::Decimal(place),
+                    Word::Address(self.pc),
+                    Word::Text(symbol.name.as_slice()),
+                    Word::Address(symbol.start_address),
+                ];
+                put_line(ink, b"frame", &words);
+            }
         }
     }
 }
 
-fn put_frames<W: Ink>(ink: &mut W, frames: &[Frame])
-    ensures { Wrote (W.pen ink.old) (W.pen ink.new) (spec.all_from (λ n f. spec.frame_line n f.pc f.symbol) 0 frames.now) }
-{
-    for i in 0..frames.len() {
-        put_frame(ink, i as u64, &frames[i]);
-    }
-}
+impl Written for Register {
+    ghost text = { λ _ r. spec.register_line r };
 
-fn put_register<W: Ink>(ink: &mut W, register: &Register)
-    ensures { Wrote (W.pen ink.old) (W.pen ink.new) (spec.register_line register.now) }
-{
-    let name = Word::Text(register.name.as_slice());
-    put_line(ink, b"register", &[name, Word::Address(register.value)]);
-}
-
-fn put_registers<W: Ink>(ink: &mut W, registers: &[Register])
-    ensures { Wrote (W.pen ink.old) (W.pen ink.new) (spec.all_from (λ n r. spec.register_line r) 0 registers.now) }
-{
-    for i in 0..registers.len() {
-        put_register(ink, &registers[i]);
+    fn put<W: Ink>(&self, ink: &mut W, _place: u64) {
+        let name = Word::Text(self.name.as_slice());
+        put_line(ink, b"register", &[name, Word::Address(self.value)]);
     }
 }
 
@@ -99,20 +87,14 @@ fn put_thread_line<W: Ink>(ink: &mut W, number: u32, crashed: bool)
     }
 }
 
-#[tactic(auto, using(plcr_wire::proofs::Writing::wrote_twice), unfolding(crate::specs::Text::thread_text))]
-fn put_thread<W: Ink>(ink: &mut W, thread: &Thread)
-    ensures { Wrote (W.pen ink.old) (W.pen ink.new) (spec.thread_text thread.now) }
-{
-    put_thread_line(ink, thread.thread_number, thread.crashed);
-    put_frames(ink, thread.frames.as_slice());
-    put_registers(ink, thread.registers.as_slice());
-}
+impl Written for Thread {
+    ghost text = { λ _ t. spec.thread_text t };
 
-fn put_threads<W: Ink>(ink: &mut W, threads: &[Thread])
-    ensures { Wrote (W.pen ink.old) (W.pen ink.new) (spec.all_from (λ n t. spec.thread_text t) 0 threads.now) }
-{
-    for i in 0..threads.len() {
-        put_thread(ink, &threads[i]);
+    #[tactic(auto, using(plcr_wire::proofs::Writing::wrote_twice), unfolding(crate::specs::Text::thread_text))]
+    fn put<W: Ink>(&self, ink: &mut W, _place: u64) {
+        put_thread_line(ink, self.thread_number, self.crashed);
+        put_each(ink, self.frames.as_slice());
+        put_each(ink, self.registers.as_slice());
     }
 }
 
@@ -146,22 +128,16 @@ fn code_words(image: &Image) -> (Word<'_>, Word<'_>)
     }
 }
 
-fn put_image<W: Ink>(ink: &mut W, image: &Image)
-    ensures { Wrote (W.pen ink.old) (W.pen ink.new) (spec.image_line image.now) }
-{
-    let uuid = bytes_word(&image.uuid);
-    let (cpu, subtype) = code_words(image);
-    let base = Word::Address(image.base_address);
-    let size = Word::Decimal(image.size);
-    let name = Word::Text(image.name.as_slice());
-    put_line(ink, b"image", &[base, size, name, uuid, cpu, subtype]);
-}
+impl Written for Image {
+    ghost text = { λ _ i. spec.image_line i };
 
-fn put_images<W: Ink>(ink: &mut W, images: &[Image])
-    ensures { Wrote (W.pen ink.old) (W.pen ink.new) (spec.all_from (λ n i. spec.image_line i) 0 images.now) }
-{
-    for i in 0..images.len() {
-        put_image(ink, &images[i]);
+    fn put<W: Ink>(&self, ink: &mut W, _place: u64) {
+        let uuid = bytes_word(&self.uuid);
+        let (cpu, subtype) = code_words(self);
+        let base = Word::Address(self.base_address);
+        let size = Word::Decimal(self.size);
+        let name = Word::Text(self.name.as_slice());
+        put_line(ink, b"image", &[base, size, name, uuid, cpu, subtype]);
     }
 }
 
@@ -208,8 +184,8 @@ fn put_report<W: Ink>(ink: &mut W, report: &Report)
     put_version(ink);
     put_system(ink, &report.system_info);
     put_application(ink, &report.application_info);
-    put_threads(ink, report.threads.as_slice());
-    put_images(ink, report.binary_images.as_slice());
+    put_each(ink, report.threads.as_slice());
+    put_each(ink, report.binary_images.as_slice());
     put_signal(ink, &report.signal);
     put_process(ink, &report.process_info);
     put_info(ink, &report.report_info);

@@ -9,4 +9,4 @@ use Rattle.plcr_decode.proofs.ink.put_line.Goals as goal
 pub returns : goal.returns
 returns g c =
     subst (λ (l : List ℕ). Wrote (g.W.Put.pen c.args.ink.now) (g.W.Put.pen c.raw-2.new.self) (c.args.first.now ++ (l ++ codes "\n"))) (all_map (λ n w. codes " " ++ w) word_text 0 c.args.words.now)
-    (wrote_twice _ _ _ _ _ c.raw.ensures (wrote_twice _ _ _ _ _ c.put_words.ensures c.raw-2.ensures))
+    (wrote_twice _ _ _ _ _ c.raw.ensures (wrote_twice _ _ _ _ _ c.put_each.ensures c.raw-2.ensures))

@@ -1,9 +1,0 @@
-use Rattle.std.proofs.Common.{◌++◌, take, codes}
-use Rattle.plcr_wire.specs.Pen.{Wrote}
-use Rattle.plcr_decode.specs.Text.{all_from}
-use Rattle.plcr_decode.specs.Words.{word_text}
-use Rattle.plcr_decode.proofs.ink.put_words.Given as goal
-
--- those before i are written
-abbrev pub invariant-loop-i : goal.invariant-loop-i
-invariant-loop-i g l = Wrote (g.W.Put.pen l.initial.ink) (g.W.Put.pen l.ink) (all_from (λ n word. codes " " ++ word_text word) 0 (take l.i l.words))

@@ -1,8 +1,0 @@
-use Rattle.std.proofs.Common.{take}
-use Rattle.plcr_wire.specs.Pen.{Wrote}
-use Rattle.plcr_decode.specs.Text.{all_from, image_line}
-use Rattle.plcr_decode.proofs.text.put_images.Given as goal
-
--- those before i are written
-abbrev pub invariant-loop-i : goal.invariant-loop-i
-invariant-loop-i g l = Wrote (g.W.Put.pen l.initial.ink) (g.W.Put.pen l.ink) (all_from (λ n i. image_line i) 0 (take l.i l.images))
