@@ -60,9 +60,12 @@ fn take_files<'a, D: Desk>(
         (Untaken (job_files core.now script.now) (D.told desk.old) (D.told desk.new)) }
     ensures nothing { MadeNothing (D.told desk.old) (D.told desk.new) }
 {
-    let core = take_file(alloc, core_file(core), desk)?;
-    let script = take_file(alloc, script_file(script), desk)?;
-    Ok(Files { core, script })
+    let core_bytes = take_file(alloc, core_file(core), desk)?;
+    let script_bytes = take_file(alloc, script_file(script), desk)?;
+    Ok(Files {
+        core: core_bytes,
+        script: script_bytes,
+    })
 }
 
 /// Reads the core and then the script.
