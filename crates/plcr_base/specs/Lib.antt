@@ -3,3 +3,4 @@ pub mod Causes
 pub mod Chains
 pub mod Numbers
 pub mod Told
+pub mod Limits

@@ -16,3 +16,21 @@ fn numbers_stand_at_their_places(rt: HostRuntime) -> Result<(), Fail> {
     assert_eq!(rt; read_padded_u64(&bytes, 9), 0);
     Ok(())
 }
+
+#[test]
+fn rows_are_used_as_a_slice(rt: HostRuntime) -> Result<(), Fail> {
+    let alloc = rt.alloc();
+    let rows = Rows::new(vec![in alloc; 7u64, 9]?);
+    assert_eq!(rt; rows.len(), 2);
+    assert_eq!(rt; rows[1], 9);
+    assert_eq!(rt; rows.first(), Some(&7));
+    let mut sum = 0u64;
+    for row in &rows {
+        sum = sum.wrapping_add(*row);
+    }
+    assert_eq!(rt; sum, 16);
+    assert_eq!(rt; rows.into_vec().as_slice(), [7, 9].as_slice());
+    let bytes: Bytes = Rows::new(b"rax".to_vec(alloc)?);
+    assert_eq!(rt; bytes.as_slice(), b"rax".as_slice());
+    Ok(())
+}

@@ -2,6 +2,7 @@
 use Rattle.std.specs.Prelude.{◌≡◌, ℕ, suc, ◌<◌, ◌≤◌, List, [], ◌∷◌, length, IsTrue, IsFalse}
 use Rattle.plcr_machine.specs.declared.entry.Entry.{Entry}
 use Rattle.plcr_machine.specs.declared.entry.Entry.TheVariants.{Enter, Leave, Load, Unload, Count, Look}
+use Rattle.plcr_machine.specs.declared.limits.TheConstants.{MOST_NODES, MOST_PASSES}
 use Rattle.plcr_machine.specs.Lists.{has, live, loads}
 use Rattle.plcr_machine.specs.Passes.{is_inside, readers}
 use Rattle.plcr_machine.specs.Nodes.{is_free}
@@ -22,7 +23,7 @@ IsLegal nodes passes (entry ∷ past) = MayFollow nodes passes past entry × IsL
 
 -- a legal history within the sizes of a table, with a name for each load, newest first
 pub record IsHistory (nodes passes : ℕ) (history : List Entry) (names : List (List ℕ)) : Type 0 where
-  pub few_nodes : nodes ≤ 4096
-  pub few_passes : passes ≤ 1024
+  pub few_nodes : nodes ≤ MOST_NODES
+  pub few_passes : passes ≤ MOST_PASSES
   pub legal : IsLegal nodes passes history
   pub named : length names ≡ loads history

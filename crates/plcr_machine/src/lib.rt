@@ -6,6 +6,7 @@
 mod entry;
 mod image;
 mod laws;
+mod limits;
 pub mod plain;
 
 pub use entry::Entry;
@@ -15,6 +16,7 @@ pub use laws::{
     lists_stay, one_link_changes, paced_prefixes, readers_count, stale_links_lead_on,
     worked_examples,
 };
+pub use limits::{MOST_CHANGES, MOST_NODES, MOST_PASSES};
 
 #[cfg(test)]
 mod tests;
