@@ -28,7 +28,7 @@ fn put_system<W: Ink>(ink: &mut W, system: &System)
 {
     let words = [
         Word::Decimal(u64::from(system.operating_system)),
-        Word::Text(system.os_version.as_slice()),
+        Word::Text(&system.os_version),
         Word::Decimal(u64::from(system.architecture)),
         Word::Signed(system.timestamp),
     ];
@@ -39,8 +39,8 @@ fn put_application<W: Ink>(ink: &mut W, application: &Application)
     ensures { Wrote (W.pen ink.old) (W.pen ink.new) (spec.application_line application.now) }
 {
     let words = [
-        Word::Text(application.identifier.as_slice()),
-        Word::Text(application.version.as_slice()),
+        Word::Text(&application.identifier),
+        Word::Text(&application.version),
     ];
     put_line(ink, b"application", &words);
 }
@@ -58,7 +58,7 @@ impl Written for Frame {
                 let words = [
                     Word::Decimal(place),
                     Word::Address(self.pc),
-                    Word::Text(symbol.name.as_slice()),
+                    Word::Text(&symbol.name),
                     Word::Address(symbol.start_address),
                 ];
                 put_line(ink, b"frame", &words);
@@ -71,7 +71,7 @@ impl Written for Register {
     ghost text = { λ _ r. spec.register_line r };
 
     fn put<W: Ink>(&self, ink: &mut W, _place: u64) {
-        let name = Word::Text(self.name.as_slice());
+        let name = Word::Text(&self.name);
         put_line(ink, b"register", &[name, Word::Address(self.value)]);
     }
 }
@@ -93,8 +93,8 @@ impl Written for Thread {
     #[tactic(auto, using(plcr_wire::proofs::Writing::wrote_twice), unfolding(crate::specs::Text::thread_text))]
     fn put<W: Ink>(&self, ink: &mut W, _place: u64) {
         put_thread_line(ink, self.thread_number, self.crashed);
-        put_each(ink, self.frames.as_slice());
-        put_each(ink, self.registers.as_slice());
+        put_each(ink, &self.frames);
+        put_each(ink, &self.registers);
     }
 }
 
@@ -104,7 +104,7 @@ fn bytes_word(bytes: &Option<Bytes>) -> Word<'_>
 {
     match bytes {
         None => Word::Plain(b"-"),
-        Some(bytes) => Word::Bytes(bytes.as_slice()),
+        Some(bytes) => Word::Bytes(bytes),
     }
 }
 
@@ -114,7 +114,7 @@ fn text_word(text: &Option<Bytes>) -> Word<'_>
 {
     match text {
         None => Word::Plain(b"-"),
-        Some(text) => Word::Text(text.as_slice()),
+        Some(text) => Word::Text(text),
     }
 }
 
@@ -136,7 +136,7 @@ impl Written for Image {
         let (cpu, subtype) = code_words(self);
         let base = Word::Address(self.base_address);
         let size = Word::Decimal(self.size);
-        let name = Word::Text(self.name.as_slice());
+        let name = Word::Text(&self.name);
         put_line(ink, b"image", &[base, size, name, uuid, cpu, subtype]);
     }
 }
@@ -144,8 +144,8 @@ impl Written for Image {
 fn put_signal<W: Ink>(ink: &mut W, signal: &Signal)
     ensures { Wrote (W.pen ink.old) (W.pen ink.new) (spec.signal_line signal.now) }
 {
-    let name = Word::Text(signal.name.as_slice());
-    let code = Word::Text(signal.code.as_slice());
+    let name = Word::Text(&signal.name);
+    let code = Word::Text(&signal.code);
     put_line(ink, b"signal", &[name, code, Word::Address(signal.address)]);
 }
 
@@ -184,8 +184,8 @@ fn put_report<W: Ink>(ink: &mut W, report: &Report)
     put_version(ink);
     put_system(ink, &report.system_info);
     put_application(ink, &report.application_info);
-    put_each(ink, report.threads.as_slice());
-    put_each(ink, report.binary_images.as_slice());
+    put_each(ink, &report.threads);
+    put_each(ink, &report.binary_images);
     put_signal(ink, &report.signal);
     put_process(ink, &report.process_info);
     put_info(ink, &report.report_info);

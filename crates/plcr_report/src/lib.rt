@@ -5,7 +5,6 @@
 mod head;
 mod kinds;
 mod messages;
-mod owned;
 
 pub use head::{MAGIC, VERSION};
 pub use kinds::{Holds, Kind};
@@ -13,4 +12,4 @@ pub use messages::{
     Application, Frame, Image, Info, Process, Processor, Register, Report, Signal, Symbol, System,
     Thread,
 };
-pub use owned::{Bytes, Rows};
+pub use plcr_base::{Bytes, Rows};

@@ -1,5 +1,5 @@
 //! The messages of a crash report. Each has the numbers of its fields as constants.
-use crate::owned::{Bytes, Rows};
+use plcr_base::{Bytes, Rows};
 
 /// A crash report: the root message.
 #[derive(Drop)]

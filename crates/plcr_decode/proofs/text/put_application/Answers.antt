@@ -1,4 +1,4 @@
 use Rattle.plcr_decode.proofs.text.put_application.Goals as goal
 
 pub returns : goal.returns
-returns g c = rw (← c.as_slice.ensures, ← c.as_slice-2.ensures) c.put_line.ensures
+returns g c = rw (← c.deref.ensures, ← c.deref-2.ensures) c.put_line.ensures

@@ -5,6 +5,6 @@ use Rattle.plcr_decode.proofs.text.put_report.Goals as goal
 pub returns : goal.returns
 unfolding text_of
 returns g c =
-    rw (← c.as_slice.ensures, ← c.as_slice-2.ensures)
+    rw (← c.deref.ensures, ← c.deref-2.ensures)
     (wrote_twice _ _ _ _ _ c.put_version.ensures (wrote_twice _ _ _ _ _ c.put_system.ensures (wrote_twice _ _ _ _ _ c.put_application.ensures (wrote_twice _ _ _ _ _ c.put_each.ensures
     (wrote_twice _ _ _ _ _ c.put_each-2.ensures (wrote_twice _ _ _ _ _ c.put_signal.ensures (wrote_twice _ _ _ _ _ c.put_process.ensures c.put_info.ensures)))))))
