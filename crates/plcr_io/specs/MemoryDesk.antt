@@ -2,6 +2,7 @@
 use Rattle.std.specs.Prelude.{◌≡◌, ◌⊎◌, ◌↔◌, ℕ, ◌<◌, List, [], ◌∷◌, ◌++◌, length, reverse, find, bytes_eq, Option, None, Some, Result, Vec, IsErr, IfOk, OnOk, OnErr, IsErrOf}
 use Rattle.std.specs.Option.{option_map, option_or}
 use Rattle.std.specs.declared.alloc.Global.{Global}
+use Rattle.plcr_io.specs.declared.limits.TheConstants.{FILE_NAME_BYTES}
 use Rattle.plcr_io.specs.Calls.{next, FailsNext}
 use Rattle.plcr_io.specs.Desk.{Told}
 use Rattle.plcr_io.specs.Output.{Output}
@@ -53,9 +54,9 @@ tells desk = record {
   out_faults = desk.out_faults;
 }
 
--- the next call fails, whatever it is: its number is one of those that fail, or its name is above 255 bytes
+-- the next call fails, whatever it is: its number is one of those that fail, or its name is above the limit
 abbrev pub CallFails : List ℕ → ℕ → List ℕ → Type 0
-CallFails failing calls name = FailsNext failing calls ⊎ (255 < length name)
+CallFails failing calls name = FailsNext failing calls ⊎ (FILE_NAME_BYTES < length name)
 
 -- a take with this name and limit
 pub record TakesFile (name : List ℕ) (limit : ℕ) (old new : MemoryDesk) (result : Result (Vec ℕ Global) TakeFault) : Type 0 where

@@ -1,11 +1,13 @@
 //! Where bytes go and come from: sinks, which take bytes piece by piece, and desks, from which whole files are
-//! taken and on which named outputs are made, kept or given up.
+//! taken and on which named outputs are made, kept or given up; and lines of text on their way to a sink.
 #![tactic(auto)]
 
 mod calls;
 mod desks;
 mod host_desk;
 mod host_out;
+mod limits;
+mod lines;
 mod mem_desk;
 mod mem_out;
 mod sinks;
@@ -13,6 +15,8 @@ mod sinks;
 pub use desks::{Desk, MakeFailed, TakeFault};
 pub use host_desk::{HostDesk, HostFile};
 pub use host_out::HostOut;
+pub use limits::FILE_NAME_BYTES;
+pub use lines::{add_bytes, add_decimal, put_parts};
 pub use mem_desk::{MemDesk, MemFile};
 pub use mem_out::MemOut;
 pub use sinks::{NoMemory, PutFailed, Sink, put_all};

@@ -1,11 +1,12 @@
 //! A desk in memory, whose files, outputs and failures are given.
 ghost use Rattle.std.specs.Prelude.{◌≡◌, ◌↔◌, ℕ, ◌+◌, ◌<◌, ◌≤◌, List, [], length, vec_len, vec_capacity, All, IfOk, Some, IfSome, IsNone, option_copied, slice_get};
+ghost use Rattle.plcr_io.specs.declared.limits.TheConstants.{FILE_NAME_BYTES};
 ghost use Rattle.plcr_io.specs.Calls.{next};
 ghost use Rattle.plcr_io.specs.Output.{IsFresh};
 ghost use Rattle.plcr_io.specs.MemoryDesk.{first_named, last_named, file_now, CallFails};
 
 use crate::calls::{is_listed, one_more};
-use crate::{Desk, MakeFailed, MemOut, NoMemory, TakeFault};
+use crate::{Desk, FILE_NAME_BYTES, MakeFailed, MemOut, NoMemory, TakeFault};
 use arrayvec::ArrayString;
 use std::alloc::Global;
 use std::marker::Model;
@@ -25,10 +26,10 @@ impl Model for MemFile {
     ghost view = { λ f. (string_bytes f.name, f.bytes.items) };
 }
 
-/// A name of at most 255 bytes.
+/// A name within its limit.
 #[derive(Drop)]
 pub(crate) struct Name {
-    text: ArrayString<255>,
+    text: ArrayString<FILE_NAME_BYTES>,
 }
 
 impl Model for Name {
@@ -42,7 +43,7 @@ impl Model for Name {
 impl Name {
     fn new(name: &str) -> Option<Name>
         ensures same { IfSome result (λ own. own ≡ name.now) }
-        ensures long { IsNone result ↔ (255 < length name.now) }
+        ensures long { IsNone result ↔ (FILE_NAME_BYTES < length name.now) }
     {
         match ArrayString::from(name) {
             Ok(text) => Some(Name { text }),

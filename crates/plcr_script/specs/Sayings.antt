@@ -3,6 +3,7 @@ use Rattle.std.specs.Prelude.{ℕ, ◌+◌, ◌^◌, ◌<◌, Bool, true, List, 
 use Rattle.std.specs.List.{list_all}
 use Rattle.std.specs.Str.{bytes_eq}
 use Rattle.plcr_base.specs.Chains.{◌>>=◌}
+use Rattle.plcr_io.specs.declared.limits.TheConstants.{FILE_NAME_BYTES}
 use Rattle.plcr_script.specs.declared.faults.Kind.{Kind}
 use Rattle.plcr_script.specs.declared.faults.Kind.TheVariants.{BadWord, BadNumber, TooFew, TooMany, NoSuchPass}
 use Rattle.plcr_script.specs.declared.keys.NumberKey.{NumberKey}
@@ -30,9 +31,9 @@ says_nothing (b ∷ bs) = b == 35
 abbrev pub is_visible : ℕ → Bool
 is_visible b = nat_le 0x21 b && nat_le b 0x7e
 
--- whether a word names a file: 1 to 255 bytes from 0x21 to 0x7e
+-- whether a word names a file: from one byte to the most that a name has, each from 0x21 to 0x7e
 abbrev pub is_file_name : List ℕ → Bool
-is_file_name word = nat_le 1 (length word) && (nat_le (length word) 255 && list_all is_visible word)
+is_file_name word = nat_le 1 (length word) && (nat_le (length word) FILE_NAME_BYTES && list_all is_visible word)
 
 -- the number that a word writes, where it is below a limit
 abbrev pub number_below : ℕ → List ℕ → Result ℕ Kind

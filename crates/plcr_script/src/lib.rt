@@ -3,7 +3,6 @@
 
 mod drafts;
 mod faults;
-mod gathering;
 mod keys;
 mod laws;
 mod numerals;
@@ -20,9 +19,9 @@ mod wording;
 mod worked;
 
 pub use faults::ScriptFault;
-pub use gathering::{add_bytes, add_decimal, put_parts};
 pub use laws::scripts_are_read_line_by_line;
 pub use outcomes::{Outcome, write_outcome};
+pub use plcr_io::{add_bytes, add_decimal, put_parts};
 pub use process::Process;
 pub use reading::{Mode, read_script};
 pub use scripts::Script;

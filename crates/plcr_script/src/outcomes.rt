@@ -6,9 +6,8 @@ ghost use Rattle.plcr_base.specs.Causes.{Rose};
 ghost use Rattle.plcr_base.specs.Told.{AppendsProperFront};
 ghost use Rattle.plcr_script.specs.Log.{log_line, numbers, place_text};
 
-use crate::gathering::{add_bytes, add_decimal, put_parts};
 use arrayvec::ArrayVec;
-use plcr_io::{PutFailed, Sink};
+use plcr_io::{PutFailed, Sink, add_bytes, add_decimal, put_parts};
 
 /// Room for the numbers of a script and a line, and the word behind them.
 const HEAD_ROOM: usize = 64;

@@ -5,9 +5,9 @@ ghost use Rattle.plcr_base.specs.Causes.{Rose};
 ghost use Rattle.plcr_base.specs.Told.{AppendsProperFront};
 ghost use Rattle.arrayvec.specs.ArrayVec.{array_vec_len};
 
+use crate::{PutFailed, Sink, put_all};
 use arrayvec::ArrayVec;
 use itoa::Buffer;
-use plcr_io::{PutFailed, Sink, put_all};
 
 /// Adds bytes to a line that has room for them.
 pub fn add_bytes<const N: usize>(line: &mut ArrayVec<u8, N>, bytes: &[u8])
