@@ -1,6 +1,8 @@
 pub mod Calls
+pub mod Counting
 pub mod Desk
 pub mod HostDesk
+pub mod Inner
 pub mod MemDesk
-pub mod MemoryDesk
+pub mod MemFiles
 pub mod Output

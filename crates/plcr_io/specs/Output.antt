@@ -1,6 +1,7 @@
 -- An output in memory, and what a put does to it.
 use Rattle.std.specs.Prelude.{◌≡◌, ◌⊎◌, ◌↔◌, ℕ, ◌-◌, ◌≤◌, min, List, [], ◌++◌, length, take, Result, IsErr, IfOk, OnOk, OnErr}
-use Rattle.plcr_io.specs.Calls.{next, FailsNext}
+use Rattle.plcr_io.specs.Counting.{next}
+use Rattle.plcr_io.specs.Calls.{FailsNext}
 use Rattle.plcr_io.specs.declared.sinks.PutFailed.{PutFailed}
 
 pub record Output : Type 0 where

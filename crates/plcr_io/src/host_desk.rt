@@ -3,7 +3,7 @@
 ghost use Rattle.std.specs.Prelude.{◌≡◌, ◌≢◌, ℕ, ◌<◌, ◌≤◌, [], length, None, IfOk, IsErrOf};
 ghost use Rattle.plcr_io.specs.declared.desks.TakeFault.TheVariants.{TooLong};
 
-use crate::calls::one_more;
+use crate::counting::one_more;
 use crate::{Desk, HostOut, MakeFailed, PutFailed, Sink, TakeFault};
 use arrayvec::ArrayString;
 use std::alloc::Global;

@@ -1,7 +1,7 @@
 //! A sink over a file of the system, standard output or another writer. It tells nothing of what it has written.
 ghost use Rattle.std.specs.Prelude.{◌≡◌, ◌<◌, ◌≤◌, [], length, None, IfSome};
 
-use crate::calls::one_more;
+use crate::counting::one_more;
 use crate::{PutFailed, Sink};
 use std::io::{ErrorKind, Write};
 use std::marker::Model;

@@ -3,12 +3,14 @@
 #![tactic(auto)]
 
 mod calls;
+mod counting;
 mod desks;
 mod host_desk;
 mod host_out;
 mod limits;
 mod lines;
 mod mem_desk;
+mod mem_files;
 mod mem_out;
 mod sinks;
 
@@ -17,7 +19,8 @@ pub use host_desk::{HostDesk, HostFile};
 pub use host_out::HostOut;
 pub use limits::FILE_NAME_BYTES;
 pub use lines::{add_bytes, add_decimal, put_parts};
-pub use mem_desk::{MemDesk, MemFile};
+pub use mem_desk::MemDesk;
+pub use mem_files::MemFile;
 pub use mem_out::MemOut;
 pub use sinks::{NoMemory, PutFailed, Sink, put_all};
 

@@ -1,71 +1,12 @@
 //! A desk in memory, whose files, outputs and failures are given.
-ghost use Rattle.std.specs.Prelude.{◌≡◌, ◌↔◌, ℕ, ◌+◌, ◌<◌, ◌≤◌, List, [], length, vec_len, vec_capacity, All, IfOk, Some, IfSome, IsNone, option_copied, slice_get};
-ghost use Rattle.plcr_io.specs.declared.limits.TheConstants.{FILE_NAME_BYTES};
-ghost use Rattle.plcr_io.specs.Calls.{next};
+ghost use Rattle.std.specs.Prelude.{◌≡◌, ℕ, ◌+◌, ◌≤◌, [], vec_len, vec_capacity, All, IfOk, Some, option_copied, slice_get};
 ghost use Rattle.plcr_io.specs.Output.{IsFresh};
-ghost use Rattle.plcr_io.specs.MemoryDesk.{first_named, last_named, file_now, CallFails};
 
-use crate::calls::{is_listed, one_more};
-use crate::{Desk, FILE_NAME_BYTES, MakeFailed, MemOut, NoMemory, TakeFault};
-use arrayvec::ArrayString;
+use crate::calls::{Name, admit};
+use crate::counting::one_more;
+use crate::mem_files::{Kept, find_file, find_kept};
+use crate::{Desk, MakeFailed, MemFile, MemOut, NoMemory, TakeFault};
 use std::alloc::Global;
-use std::marker::Model;
-
-/// A file that can be taken.
-#[derive(Drop)]
-pub struct MemFile {
-    pub name: String,
-    pub bytes: Vec<u8>,
-}
-
-impl Model for MemFile {
-    ghost use Rattle.std.specs.Prelude.{ℕ, List, string_bytes};
-
-    ghost Value = { List ℕ × List ℕ };
-
-    ghost view = { λ f. (string_bytes f.name, f.bytes.items) };
-}
-
-/// A name within its limit.
-#[derive(Drop)]
-pub(crate) struct Name {
-    text: ArrayString<FILE_NAME_BYTES>,
-}
-
-impl Model for Name {
-    ghost use Rattle.std.specs.Prelude.{ℕ, List};
-
-    ghost Value = { List ℕ };
-
-    ghost view = { λ name. name.text.bytes };
-}
-
-impl Name {
-    fn new(name: &str) -> Option<Name>
-        ensures same { IfSome result (λ own. own ≡ name.now) }
-        ensures long { IsNone result ↔ (FILE_NAME_BYTES < length name.now) }
-    {
-        match ArrayString::from(name) {
-            Ok(text) => Some(Name { text }),
-            Err(_) => None,
-        }
-    }
-}
-
-/// An output that was kept, with its name.
-#[derive(Drop)]
-pub(crate) struct Kept {
-    name: Name,
-    out: MemOut,
-}
-
-impl Model for Kept {
-    ghost use Rattle.std.specs.Prelude.{ℕ, List};
-
-    ghost Value = { List ℕ × List ℕ };
-
-    ghost view = { λ kept. (kept.name, kept.out.bytes) };
-}
 
 /// A desk in memory. Takes, makes and keeps are numbered together from 1.
 #[derive(Drop)]
@@ -88,48 +29,8 @@ pub struct MemDesk {
     ghost balanced: { vec_len kept + vec_len dropped ≤ vec_len made },
 }
 
-/// The bytes of the first file with this name.
-fn find_file<'a>(files: &'a [MemFile], name: &str) -> Option<&'a [u8]>
-    ensures { option_copied result ≡ first_named name.now files.now }
-{
-    for file in files {
-        if file.name.as_str() == name {
-            return Some(&file.bytes);
-        }
-    }
-    None
-}
-
-/// The bytes that were kept last under this name.
-fn find_kept<'a>(kept: &'a [Kept], name: &str) -> Option<&'a [u8]>
-    ensures { option_copied result ≡ last_named name.now kept.now }
-{
-    let mut rest = kept;
-    while let Some((last, front)) = rest.split_last() {
-        if last.name.text.as_str() == name {
-            return Some(last.out.bytes());
-        }
-        rest = front;
-    }
-    None
-}
-
-/// Counts a call under this name. `None` where it fails.
-pub(crate) fn admit(calls: &mut u64, failing: &[u32], name: &str) -> Option<Name>
-    ensures calls { calls.new ≡ next calls.old }
-    ensures same { IfSome result (λ own. own ≡ name.now) }
-    ensures fails { IsNone result ↔ CallFails failing.now calls.old name.now }
-{
-    *calls = one_more(*calls);
-    if is_listed(failing, *calls) {
-        None
-    } else {
-        Name::new(name)
-    }
-}
-
 impl MemDesk {
-    ghost use Rattle.plcr_io.specs.MemDesk.{contents};
+    ghost use Rattle.plcr_io.specs.MemDesk.{contents, file_now};
 
     /// A desk with these files, which hands out these outputs in order. Of several files with one name the first
     /// counts. The takes, makes and keeps whose numbers stand in `failing` fail.
@@ -185,8 +86,8 @@ impl MemDesk {
 
 impl Desk for MemDesk {
     ghost use Rattle.plcr_io.specs.Desk.{Takes, Makes, Keeps, Abandons, HasOpen};
-    ghost use Rattle.plcr_io.specs.MemoryDesk.{tells, TakesFile, MakesOutput, KeepsOutput, AbandonsOutput};
-    ghost use Rattle.plcr_io.specs.MemDesk.{contents, balanced};
+    ghost use Rattle.plcr_io.specs.MemDesk.{contents, tells, TakesFile, MakesOutput, KeepsOutput, AbandonsOutput};
+    ghost use Rattle.plcr_io.specs.Inner.Balance.{balanced};
 
     type Out = MemOut;
 

@@ -2,7 +2,8 @@
 ghost use Rattle.std.specs.Prelude.{◌≡◌, ℕ, ◌<◌, ◌≤◌, List, [], ◌∷◌, length, Some, IfOk};
 ghost use Rattle.plcr_io.specs.Output.{Puts};
 
-use crate::calls::{is_listed, one_more};
+use crate::calls::is_listed;
+use crate::counting::one_more;
 use crate::{NoMemory, PutFailed, Sink};
 use std::alloc::Global;
 use std::marker::Model;

@@ -1,0 +1,2 @@
+-- Definitions and proofs that no public clause cites.
+pub mod Balance
