@@ -23,10 +23,19 @@ pub struct HostFile<F> {
     part: ArrayString<LONGEST_PATH>,
 }
 
+// What is seen of it is the count of its failures.
+impl<F> Model for HostFile<F> {
+    ghost use Rattle.std.specs.Prelude.{ℕ};
+
+    ghost Value = { ℕ };
+
+    ghost view = { λ file. file.out };
+}
+
 impl<F: Write> Sink for HostFile<F> {
     ghost written = { λ _. None };
 
-    ghost faults = { λ file. file.out };
+    ghost faults = { λ file. file };
 
     ghost mark = { λ _. [] };
 
@@ -107,7 +116,8 @@ fn read_whole<R: Files>(
 }
 
 impl<R: Files> Desk for HostDesk<R> {
-    ghost use Rattle.plcr_io.specs.HostDesk.{tells};
+    ghost use Rattle.plcr_io.specs.Desk.{Takes, Makes, Keeps, Abandons, HasOpen};
+    ghost use Rattle.plcr_io.specs.HostDesk.{tells, after_take, after_output, after_abandon};
 
     type Out = HostFile<R::File>;
 
@@ -115,7 +125,10 @@ impl<R: Files> Desk for HostDesk<R> {
 
     ghost balances = { λ _. tt };
 
-    fn take(&mut self, alloc: Global, name: &str, limit: u64) -> Result<Vec<u8>, TakeFault> {
+    fn take(&mut self, alloc: Global, name: &str, limit: u64) -> Result<Vec<u8>, TakeFault>
+        ensures counts { self.new ≡ after_take self.old result }
+        ensures told { Takes name.now limit (tells self.old) (tells self.new) result }
+    {
         let whole = read_whole(&self.files, alloc, name, limit);
         if let Err(TakeFault::Failed) = &whole {
             self.take_faults = one_more(self.take_faults);
@@ -123,7 +136,10 @@ impl<R: Files> Desk for HostDesk<R> {
         whole
     }
 
-    fn make(&mut self, name: &str) -> Result<HostFile<R::File>, MakeFailed> {
+    fn make(&mut self, name: &str) -> Result<HostFile<R::File>, MakeFailed>
+        ensures counts { self.new ≡ after_output self.old result }
+        ensures told { Makes (λ _. None) (λ file. file) name.now (tells self.old) (tells self.new) result }
+    {
         if let Some(part) = part_name(name) {
             if let Ok(file) = fs::create(&self.files, part.as_str()) {
                 let out = HostOut::new(file);
@@ -134,7 +150,10 @@ impl<R: Files> Desk for HostDesk<R> {
         Err(MakeFailed)
     }
 
-    fn keep(&mut self, name: &str, out: HostFile<R::File>) -> Result<(), MakeFailed> {
+    fn keep(&mut self, name: &str, out: HostFile<R::File>) -> Result<(), MakeFailed>
+        ensures counts { self.new ≡ after_output self.old result }
+        ensures told { Keeps name.now None (tells self.old) (tells self.new) result }
+    {
         let HostFile { out, part } = out;
         drop(out);
         match fs::rename(&self.files, part.as_str(), name) {
@@ -147,7 +166,10 @@ impl<R: Files> Desk for HostDesk<R> {
         }
     }
 
-    fn abandon(&mut self, out: HostFile<R::File>) {
+    fn abandon(&mut self, out: HostFile<R::File>)
+        ensures counts { self.new ≡ after_abandon self.old out }
+        ensures told { Abandons None out (tells self.old) (tells self.new) }
+    {
         let HostFile { out, part } = out;
         if out.faults() > 0 {
             self.out_faults = one_more(self.out_faults);

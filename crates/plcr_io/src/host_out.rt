@@ -1,5 +1,7 @@
 //! A sink over a file of the system, standard output or another writer. It tells nothing of what it has written.
-ghost use Rattle.std.specs.Prelude.{◌≡◌, ◌<◌, ◌≤◌, [], length, None, IfSome};
+ghost use Rattle.std.specs.Prelude.{◌≡◌, ◌<◌, ◌≤◌, [], length, None, IfOk};
+ghost use Rattle.plcr_io.specs.Counting.{count_after};
+ghost use Rattle.plcr_io.specs.Inner.Tries.{Tries};
 
 use crate::counting::one_more;
 use crate::{PutFailed, Sink};
@@ -40,8 +42,7 @@ impl<W> HostOut<W> {
 
 /// One write, tried again where a signal interrupts it. `None` where it fails, or takes no byte.
 fn write_some<W: Write>(writer: &mut W, piece: &[u8]) -> Option<usize>
-    ensures some { IfSome result (λ n. 0 < n) }
-    ensures within { IfSome result (λ n. n ≤ length piece.now) }
+    ensures { Tries W.contents piece.now writer.old writer.new result }
 {
     for _ in 0..u64::MAX {
         match writer.write(piece) {
@@ -64,7 +65,13 @@ impl<W: Write> Sink for HostOut<W> {
 
     ghost mark = { λ _. [] };
 
-    fn put(&mut self, piece: &[u8]) -> Result<usize, PutFailed> {
+    fn put(&mut self, piece: &[u8]) -> Result<usize, PutFailed>
+        requires { 0 < length piece.now }
+        ensures counts { self.new ≡ count_after self.old result }
+        ensures some { IfOk result (λ n. 0 < n) }
+        ensures within { IfOk result (λ n. n ≤ length piece.now) }
+        ensures later { self.old ≤ self.new }
+    {
         match write_some(&mut self.writer, piece) {
             Some(n) => Ok(n),
             None => {
