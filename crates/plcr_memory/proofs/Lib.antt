@@ -4,3 +4,4 @@ pub mod Halves
 pub mod Orders
 pub mod Searches
 pub mod Ranges
+pub mod Numbers

@@ -13,7 +13,7 @@ use Rattle.std.proofs.lemmas.List.Sorted.{IsPermutation-keeps, All-permutation, 
 use Rattle.plcr_memory.specs.declared.region.Region.{Region}
 use Rattle.plcr_memory.specs.declared.order.Placed.{Placed}
 use Rattle.plcr_memory.specs.Regions.{region_at}
-use Rattle.plcr_memory.specs.Order.{placed_at, IsPlaced, IsOrder}
+use Rattle.plcr_memory.specs.inner.Order.{placed_at, IsPlaced, IsOrder}
 use Rattle.plcr_memory.proofs.Passes.{below_next}
 
 -- the entry of the region at an index

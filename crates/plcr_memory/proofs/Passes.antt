@@ -4,7 +4,7 @@ use Rattle.std.proofs.lemmas.Bool.{cases_lt, cases_order}
 use Rattle.plcr_memory.specs.declared.region.Region.{Region}
 use Rattle.plcr_memory.specs.declared.order.Placed.{Placed}
 use Rattle.plcr_memory.specs.Regions.{region_at, Share, AreApartBelow}
-use Rattle.plcr_memory.specs.Order.{placed_at, IsOrder}
+use Rattle.plcr_memory.specs.inner.Order.{placed_at, IsOrder}
 use Rattle.plcr_memory.proofs.Shares.{share_sym, share_at_start, starts_within}
 
 -- the region at a place of the order

@@ -1,14 +1,16 @@
 -- Ranges of addresses, byte by byte.
-use Rattle.std.proofs.Common.{◌≡◌, ◌≤◌, ◌<◌, ℕ, zero, suc, ◌+◌, ◌-◌, inl, inr, true, false, nat_lt, Option, Some, None, is_some, List, [], ◌∷◌, ◌++◌, length, take, slice_index, refl, sym, ap, subst, ◌∙◌, arith}
-use Rattle.std.specs.Prelude.{IsSome}
+use Rattle.std.proofs.Common.{◌≡◌, ◌≤◌, ◌<◌, ℕ, zero, suc, ◌+◌, ◌-◌, inl, inr, true, false, nat_le, nat_lt, Option, Some, None, is_some, List, [], ◌∷◌, ◌++◌, length, take, slice_index, refl, sym, ap, subst, ◌∙◌, arith}
+use Rattle.std.specs.Prelude.{IsSome, if◌then◌else◌, drop}
+use Rattle.std.specs.Option.{option_map_or}
 use Rattle.std.proofs.lemmas.Bool.{cases_lt}
 use Rattle.std.proofs.lemmas.Bool.Decides.{nat_tests}
-use Rattle.std.proofs.lemmas.List.{get_or_append_left, get_or-append_right, get_or-take, length-take-le, length-append}
+use Rattle.std.proofs.lemmas.List.{get_or_append_left, get_or-append_right, get_or-drop, get_or-take, length-take-le, length-append, length-drop}
 use borrow.Rule.Slice.PartMut.{put_mid, post_of}
 use Rattle.plcr_memory.specs.declared.region.Region.{Region}
-use Rattle.plcr_memory.specs.Regions.{Contents, byte_in, byte_at, bytes_at, cons_known}
-use Rattle.plcr_memory.specs.Order.{IsHolder}
-use Rattle.plcr_memory.proofs.Shares.{covers_is, is_covered}
+use Rattle.plcr_memory.specs.Regions.{Contents, byte_in, byte_at, bytes_at, cons_known, is_stored, stores}
+use Rattle.plcr_memory.specs.inner.Order.{IsHolder}
+use Rattle.plcr_memory.proofs.Searches.{no_byte}
+use Rattle.plcr_memory.proofs.Shares.{covers_is, is_covered, true_from_lt}
 
 -- each of the first n bytes from an address on is mapped
 abbrev pub AreMapped : Contents → ℕ → ℕ → Type 0
@@ -79,6 +81,37 @@ one_run m a r xs h short each =
     let none : a ≡ a + 0 = omega arith in
     let enough : length xs ≤ 0 + left_in r (a + 0) = subst (λ (x : ℕ). length xs ≤ 0 + left_in r x) none (omega (arith, short)) in
     all_stand m a xs (λ k lt. run_covers m a 0 k r h (omega arith) (omega (arith, lt, enough)) ∙ ap Some (sym (each k lt)))
+
+-- the bytes of a range that stand in the file as a region's
+pub stored_run : (m : Contents) (a n : ℕ) (r : Region) (xs : List ℕ) → IsHolder m (a + 0) r → stores r a n ≡ true
+    → xs ≡ take n (drop (a - r.start) (take r.len (drop r.from m.file))) → bytes_at m a n ≡ Some xs
+stored_run m a n r xs h test piece =
+    let inside : (a - r.start) + n ≤ r.len = le_from_test ((a - r.start) + n) r.len test in
+    let front : length (take r.len (drop r.from m.file)) ≡ r.len = length-take-le r.len (drop r.from m.file) (rw (length-drop r.from m.file) (omega (arith, h.backed.in_file))) in
+    let rest : length (drop (a - r.start) (take r.len (drop r.from m.file))) ≡ r.len - (a - r.start) = length-drop (a - r.start) (take r.len (drop r.from m.file)) ∙ ap (λ (x : ℕ). x - (a - r.start)) front in
+    let size : length xs ≡ n = ap length piece ∙ length-take-le n (drop (a - r.start) (take r.len (drop r.from m.file))) (omega (arith, rest, inside)) in
+    let each : (k : ℕ) → k < length xs → slice_index xs k ≡ byte_in m.file r (a + k) = λ k lt.
+    let low : k < n = omega (arith, lt, size) in
+    let start = is_covered r (a + 0) h.covered in
+    let place : (a - r.start) + k ≡ (a + k) - r.start = omega (arith, start) in
+    let within : (a - r.start) + k < r.len = omega (arith, low, inside) in
+    ap (λ (ys : List ℕ). slice_index ys k) piece ∙ get_or-take n (drop (a - r.start) (take r.len (drop r.from m.file))) k 0 low
+    ∙ get_or-drop (a - r.start) (take r.len (drop r.from m.file)) k 0 ∙ get_or-take r.len (drop r.from m.file) ((a - r.start) + k) 0 within
+    ∙ get_or-drop r.from m.file ((a - r.start) + k) 0 ∙ ap (λ (x : ℕ). slice_index m.file (r.from + x)) place
+    ∙ sym (of_file ((a + k) - r.start) r.len (slice_index m.file (r.from + ((a + k) - r.start))) (omega (arith, within, place))) in
+    subst (λ (x : ℕ). bytes_at m a x ≡ Some xs) size (one_run m a r xs h (omega (arith, size, inside, h.backed.in_region)) each)
+  where
+    le_from_test : (x y : ℕ) → nat_le x y ≡ true → x ≤ y
+    le_from_test x y h = grind (arith, nat_tests)
+
+    of_file : (x y b : ℕ) → x < y → (if nat_lt x y then b else 0) ≡ b
+    of_file x y b lt = rw (true_from_lt x y lt) refl
+
+-- no region stores bytes from an address without one
+pub none_stored : (m : Contents) (a n : ℕ) → byte_at m (a + 0) ≡ None → is_stored m a n ≡ false
+none_stored m a n h =
+    let here : a + 0 ≡ a = omega arith in
+    ap (λ (o : Option Region). option_map_or (λ r. stores r a n) o false) (no_byte m a (subst (λ (x : ℕ). byte_at m x ≡ None) here h))
 
 -- the zeros behind a region's bytes of the file
 pub zeros_run : (m : Contents) (a k : ℕ) (r : Region) → IsHolder m (a + 0) r → r.len ≤ a - r.start → k < left_in r a → byte_at m (a + k) ≡ Some 0

@@ -8,7 +8,7 @@ use Rattle.std.proofs.lemmas.List.Sorted.{IsNonDecreasingBy-from_default}
 use Rattle.plcr_memory.specs.declared.region.Region.{Region}
 use Rattle.plcr_memory.specs.declared.order.Placed.{Placed}
 use Rattle.plcr_memory.specs.Regions.{Contents, region_at, region_over, covers, byte_in, byte_among, byte_at, IsBacked, Ends, AreApart}
-use Rattle.plcr_memory.specs.Order.{placed_at, IsOrder, IsHolder}
+use Rattle.plcr_memory.specs.inner.Order.{placed_at, IsOrder, IsHolder}
 use Rattle.plcr_memory.proofs.Shares.{covers_is, is_covered, share_at_start}
 use Rattle.plcr_memory.proofs.Passes.{region_of, start_is, two_share}
 

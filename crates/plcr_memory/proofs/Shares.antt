@@ -30,7 +30,7 @@ starts_within r s h =
     let other = is_covered s h.address h.other in
     (omega (arith, one, other), omega (arith, one, other))
 
-true_from_lt : (a b : ℕ) → a < b → IsTrue (nat_lt a b)
+pub true_from_lt : (a b : ℕ) → a < b → IsTrue (nat_lt a b)
 true_from_lt a b h = grind (arith, nat_tests)
 
 lt_from_true : (a b : ℕ) → IsTrue (nat_lt a b) → a < b

@@ -1,3 +1,3 @@
 pub mod Regions
 pub mod Faults
-pub mod Order
+pub mod inner

@@ -1,6 +1,7 @@
 -- The memory of a stopped process as the segments of a Mach-O file lay it out (loader.h): regions of addresses over the bytes of the file.
-use Rattle.std.specs.Prelude.{◌≤◌, ◌<◌, ℕ, zero, suc, ◌+◌, ◌-◌, ◌^◌, Bool, IsTrue, nat_lt, nat_le, ◌&&◌, if◌then◌else◌, List, [], ◌∷◌, length, slice_index, slice_index_or, Option, Some, None, option_map, unwrap_or}
+use Rattle.std.specs.Prelude.{◌≤◌, ◌<◌, ℕ, zero, suc, ◌+◌, ◌-◌, ◌^◌, Bool, false, IsTrue, nat_lt, nat_le, ◌&&◌, if◌then◌else◌, List, [], ◌∷◌, length, slice_index, slice_index_or, Option, Some, None, option_map, unwrap_or}
 use Rattle.std.specs.List.{find}
+use Rattle.std.specs.Option.{option_map_or}
 use Rattle.byteorder.specs.Endian.{little_number}
 use Rattle.plcr_memory.specs.declared.region.Region.{Region}
 
@@ -52,6 +53,14 @@ zeros_in r a = if nat_lt (a - r.start) r.len then 0 else r.size - (a - r.start)
 -- the same of the first region that covers the address, and none where no region does
 abbrev pub zeros_at : Contents → ℕ → ℕ
 zeros_at memory a = unwrap_or (option_map (λ r. zeros_in r a) (region_over memory.regions a)) 0
+
+-- whether the region has so many of the file's bytes from an address on
+abbrev pub stores : Region → ℕ → ℕ → Bool
+stores r a n = nat_le ((a - r.start) + n) r.len
+
+-- the same of the first region that covers the address
+abbrev pub is_stored : Contents → ℕ → ℕ → Bool
+is_stored memory a n = option_map_or (λ r. stores r a n) (region_over memory.regions a) false
 
 -- the region's bytes stand in the file and within the region, which isn't empty
 pub record IsBacked (file : List ℕ) (r : Region) : Type 0 where

@@ -1,7 +1,7 @@
 ghost use Rattle.std.specs.Prelude.{◌≡◌, ◌≤◌, ◌<◌, ◌+◌, ◌^◌, ◌↔◌, IsTrue, All, MatchOption, IfOk, IfErr, OnOk, length};
 ghost use Rattle.plcr_memory.specs.Regions.{Ends, Share, AreApart, AreApartBelow};
 ghost use Rattle.plcr_memory.specs.Faults.{IsFault, IsFirstWrap, IsFirstOverlap};
-ghost use Rattle.plcr_memory.specs.Order.{IsOrder};
+ghost use Rattle.plcr_memory.specs.inner.Order.{IsOrder};
 
 use crate::fault::MemoryFault;
 use crate::order::{Placed, order_of};

@@ -1,14 +1,14 @@
 ghost use Rattle.std.specs.Prelude.{◌≡◌, All, IfOk, IfErr, OnOk, IfSome, IfNone, OnSome, ◌+◌, ◌≤◌, ◌<◌, ◌^◌, ℕ, Some, is_some, length};
 ghost use Rattle.std.specs.Bool.{OnTrue, OnFalse};
-ghost use Rattle.plcr_memory.specs.Regions.{IsBacked, Ends, AreApart, byte_at, bytes_at, number_at, zeros_at};
-ghost use Rattle.plcr_memory.specs.Order.{IsHolder};
+ghost use Rattle.plcr_memory.specs.Regions.{IsBacked, Ends, AreApart, byte_at, bytes_at, is_stored, number_at, zeros_at};
+ghost use Rattle.plcr_memory.specs.inner.Order.{IsHolder};
 ghost use Rattle.plcr_memory.specs.Faults.{IsFault};
 
 use crate::checks::lawful_order;
 use crate::fault::MemoryFault;
 use crate::order::Placed;
 use crate::region::Region;
-use crate::run::copy_run;
+use crate::run::{copy_run, stored, stores};
 use crate::search::{byte_of, region_holding};
 use byteorder::{ByteOrder, LittleEndian};
 use std::alloc::Global;
@@ -24,7 +24,7 @@ pub struct Memory {
 
 impl Model for Memory {
     ghost use Rattle.plcr_memory.specs.Regions.{Contents};
-    ghost use Rattle.plcr_memory.specs.Order.{IsHeld};
+    ghost use Rattle.plcr_memory.specs.inner.Order.{IsHeld};
 
     ghost Value = { Contents };
 
@@ -128,6 +128,24 @@ impl Memory {
             }
         }
         self.copy_across(at, into)
+    }
+
+    /// The bytes of a range where they stand in the file, one after the other, as bytes of one region. None says
+    /// nothing of whether the range is mapped: it may have zeros behind a region's bytes of the file, or go on in
+    /// another region. A caller then reads number by number. One region is looked at.
+    pub fn stored(&self, at: u64, size: u64) -> Option<&[u8]>
+        ensures bytes { IfSome result (λ piece. bytes_at self.now at size ≡ Some piece.now) }
+        ensures within { OnSome result (at + size ≤ 2 ^ 64) }
+        ensures held { is_some result ≡ is_stored self.now at size }
+    {
+        let Some(region) = self.holder(at, 0) else {
+            return None;
+        };
+        if !stores(&region, at, size) {
+            return None;
+        }
+        let offset = at - region.start;
+        Some(stored(self.file.as_slice(), &region, offset, size as usize))
     }
 
     // Copies the bytes of a range of several regions, or of none.

@@ -1,5 +1,5 @@
 ghost use Rattle.std.specs.Prelude.{IfOk};
-ghost use Rattle.plcr_memory.specs.Order.{IsOrder};
+ghost use Rattle.plcr_memory.specs.inner.Order.{IsOrder};
 
 use crate::region::Region;
 use std::alloc::{AllocError, Global};

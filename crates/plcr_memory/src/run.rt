@@ -1,10 +1,20 @@
 ghost use Rattle.std.specs.Prelude.{◌≡◌, ◌≤◌, ◌<◌, ◌+◌, ◌-◌, ℕ, length, take, drop, slice_index};
-ghost use Rattle.plcr_memory.specs.Regions.{IsBacked, byte_in};
+ghost use Rattle.plcr_memory.specs.Regions.{IsBacked, byte_in, stores};
 
 use crate::region::Region;
 
-// At most so many of the region's bytes that stand in the file, from an offset into the region on.
-fn stored<'a>(file: &'a [u8], region: &Region, offset: u64, most: usize) -> &'a [u8]
+/// Whether so many bytes from an address on stand in the file as the region's.
+pub fn stores(region: &Region, at: u64, size: u64) -> bool
+    requires { region.now.start ≤ at }
+    ensures { result ≡ stores region.now at size }
+{
+    let offset = at - region.start;
+    let len = region.len as u64;
+    offset <= len && size <= len - offset
+}
+
+/// At most so many of the region's bytes that stand in the file, from an offset into the region on.
+pub fn stored<'a>(file: &'a [u8], region: &Region, offset: u64, most: usize) -> &'a [u8]
     requires { IsBacked file.now region.now }
     ensures within { length result.now ≤ most }
     ensures bytes { result.now ≡ take most (drop offset (take region.now.len (drop region.now.from file.now))) }

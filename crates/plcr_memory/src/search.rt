@@ -1,6 +1,6 @@
 ghost use Rattle.std.specs.Prelude.{◌≡◌, ◌≤◌, ◌<◌, ℕ, IsTrue, All, length};
 ghost use Rattle.plcr_memory.specs.Regions.{AreApart, IsBacked, byte_in, covers, region_over};
-ghost use Rattle.plcr_memory.specs.Order.{IsOrder, placed_at};
+ghost use Rattle.plcr_memory.specs.inner.Order.{IsOrder, placed_at};
 ghost use Rattle.std.specs.List.Sorted.{IsNonDecreasingBy};
 ghost use Rattle.plcr_memory.specs.declared.order.Placed.{Placed};
 

@@ -109,6 +109,58 @@ fn zeros_behind_the_file(rt: HostRuntime) -> Result<(), Fail> {
     Ok(())
 }
 
+// Whether these bytes of the file are given as one slice.
+fn is_slice(memory: &Memory, at: u64, want: &[u8]) -> bool {
+    match memory.stored(at, want.len() as u64) {
+        Some(piece) => piece == want,
+        None => false,
+    }
+}
+
+#[test]
+fn stored_bytes_are_one_slice(rt: HostRuntime) -> Result<(), Fail> {
+    let memory = adjoining(rt.alloc())?;
+    assert!(rt; is_slice(&memory, 0x1002, &[3, 4, 5]));
+    assert!(rt; is_slice(&memory, 0x1000, &[1, 2, 3, 4, 5, 6, 7, 8]));
+    assert!(rt; is_slice(&memory, 0x1010, &[255; 16]));
+    // Zeros behind the file's bytes, alone and behind the last of them, more than there are, and addresses of no region.
+    let unstored = [
+        (0x1009, 1),
+        (0x1007, 2),
+        (0x1010, 17),
+        (0xfff, 1),
+        (u64::MAX, u64::MAX),
+    ];
+    for (at, size) in unstored {
+        assert!(rt; memory.stored(at, size).is_none(), "{size} bytes at {at}");
+    }
+    assert_eq!(rt; memory.read_u8(0x1009), Some(0));
+    assert_eq!(rt; memory.read_u16(0x1007), Some(8));
+    Ok(())
+}
+
+// The bytes stand one after the other in the file, and belong to two regions.
+#[test]
+fn bytes_of_two_regions_are_read_as_a_number(rt: HostRuntime) -> Result<(), Fail> {
+    let low = Region {
+        start: 0x1000,
+        size: 4,
+        from: 0,
+        len: 4,
+    };
+    let high = Region {
+        start: 0x1004,
+        from: 4,
+        ..low
+    };
+    let memory = memory_of(rt.alloc(), &[low, high])?;
+    assert!(rt; is_slice(&memory, 0x1000, &[1, 2, 3, 4]));
+    assert!(rt; is_slice(&memory, 0x1004, &[5, 6, 7, 8]));
+    assert!(rt; memory.stored(0x1002, 4).is_none());
+    assert_eq!(rt; memory.read_u32(0x1002), Some(0x0605_0403));
+    Ok(())
+}
+
 #[test]
 fn refusals(rt: HostRuntime) {
     let wrapping = [zeros(0xffff_ffff_ffff_fff0, 32)];

@@ -1,6 +1,6 @@
 use Rattle.std.proofs.Common.{◌≡◌, ◌≤◌, ◌<◌, ◌+◌, refl, arith}
 use Rattle.std.proofs.lemmas.Bool.{false≢true}
-use Rattle.plcr_memory.specs.Order.{placed_at}
+use Rattle.plcr_memory.specs.inner.Order.{placed_at}
 use Rattle.plcr_memory.proofs.Passes.{passed_over, passed_more, clash, passed_end}
 use Rattle.plcr_memory.proofs.checks.are_apart.Goals as goal
 use Rattle.plcr_memory.proofs.checks.are_apart.Goals.{then-index-count+else-from-free, else-index-count}

@@ -1,0 +1,2 @@
+-- What only the crate's own functions speak of.
+pub mod Order
