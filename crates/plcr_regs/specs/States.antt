@@ -1,17 +1,24 @@
 -- Thread states as LC_THREAD and LC_UNIXTHREAD hold them (mach/i386/thread_status.h, mach/arm/thread_status.h).
-use Rattle.std.specs.Prelude.{◌≡◌, ℕ, ◌+◌, ◌*◌, ◌==◌, nat_lt, Bool, true, ◌&&◌, if◌then◌else◌, List, [], ◌∷◌, length, take, drop, map, find, IsTrue, Option, Some, None, is_some}
+use Rattle.std.specs.Prelude.{◌≡◌, ℕ, ◌+◌, ◌*◌, ◌==◌, nat_lt, Bool, true, ◌&&◌, if◌then◌else◌, List, [], ◌∷◌, length, take, drop, map, find, codes, IsTrue, Option, Some, None, is_some}
 use Rattle.std.specs.Option.{option_map}
 use Rattle.std.specs.List.{range_with_len, list_all}
 use Rattle.plcr_base.specs.Numbers.{u32_in, u64_in}
 use Rattle.plcr_regs.specs.declared.arch.Arch.{Arch}
 use Rattle.plcr_regs.specs.declared.arch.Arch.TheVariants.{X86_64, Arm64}
+use Rattle.plcr_regs.specs.declared.flavors.TheConstants.{x86_THREAD_STATE64, x86_THREAD_STATE64_COUNT}
+use Rattle.plcr_regs.specs.declared.limits.TheConstants.{MOST_REGISTERS}
 use Rattle.plcr_regs.specs.declared.registers.Registers.{Registers}
 use Rattle.plcr_regs.specs.Names.{register_count}
+use Rattle.plcr_regs.specs.Places.{place_of}
+
+-- the place of arm64's cpsr
+abbrev pub cpsr_place : ℕ
+cpsr_place = place_of Arm64 (codes "cpsr")
 
 -- the number of register i: each is 8 bytes but arm64's cpsr, 4 bytes and a pad word
 abbrev pub register_in : Arch → List ℕ → ℕ → ℕ
 register_in X86_64 bytes i = u64_in bytes (8 * i)
-register_in Arm64 bytes i = if i == 33 then u32_in bytes (8 * i) else u64_in bytes (8 * i)
+register_in Arm64 bytes i = if i == cpsr_place then u32_in bytes (8 * i) else u64_in bytes (8 * i)
 
 -- the same where the architecture has such a register
 abbrev pub value_in : Arch → List ℕ → ℕ → Option ℕ
@@ -19,7 +26,7 @@ value_in arch bytes i = if nat_lt i (register_count arch) then Some (register_in
 
 -- all registers, the first at the head of the bytes
 unfoldable pub registers_in : Arch → List ℕ → Registers
-registers_in arch bytes = record { arch = arch; value = map (value_in arch bytes) (range_with_len 0 34) }
+registers_in arch bytes = record { arch = arch; value = map (value_in arch bytes) (range_with_len 0 MOST_REGISTERS) }
 
 -- A form of a thread state: its flavor, its count of 4-byte words, and the words that stand before the registers.
 pub record Form : Type 0 where
@@ -29,7 +36,7 @@ pub record Form : Type 0 where
 
 -- the forms that are read today: x86_THREAD_STATE64 alone
 abbrev pub accepted_forms : Arch → List Form
-accepted_forms X86_64 = record { flavor = 4; count = 42; head = [] } ∷ []
+accepted_forms X86_64 = record { flavor = x86_THREAD_STATE64; count = x86_THREAD_STATE64_COUNT; head = [] } ∷ []
 accepted_forms Arm64 = []
 
 -- these words stand one after the other from a place on

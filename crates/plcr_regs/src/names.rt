@@ -2,13 +2,14 @@ ghost use Rattle.std.specs.Prelude.{◌≡◌, ◌<◌, [], length, map, slice_i
 ghost use Rattle.plcr_regs.specs.Names.{register_count, register_names};
 
 use crate::arch::Arch;
+use crate::limits::MOST_REGISTERS;
 
 const X86_64_NAMES: [&str; 21] = [
     "rax", "rbx", "rcx", "rdx", "rdi", "rsi", "rbp", "rsp", "r8", "r9", "r10", "r11", "r12", "r13",
     "r14", "r15", "rip", "rflags", "cs", "fs", "gs",
 ];
 
-const ARM64_NAMES: [&str; 34] = [
+const ARM64_NAMES: [&str; MOST_REGISTERS] = [
     "x0", "x1", "x2", "x3", "x4", "x5", "x6", "x7", "x8", "x9", "x10", "x11", "x12", "x13", "x14",
     "x15", "x16", "x17", "x18", "x19", "x20", "x21", "x22", "x23", "x24", "x25", "x26", "x27",
     "x28", "fp", "lr", "sp", "pc", "cpsr",

@@ -3,9 +3,14 @@ ghost use Rattle.plcr_regs.specs.Names.{register_count};
 ghost use Rattle.plcr_regs.specs.States.{IsWhole, registers_in, state_in, value_in};
 
 use crate::arch::Arch;
+use crate::flavors::{x86_THREAD_STATE64, x86_THREAD_STATE64_COUNT};
+use crate::limits::MOST_REGISTERS;
 use crate::names::count;
 use crate::registers::Registers;
 use plcr_base::{read_u32, read_u64};
+
+// The bytes of a state of x86-64.
+const STATE64_BYTES: usize = 4 * x86_THREAD_STATE64_COUNT;
 
 /// The place of cpsr, the one register of 4 bytes.
 const CPSR: usize = 33;
@@ -28,7 +33,7 @@ fn registers(arch: Arch, bytes: &[u8]) -> Registers
     requires { 8 * register_count arch ≤ length bytes.now }
     ensures { result ≡ registers_in arch bytes.now }
 {
-    let mut value = [None; 34];
+    let mut value = [None; MOST_REGISTERS];
     for i in 0..value.len() {
         value[i] = value_at(arch, bytes, i);
     }
@@ -44,7 +49,7 @@ pub fn read_state(arch: Arch, flavor: u32, bytes: &[u8]) -> Option<Registers>
     ensures whole { IfSome result (IsWhole arch) }
 {
     match (arch, flavor, bytes.len()) {
-        (Arch::X86_64, 4, 168) => Some(registers(arch, bytes)),
+        (Arch::X86_64, x86_THREAD_STATE64, STATE64_BYTES) => Some(registers(arch, bytes)),
         _ => None,
     }
 }
