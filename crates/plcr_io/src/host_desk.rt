@@ -4,6 +4,7 @@ ghost use Rattle.std.specs.Prelude.{◌≡◌, ◌≢◌, ℕ, ◌<◌, ◌≤�
 ghost use Rattle.plcr_io.specs.declared.desks.TakeFault.TheVariants.{TooLong};
 
 use crate::counting::one_more;
+use crate::gathered::Gathered;
 use crate::{Desk, HostOut, MakeFailed, PutFailed, Sink, TakeFault};
 use arrayvec::ArrayString;
 use std::alloc::Global;
@@ -17,9 +18,12 @@ use std::{fs, io};
 const LONGEST_PATH: usize = 4096;
 
 /// An output of a `HostDesk`, which is written under its name with `.part` behind it.
+///
+/// What is put to it waits in room of its own until a piece doesn't fit, or until it is kept. So an `Ok` of a put
+/// says that the bytes were taken, and a system that has no place for them may show it only as the output is kept.
 #[derive(Drop)]
 pub struct HostFile<F> {
-    out: HostOut<F>,
+    out: Gathered<HostOut<F>>,
     part: ArrayString<LONGEST_PATH>,
 }
 
@@ -29,7 +33,7 @@ impl<F> Model for HostFile<F> {
 
     ghost Value = { ℕ };
 
-    ghost view = { λ file. file.out };
+    ghost view = { λ file. file.out.sink };
 }
 
 impl<F: Write> Sink for HostFile<F> {
@@ -142,7 +146,7 @@ impl<R: Files> Desk for HostDesk<R> {
     {
         if let Some(part) = part_name(name) {
             if let Ok(file) = fs::create(&self.files, part.as_str()) {
-                let out = HostOut::new(file);
+                let out = Gathered::new(HostOut::new(file));
                 return Ok(HostFile { out, part });
             }
         }
@@ -154,16 +158,15 @@ impl<R: Files> Desk for HostDesk<R> {
         ensures counts { self.new ≡ after_output self.old result }
         ensures told { Keeps name.now None (tells self.old) (tells self.new) result }
     {
-        let HostFile { out, part } = out;
+        let HostFile { mut out, part } = out;
+        let whole = out.finish().is_ok();
         drop(out);
-        match fs::rename(&self.files, part.as_str(), name) {
-            Ok(()) => Ok(()),
-            Err(_) => {
-                let _ = fs::remove_file(&self.files, part.as_str());
-                self.out_faults = one_more(self.out_faults);
-                Err(MakeFailed)
-            }
+        if whole && fs::rename(&self.files, part.as_str(), name).is_ok() {
+            return Ok(());
         }
+        let _ = fs::remove_file(&self.files, part.as_str());
+        self.out_faults = one_more(self.out_faults);
+        Err(MakeFailed)
     }
 
     fn abandon(&mut self, out: HostFile<R::File>)
@@ -171,7 +174,7 @@ impl<R: Files> Desk for HostDesk<R> {
         ensures told { Abandons None out (tells self.old) (tells self.new) }
     {
         let HostFile { out, part } = out;
-        if out.faults() > 0 {
+        if out.sink.faults() > 0 {
             self.out_faults = one_more(self.out_faults);
         }
         drop(out);

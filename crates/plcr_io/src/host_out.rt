@@ -81,3 +81,85 @@ impl<W: Write> Sink for HostOut<W> {
         }
     }
 }
+
+#[cfg(test)]
+mod tests {
+    use super::*;
+    use arrayvec::ArrayVec;
+    use std::io;
+
+    // A writer that is interrupted, then takes two bytes, and fails from then on.
+    #[derive(Drop)]
+    struct Fitful {
+        writes: u32,
+        bytes: ArrayVec<u8, 4>,
+    }
+
+    impl Write for Fitful {
+        fn write(&mut self, piece: &[u8]) -> io::Result<usize> {
+            self.writes = self.writes.saturating_add(1);
+            match self.writes {
+                1 => Err(ErrorKind::Interrupted.into()),
+                2 => {
+                    let taken = &piece[..piece.len().min(2)];
+                    match self.bytes.try_extend_from_slice(taken) {
+                        Ok(()) => Ok(taken.len()),
+                        Err(_) => Ok(0),
+                    }
+                }
+                _ => Err(ErrorKind::StorageFull.into()),
+            }
+        }
+
+        fn flush(&mut self) -> io::Result<()> {
+            Ok(())
+        }
+    }
+
+    #[test]
+    fn interrupted_writes_are_tried_again(rt: HostRuntime) {
+        let mut out = HostOut::new(Fitful {
+            writes: 0,
+            bytes: ArrayVec::new(),
+        });
+        let puts = [
+            ("abc", Ok(2), 2, 0),
+            ("c", Err(PutFailed), 3, 1),
+            ("c", Err(PutFailed), 4, 2),
+        ];
+        for (piece, want, writes, faults) in puts {
+            assert_eq!(rt; out.put(piece.as_bytes()), want);
+            assert_eq!(rt; out.writer.bytes.as_slice(), b"ab".as_slice());
+            assert_eq!(rt; out.writer.writes, writes);
+            assert_eq!(rt; out.faults(), faults);
+        }
+    }
+
+    // A writer of which each write ends so.
+    #[derive(Drop)]
+    struct Ended {
+        kind: Option<ErrorKind>,
+    }
+
+    impl Write for Ended {
+        fn write(&mut self, _piece: &[u8]) -> io::Result<usize> {
+            match self.kind {
+                Some(kind) => Err(kind.into()),
+                None => Ok(0),
+            }
+        }
+
+        fn flush(&mut self) -> io::Result<()> {
+            Ok(())
+        }
+    }
+
+    #[test]
+    fn a_write_that_fails_or_takes_nothing_is_a_failure(rt: HostRuntime) {
+        for kind in [Some(ErrorKind::BrokenPipe), None] {
+            let mut out = HostOut::new(Ended { kind });
+            assert_eq!(rt; out.put(b"x"), Err(PutFailed));
+            assert_eq!(rt; out.faults(), 1);
+        }
+    }
+}

@@ -5,6 +5,7 @@
 mod calls;
 mod counting;
 mod desks;
+mod gathered;
 mod host_desk;
 mod host_out;
 mod limits;
@@ -12,6 +13,7 @@ mod lines;
 mod mem_desk;
 mod mem_files;
 mod mem_out;
+mod room;
 mod sinks;
 
 pub use desks::{Desk, MakeFailed, TakeFault};

@@ -3,10 +3,10 @@ ghost use Rattle.plcr_base.specs.Causes.{Rose};
 ghost use Rattle.plcr_base.specs.Told.{Gains};
 
 use super::*;
+use crate::gathered::Gathered;
 use std::alloc::{AllocError, Global};
-use std::io::Write;
+use std::fs;
 use std::test::Fail;
-use std::{fs, io};
 
 // A caller of both traits, which is proved from their contracts alone.
 fn write_file<D: Desk>(desk: &mut D, name: &str, bytes: &[u8]) -> Result<(), MakeFailed>
@@ -110,20 +110,6 @@ fn writes_to_memory(rt: HostRuntime) -> Result<(), Fail> {
     Ok(())
 }
 
-// A writer that takes nothing.
-#[derive(Drop)]
-struct Full;
-
-impl Write for Full {
-    fn write(&mut self, _buf: &[u8]) -> io::Result<usize> {
-        Ok(0)
-    }
-
-    fn flush(&mut self) -> io::Result<()> {
-        Ok(())
-    }
-}
-
 #[test]
 fn files_of_the_system(rt: HostRuntime) -> Result<(), Fail> {
     let alloc = rt.alloc();
@@ -144,9 +130,11 @@ fn files_of_the_system(rt: HostRuntime) -> Result<(), Fail> {
         }
     }
 
+    // What it gathers stands in the file once it is kept.
     let mut out = desk.make("report")?;
-    put_all(&mut out, b"text")?;
-    assert!(rt; fs::exists(&rt, "report.part")?);
+    put_all(&mut out, b"te")?;
+    put_all(&mut out, b"xt")?;
+    assert_eq!(rt; fs::read_to_string(&rt, "report.part")?.as_str(), "");
     desk.keep("report", out)?;
     assert_eq!(rt; fs::read_to_string(&rt, "report")?.as_str(), "text");
 
@@ -171,9 +159,59 @@ fn files_of_the_system(rt: HostRuntime) -> Result<(), Fail> {
     Ok(())
 }
 
+// Pieces of 256 bytes, sixteen of which fit in the room, on their way to an output whose second put fails.
 #[test]
-fn a_write_that_takes_nothing_is_a_failure(rt: HostRuntime) {
-    let mut full = HostOut::new(Full);
-    assert_eq!(rt; full.put(b"x"), Err(PutFailed));
-    assert_eq!(rt; full.faults(), 1);
+fn pieces_are_gathered(rt: HostRuntime) -> Result<(), Fail> {
+    let alloc = rt.alloc();
+    let out = MemOut::new(alloc, 20_000, 20_000, vec![in alloc; 2]?)?;
+    let mut gathered = Gathered::new(out);
+    let mut sixteen = Vec::new(alloc);
+    for letter in b'A'..b'Q' {
+        let piece = [letter; 256];
+        assert_eq!(rt; gathered.put(&piece), Ok(256));
+        sixteen.extend_from_slice(&piece)?;
+    }
+    assert_eq!(rt; gathered.sink.bytes(), b"".as_slice());
+    let mut whole = sixteen.clone()?;
+    for letter in b'Q'..b'a' {
+        let piece = [letter; 256];
+        assert_eq!(rt; gathered.put(&piece), Ok(256));
+        assert_eq!(rt; gathered.sink.bytes(), sixteen.as_slice());
+        whole.extend_from_slice(&piece)?;
+    }
+    // The next is refused with the second put. What waits is passed on at the next try, and a piece that is
+    // greater than the room goes straight on.
+    assert_eq!(rt; gathered.put(b"lost"), Err(PutFailed));
+    assert_eq!(rt; gathered.sink.bytes(), sixteen.as_slice());
+    let great = [b'z'; 5000];
+    assert_eq!(rt; gathered.put(&great), Ok(5000));
+    whole.extend_from_slice(&great)?;
+    assert_eq!(rt; gathered.put(b"end"), Ok(3));
+    assert_eq!(rt; gathered.sink.bytes(), whole.as_slice());
+    assert_eq!(rt; gathered.finish(), Ok(()));
+    whole.extend_from_slice(b"end")?;
+    assert_eq!(rt; gathered.sink.bytes(), whole.as_slice());
+    Ok(())
+}
+
+// A put of the second line fails.
+#[test]
+fn a_line_of_three_parts_is_one_put(rt: HostRuntime) -> Result<(), Fail> {
+    let alloc = rt.alloc();
+    let mut out = MemOut::new(alloc, 2000, 2000, vec![in alloc; 2]?)?;
+    assert_eq!(rt;
+        put_parts(&mut out, b"1 report ", b"a.plcrash", b" 271\n"),
+        Ok(())
+    );
+    assert_eq!(rt; put_parts(&mut out, b"2", b"", b"\n"), Err(PutFailed));
+    assert_eq!(rt; out.bytes(), b"1 report a.plcrash 271\n".as_slice());
+    // A part that is too long for the room goes by itself.
+    let name = [b'n'; 600];
+    let mut out = MemOut::new(alloc, 2000, 2000, vec![in alloc; 3]?)?;
+    assert_eq!(rt;
+        put_parts(&mut out, b"cannot read ", &name, b"\n"),
+        Err(PutFailed)
+    );
+    assert_eq!(rt; out.bytes().len(), 612);
+    Ok(())
 }

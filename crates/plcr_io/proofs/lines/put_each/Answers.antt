@@ -1,7 +1,7 @@
 use Rattle.std.proofs.Common.{ap, ◌∙◌, ◌++◌}
 use Rattle.std.specs.Io.KnownBytes.{append_known}
 use Rattle.plcr_base.proofs.Appended.{append_twice, proper_first, proper_second}
-use Rattle.plcr_io.proofs.lines.put_parts.Goals as goal
+use Rattle.plcr_io.proofs.lines.put_each.Goals as goal
 
 pub returns-in-Err-clause-err : goal.returns-in-Err-clause-err
 returns-in-Err-clause-err g c =
