@@ -105,9 +105,9 @@ def line(number, name, report):
     return b"%d report %s %d 0 0 0\n" % (number, name, len(report))
 
 
-def whole():
+def whole(threads):
     """The inputs, the report that is made of them, and its text, with ample room."""
-    things = {"core": core(300), "script": SCRIPT}
+    things = {"core": core(threads), "script": SCRIPT}
     made = run_on(WAYS[0], REPORT, things)
     report = made.left.get("a", b"")
     same("ample room", made, Ended(0, line(1, b"a", report) + line(2, b"b", report), {**things, "a": report, "b": report}))
@@ -138,7 +138,8 @@ def standard_output(things, report, _):
 
 def size_limits(things, report, text):
     """A limit on the size of files, from nothing to a byte less than the report."""
-    rooms = sorted({0, 1, 255, 256, 257, 16383, 16384, 16385, len(report) - 1, *range(0, len(report), 4093)})
+    rooms = [0, 1, 255, 256, 257, 16383, 16384, 16385, *range(4093, len(report), 4093), len(report) - 1]
+    rooms = [room for room in rooms if room < len(report)]
     ended = -signal.SIGXFSZ
     for way in WAYS:
         dies = way.command == [PROGRAM] and not way.ignores
@@ -151,7 +152,7 @@ def size_limits(things, report, text):
                 output.seek(0)
                 want = Ended(ended if dies else 5, text[:room], {"r": report})
                 same("a text of %d bytes, %s" % (room, way.name), got._replace(said=output.read()), want)
-    print("%d limits on files, all below the report: status 5; ended by the signal, with a.part, where it isn't ignored" % len(rooms))
+    print("%d limits below that: status 5; ended by the signal, with a.part, where it isn't ignored" % len(rooms))
 
 
 def names_taken(things, report, _):
@@ -169,15 +170,16 @@ def names_taken(things, report, _):
 
 
 @contextlib.contextmanager
-def small_disk(pages):
-    """A folder on a disk of its own with so many pages, seen through the process that has it mounted; None where none can be."""
+def small_disk(count):
+    """A folder on a disk of its own with so many pages and 16 names, reached through the process that has it mounted; None
+    where there is no such disk."""
     script = 'mount -t tmpfs -o "size=$0,nr_inodes=16" none "$1" && echo mounted && read _'
+    own = ["--map-root-user"] if os.geteuid() else []
     with tempfile.TemporaryDirectory() as folder:
-        own = ["--map-root-user"] if os.geteuid() else []
-        words = ["unshare", "--mount", *own, "sh", "-c", script, str(pages * PAGE), folder]
+        words = ["sh", "-c", 'exec unshare "$@"', "sh", "--mount", *own, "sh", "-c", script, str(count * PAGE), folder]
         with subprocess.Popen(words, stdin=subprocess.PIPE, stdout=subprocess.PIPE, stderr=subprocess.DEVNULL) as holder:
-            is_there = holder.stdout.readline() == b"mounted\n"
-            yield "/proc/%d/root%s" % (holder.pid, folder) if is_there else None
+            is_mounted = holder.stdout.readline() == b"mounted\n"
+            yield "/proc/%d/root%s" % (holder.pid, folder) if is_mounted else None
             holder.stdin.close()
 
 
@@ -188,13 +190,15 @@ def pages(data):
 def full_disk(things, report, text):
     """A disk with room for a part of the first report, for that and a part of the second, and for both."""
     both = line(1, b"a", report) + line(2, b"b", report)
-    cut = {0: (5, b"cannot write a\n", {}), 1: (5, line(1, b"a", report) + b"cannot write b\n", {"a": report}), 2: (0, both, {"a": report, "b": report})}
+    # by how many reports have room
+    cut = [(5, b"cannot write a\n", {}), (5, line(1, b"a", report) + b"cannot write b\n", {"a": report}), (0, both, {"a": report, "b": report})]
     inputs, one = sum(map(pages, things.values())), pages(report)
     for way in WAYS:
         for free in range(2 * one + 1):
             with small_disk(inputs + free) as folder:
                 if folder is None:
-                    return print("skipped: a full disk, since none can be mounted")
+                    print("skipped: a full disk, since none can be mounted")
+                    return
                 put(folder, things)
                 status, said, made = cut[free // one]
                 same("%d pages free, %s" % (free, way.name), run(way, REPORT, folder), Ended(status, said, {**things, **made}))
@@ -204,12 +208,13 @@ def full_disk(things, report, text):
 
 
 def full_text(report, text):
+    free = pages(text) - 1
     for way in WAYS:
-        with small_disk(pages(report) + 3) as folder:
+        with small_disk(pages(report) + free) as folder:
             put(folder, {"r": report})
             with open(os.path.join(folder, "text"), "wb") as output:
                 got = run(way, SHOW, folder, output=output)
-            same("a text on a full disk, %s" % way.name, got, Ended(5, None, {"r": report, "text": text[:3 * PAGE]}))
+            same("a text on a full disk, %s" % way.name, got, Ended(5, None, {"r": report, "text": text[:free * PAGE]}))
     print("a text on a full disk: status 5, with its front")
 
 
@@ -227,33 +232,36 @@ def no_name_left(things):
     print("a disk with no room for a name: status 5")
 
 
+def may_run(way, folder, user):
+    with contextlib.suppress(OSError):
+        return run(way, [], folder, user=user).status == 1
+
+
 def closed_folder(things, _report, _text):
-    """A folder that can't be written. Nothing is closed to root, so the program runs as nobody then."""
+    """A folder that can't be written. No folder is closed to root, so the program runs as nobody then."""
     user = NOBODY if os.geteuid() == 0 else None
-    for way in WAYS:
-        with tempfile.TemporaryDirectory() as folder:
-            put(folder, things)
-            os.chmod(folder, 0o555)
-            try:
-                may_run = run(way, [], folder, user=user).status == 1
-            except OSError:
-                may_run = False
-            if may_run:
-                got = run(way, REPORT, folder, user=user)
-                same("a folder that can't be written, %s" % way.name, got, Ended(5, b"cannot write a\n", things))
-            else:
-                print("skipped: a folder that can't be written, %s, since nobody can't run it" % way.name)
-            os.chmod(folder, 0o700)
-    print("a folder that can't be written: status 5")
+    with tempfile.TemporaryDirectory() as folder:
+        put(folder, things)
+        os.chmod(folder, 0o555)
+        for way in WAYS:
+            if not may_run(way, folder, user):
+                print("skipped: a folder that can't be written, %s: nobody may not run it" % way.name)
+                continue
+            got = run(way, REPORT, folder, user=user)
+            same("a folder that can't be written, %s" % way.name, got, Ended(5, b"cannot write a\n", things))
+            print("a folder that can't be written, %s: status 5" % way.name)
+        os.chmod(folder, 0o700)
 
 
 def main():
     # with what it tells where it has to build
     if subprocess.run([LAUNCHER], stdout=subprocess.DEVNULL).returncode != 1:
         sys.exit("./plcr doesn't run")
-    given = whole()
-    for part in [standard_output, size_limits, names_taken, full_disk, closed_folder]:
-        part(*given)
+    for threads in [1, 300]:
+        given = whole(threads)
+        print("reports of %d bytes:" % len(given[1]))
+        for part in [standard_output, size_limits, names_taken, full_disk, closed_folder]:
+            part(*given)
 
 
 if __name__ == "__main__":
