@@ -15,7 +15,7 @@ use Rattle.plcr_decode.specs.Fields.{fields_of, messages_in, last_or}
 use Rattle.plcr_decode.specs.Scan.{fits, inside, Step, step_at, scan}
 use Rattle.plcr_decode.specs.Required.{each_whole}
 use Rattle.plcr_decode.proofs.Listed.{fields_none, fields_step}
-use Rattle.plcr_decode.proofs.Scans.{scan_none, scan_more}
+use Rattle.plcr_decode.proofs.Scans.{scan_none, scan_more, inside_rest}
 use Rattle.plcr_wire.proofs.Smaller.{field_smaller}
 
 -- a field that is read again, and has no fault in its message
@@ -41,12 +41,6 @@ fields_again kind (f ∷ fs) good =
 step_again : (kind : Kind) (end : ℕ) (f : Field) (rest : List ℕ) → IsGood kind f → step_at kind end (field_spelling f ++ rest) ≡ Ok (inside kind (rule kind f.number) f.value rest)
 unfolding step_at
 step_again kind end f rest good = rw (field_again end f rest good.fit) (if_true (fits (rule kind f.number) f.value) _ _ good.right)
-
-inside_rest : (kind : Kind) (h : Option Holds) (v : Value) (rest : List ℕ) → (inside kind h v rest).rest ≡ rest
-inside_rest kind None v rest = refl
-inside_rest kind (Some holds.Number) v rest = refl
-inside_rest kind (Some holds.Text) v rest = refl
-inside_rest kind (Some (holds.Message inner)) v rest = refl
 
 spelled_some : (kind : Kind) (f : Field) (rest : List ℕ) → IsGood kind f → 0 < length (field_spelling f ++ rest)
 spelled_some kind f rest good = let less = field_smaller 0 (field_spelling f ++ rest) (f, rest) (field_again 0 f rest good.fit) in omega arith

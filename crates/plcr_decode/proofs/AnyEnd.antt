@@ -1,6 +1,6 @@
 -- The fields of a message without a fault are all its bytes.
-use Rattle.std.proofs.Common.{◌≡◌, inl, inr, ℕ, zero, suc, ◌-◌, ◌<◌, ◌≤◌, List, [], ◌∷◌, length, Option, Some, None, Ok, Err, cond, refl, sym, ap, subst, ◌∙◌, arith}
-use Rattle.plcr_wire.specs.Message.{Value, Field}
+use Rattle.std.proofs.Common.{◌≡◌, inl, inr, ℕ, zero, suc, ◌-◌, ◌<◌, ◌≤◌, List, [], ◌∷◌, length, Ok, Err, cond, refl, sym, ap, subst, ◌∙◌, arith}
+use Rattle.plcr_wire.specs.Message.{Field}
 use Rattle.plcr_base.specs.Chains.{◌>>=◌}
 use Rattle.plcr_base.proofs.Chained.{bind_ok}
 use Rattle.plcr_wire.proofs.Places.{ok_is, chosen}
@@ -9,20 +9,12 @@ use Rattle.plcr_wire.proofs.AnyEnd.{field_any}
 use Rattle.plcr_wire.specs.Reading.{field_at}
 use Rattle.plcr_report.specs.Schema.{rule}
 use Rattle.plcr_report.specs.declared.kinds.Kind.{Kind}
-use Rattle.plcr_report.specs.declared.kinds.Holds.{Holds}
-use Rattle.plcr_report.specs.declared.kinds.Holds.TheVariants as holds
 use Rattle.plcr_decode.specs.declared.faults.DecodeFault.TheVariants.{WrongWire}
 use Rattle.plcr_decode.specs.Fields.{fields_of}
 use Rattle.plcr_decode.specs.Scan.{lifted, fits, inside, Step, step_at, scan}
 use Rattle.plcr_decode.specs.Covered.{AreFieldsOf, FieldsCover}
 use Rattle.plcr_decode.proofs.Listed.{fields_none, fields_step}
-use Rattle.plcr_decode.proofs.Scans.{scan_step, lifted_ok}
-
-inside_rest : (kind : Kind) (h : Option Holds) (v : Value) (rest : List ℕ) → (inside kind h v rest).rest ≡ rest
-inside_rest kind None v rest = refl
-inside_rest kind (Some holds.Number) v rest = refl
-inside_rest kind (Some holds.Text) v rest = refl
-inside_rest kind (Some (holds.Message inner)) v rest = refl
+use Rattle.plcr_decode.proofs.Scans.{scan_step, lifted_ok, inside_rest}
 
 -- the field of a step
 step_field : (kind : Kind) (end : ℕ) (bytes : List ℕ) (s : Step) → step_at kind end bytes ≡ Ok s → (f : Field × List ℕ) × (field_at end bytes ≡ Ok f) × (s.rest ≡ f.1)

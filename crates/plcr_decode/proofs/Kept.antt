@@ -6,8 +6,8 @@ use Rattle.std.proofs.lemmas.Grind.{get_or-set_at}
 use Rattle.plcr_wire.specs.Message.{Value, Field}
 use Rattle.plcr_wire.specs.Reading.{content}
 use Rattle.plcr_wire.specs.declared.pieces.Content.{Content}
-use Rattle.plcr_decode.specs.Fields.{last_or, shown}
-use Rattle.plcr_decode.specs.Views.{kept, Keeps}
+use Rattle.plcr_decode.specs.Fields.{last_or}
+use Rattle.plcr_decode.specs.inner.Views.{shown, kept, Keeps}
 
 equal : (m n : ℕ) → (m == n) ≡ true → n ≡ m
 equal m n h = grind (arith, nat_tests)

@@ -10,5 +10,4 @@ pub mod AgainNodes
 pub mod AgainReport
 pub mod Bounds
 pub mod Lines
-pub mod Ends
 pub mod AnyEnd

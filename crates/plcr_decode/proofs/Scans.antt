@@ -24,6 +24,12 @@ pub lifted_ok : {A : Type 0} (r : Result A WireFault) (x : A) → lifted r ≡ O
 lifted_ok (Ok y) x h = cc
 lifted_ok (Err e) x h = absurd (cc)
 
+pub inside_rest : (kind : Kind) (h : Option Holds) (v : Value) (rest : List ℕ) → (inside kind h v rest).rest ≡ rest
+inside_rest kind None v rest = refl
+inside_rest kind (Some holds.Number) v rest = refl
+inside_rest kind (Some holds.Text) v rest = refl
+inside_rest kind (Some (holds.Message inner)) v rest = refl
+
 inside_small : (kind : Kind) (h : Option Holds) (v : Value) (rest : List ℕ) → length (inside kind h v rest).text + length (inside kind h v rest).rest ≤ length (value_bytes v) + length rest
 inside_small kind None v rest = omega arith
 inside_small kind (Some holds.Number) v rest = omega arith

@@ -8,7 +8,8 @@ use Rattle.plcr_report.specs.declared.kinds.Kind.{Kind}
 use Rattle.plcr_report.specs.declared.kinds.Kind.TheVariants as kinds
 use Rattle.plcr_decode.specs.declared.faults.DecodeFault.{DecodeFault}
 use Rattle.plcr_decode.specs.Fields.{has, messages_in, joined}
-use Rattle.plcr_decode.specs.Required.{has_all, each_whole, one_whole, inner_whole, whole_within, whole, PlainRow}
+use Rattle.plcr_decode.specs.Required.{has_all, each_whole, one_whole, inner_whole, whole_within, whole}
+use Rattle.plcr_decode.specs.inner.Judging.{PlainRow}
 
 unfoldable pub symbol_whole : List Field → Result (Unit {0}) DecodeFault
 symbol_whole fs = has_all kinds.Symbol fs

@@ -1,9 +1,8 @@
 -- A message as the whole list of its fields, and what stands in it (Protocol Buffers documentation, "Encoding").
 use Rattle.std.specs.Prelude.{ℕ, zero, suc, ◌==◌, Bool, true, false, List, [], ◌∷◌, ◌++◌, length, Option, Some, None, Result, Ok, Err, if◌then◌else◌}
 use Rattle.plcr_wire.specs.Message.{Value, Number, Fixed64, Bytes, Fixed32, Field, value_bytes}
-use Rattle.plcr_wire.specs.Reading.{field_at, content}
+use Rattle.plcr_wire.specs.Reading.{field_at}
 use Rattle.plcr_wire.specs.declared.fields.WireFault.{WireFault}
-use Rattle.plcr_wire.specs.declared.pieces.Content.{Content}
 
 -- a field and those after it, or none at a fault
 abbrev pub front_of : (List ℕ → List Field) → Result (Field × List ℕ) WireFault → List Field
@@ -83,8 +82,3 @@ or_zero (Some n) = n
 abbrev pub or_empty : Option (List ℕ) → List ℕ
 or_empty None = []
 or_empty (Some bytes) = bytes
-
--- what was found, as it lies in memory
-abbrev pub shown : Option Content → Option Value
-shown None = None
-shown (Some c) = Some (content c)

@@ -1,12 +1,10 @@
 pub mod Fields
 pub mod Scan
-pub mod Views
 pub mod Required
-pub mod Entries
 pub mod Values
 pub mod Reads
 pub mod Fits
 pub mod Text
 pub mod FaultTexts
-pub mod Words
 pub mod Covered
+pub mod inner

@@ -63,14 +63,3 @@ whole kind fs = whole_within 3 kind fs
 -- what a message lacks is a field of its own, or what the messages in it lack: no level of them is cut off
 abbrev pub WholeByParts : Type 0
 WholeByParts = (kind : Kind) (fs : List Field) → whole kind fs ≡ (has_all kind fs >>= λ u. inner_whole whole (rows kind) fs)
-
--- a message whose parts are joined lacks only fields of its own: it holds no message
-abbrev pub Plain : Holds → Label → Type 0
-Plain holds.Number label = Unit {0}
-Plain holds.Text label = Unit {0}
-Plain (holds.Message kind) Required = (k : ℕ) (fs : List Field) → whole_within k kind fs ≡ has_all kind fs
-Plain (holds.Message kind) Optional = (k : ℕ) (fs : List Field) → whole_within k kind fs ≡ has_all kind fs
-Plain (holds.Message kind) Repeated = Unit {0}
-
-abbrev pub PlainRow : Row → Type 0
-PlainRow row = Plain row.holds row.label

@@ -2,10 +2,10 @@
 ghost use Rattle.std.specs.Prelude.{◌≡◌, ◌∷◌, [], ◌+◌, ◌<◌, ◌≤◌, ◌==◌, length, IfSome, MatchOption, if◌then◌else◌};
 ghost use Rattle.plcr_wire.specs.Message.{value_bytes};
 ghost use Rattle.plcr_wire.specs.Reading.{piece, content, content_len};
-ghost use Rattle.plcr_decode.specs.Fields.{fields_of, messages_in, joined, last_or, last_value, has, number_in, text_in, or_zero, or_empty, shown};
-ghost use Rattle.plcr_decode.specs.Views.{told};
+ghost use Rattle.plcr_decode.specs.Fields.{fields_of, messages_in, joined, last_or, last_value, has, number_in, text_in, or_zero, or_empty};
+ghost use Rattle.plcr_decode.specs.inner.Views.{told};
 ghost use Rattle.plcr_decode.specs.Fields as spec;
-ghost use Rattle.plcr_decode.specs.Views.{left, size};
+ghost use Rattle.plcr_decode.specs.inner.Views.{left, size};
 
 use crate::scanning::text_of;
 use plcr_wire::{Piece, field_of};

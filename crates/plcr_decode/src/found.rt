@@ -1,8 +1,8 @@
 //! The last values of a message's fields, gathered in one pass.
 ghost use Rattle.std.specs.Prelude.{◌≡◌, ◌<◌, ◌==◌, Some, if◌then◌else◌};
 ghost use Rattle.plcr_wire.specs.Reading.{content};
-ghost use Rattle.plcr_decode.specs.Fields.{last_value, number_in, text_in, or_zero, or_empty, shown};
-ghost use Rattle.plcr_decode.specs.Views.{Keeps, kept, left, told};
+ghost use Rattle.plcr_decode.specs.Fields.{last_value, number_in, text_in, or_zero, or_empty};
+ghost use Rattle.plcr_decode.specs.inner.Views.{Keeps, kept, left, shown, told};
 
 use crate::fields::Fields;
 use crate::scanning::text_of;
@@ -23,7 +23,7 @@ impl<'a> Model for Found<'a> {
     ghost use Rattle.std.specs.Prelude.{List};
     ghost use Rattle.plcr_wire.specs.Message.{Field};
     ghost use Rattle.plcr_decode.specs.Fields.{last_value};
-    ghost use Rattle.plcr_decode.specs.Views.{Keeps, left};
+    ghost use Rattle.plcr_decode.specs.inner.Views.{Keeps, left};
 
     ghost Value = { List Field };
 

@@ -3,7 +3,7 @@ ghost use Rattle.std.specs.Prelude.{◌≡◌, ◌+◌, ◌<◌, ◌≤◌, ◌=
 ghost use Rattle.std.specs.Fmt.{signed_decimal};
 ghost use Rattle.plcr_wire.specs.Pen.{Wrote};
 ghost use Rattle.plcr_decode.specs.Text as spec;
-ghost use Rattle.plcr_decode.specs.Words.{word_text};
+ghost use Rattle.plcr_decode.specs.inner.Words.{word_text};
 
 use crate::written::{Written, put_each};
 use itoa::Buffer;
@@ -133,7 +133,7 @@ fn put_word<W: Ink>(ink: &mut W, word: Word<'_>)
 }
 
 impl<'a> Written for Word<'a> {
-    ghost use Rattle.plcr_decode.specs.Words.{word_text};
+    ghost use Rattle.plcr_decode.specs.inner.Words.{word_text};
 
     ghost text = { λ _ word. codes " " ++ word_text word };
 

@@ -3,11 +3,12 @@ ghost use Rattle.std.specs.Prelude.{◌≡◌, ◌≢◌, IfErr};
 ghost use Rattle.std.specs.List.{AllByRecursion};
 ghost use Rattle.plcr_report.specs.Schema.{rows};
 ghost use Rattle.plcr_decode.specs.declared.faults.DecodeFault.{DecodeFault};
-ghost use Rattle.plcr_decode.specs.Entries.{row_of, rows_of};
+ghost use Rattle.plcr_decode.specs.inner.Entries.{row_of, rows_of};
 ghost use Rattle.plcr_decode.specs.Fields.{fields_of, messages_in};
-ghost use Rattle.plcr_decode.specs.Required.{required_of, each_whole, one_whole, held_whole, inner_whole, whole_within, whole, Plain, PlainRow};
+ghost use Rattle.plcr_decode.specs.Required.{required_of, each_whole, one_whole, held_whole, inner_whole, whole_within, whole};
 ghost use Rattle.plcr_decode.specs.Required as spec;
-ghost use Rattle.plcr_decode.specs.Views.{left};
+ghost use Rattle.plcr_decode.specs.inner.Judging.{PlainRow};
+ghost use Rattle.plcr_decode.specs.inner.Views.{left};
 
 use crate::faults::DecodeFault;
 use crate::fields::Fields;

@@ -3,7 +3,7 @@ ghost use Rattle.std.specs.Prelude.{◌≡◌, List, length, map, IfOk};
 ghost use Rattle.plcr_wire.specs.Message.{Field};
 ghost use Rattle.plcr_decode.specs.Fields.{fields_of, messages_in};
 ghost use Rattle.plcr_decode.specs.Values.{one_in};
-ghost use Rattle.plcr_decode.specs.Views.{left};
+ghost use Rattle.plcr_decode.specs.inner.Views.{left};
 
 use crate::fields::Fields;
 use plcr_report::Rows;

@@ -1,6 +1,6 @@
 //! Numbers and bytes as a report has them.
 ghost use Rattle.std.specs.Prelude.{◌≡◌, ◌%◌, ◌^◌, IfOk};
-ghost use Rattle.plcr_decode.specs.Views.{told};
+ghost use Rattle.plcr_decode.specs.inner.Views.{told};
 
 use plcr_report::Bytes;
 use std::alloc::{AllocError, Global};

@@ -4,7 +4,7 @@ ghost use Rattle.plcr_wire.specs.Reading.{Reads, content, content_len};
 ghost use Rattle.plcr_report.specs.Schema.{rule};
 ghost use Rattle.plcr_wire.specs.Message as message;
 ghost use Rattle.plcr_decode.specs.Scan as spec;
-ghost use Rattle.plcr_decode.specs.Views.{step_view};
+ghost use Rattle.plcr_decode.specs.inner.Views.{step_view};
 
 use crate::faults::{DecodeFault, fault_of};
 use crate::table::held;

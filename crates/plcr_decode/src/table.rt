@@ -1,7 +1,7 @@
 //! The fields of each message, after PLCrashReporter's crash_report.proto: what they hold, and how often they stand
 //! there.
 ghost use Rattle.std.specs.Prelude.{◌≡◌};
-ghost use Rattle.plcr_decode.specs.Entries.{row_of, rows_of};
+ghost use Rattle.plcr_decode.specs.inner.Entries.{row_of, rows_of};
 ghost use Rattle.plcr_report.specs.Schema.{rows, rule, holds_in};
 
 use plcr_report::{

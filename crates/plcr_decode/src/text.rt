@@ -6,7 +6,7 @@ ghost use Rattle.plcr_base.specs.Told.{AppendsProperFront};
 ghost use Rattle.plcr_wire.specs.Pen.{Wrote};
 ghost use Rattle.plcr_decode.specs.Text as spec;
 ghost use Rattle.plcr_decode.specs.Text.{text_of};
-ghost use Rattle.plcr_decode.specs.Words.{word_text};
+ghost use Rattle.plcr_decode.specs.inner.Words.{word_text};
 
 use crate::ink::{Word, put_line};
 use crate::written::{Written, put_each};

@@ -2,6 +2,7 @@ pub mod Varints
 pub mod Puttings
 pub mod Writing
 pub mod Gathered
+pub mod Ends
 pub mod Shortest
 pub mod Groups
 pub mod ReadAgain

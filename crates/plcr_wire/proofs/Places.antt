@@ -7,7 +7,7 @@ use Rattle.plcr_wire.specs.Message.{Number, Fixed64, Bytes, Fixed32, value_bytes
 use Rattle.plcr_wire.specs.Message as message
 use Rattle.plcr_base.specs.Chains.{◌>>=◌}
 use Rattle.plcr_base.proofs.Chained.{bind_ok, ok_or_ok}
-use Rattle.plcr_wire.specs.Reading.{varint_at, number_at, fixed_at, text_at, value_at, field_at, found_at, placed, value_in, Stands, wire_of, EndsWith}
+use Rattle.plcr_wire.specs.Reading.{varint_at, number_at, fixed_at, text_at, value_at, field_at, found_at, placed, value_in, Stands, wire_of}
 use Rattle.plcr_wire.specs.declared.wires.Wire.{Wire}
 use Rattle.plcr_wire.specs.declared.wires.Wire.TheVariants as wires
 use Rattle.plcr_wire.specs.declared.fields.Field.{Field}
@@ -20,6 +20,11 @@ chosen false x y z h = inr h
 
 pub ok_is : {A E : Type 0} (x y : A) → ◌≡◌ {A = Result A E} (Ok x) (Ok y) → x ≡ y
 ok_is x y h = cc
+
+-- the list ends with this one
+pub record EndsWith (bytes tail : List ℕ) : Type 0 where
+  pub front : List ℕ
+  pub parts : bytes ≡ front ++ tail
 
 -- one byte more in front
 ends_more : (b : ℕ) (bytes rest tail : List ℕ) → EndsWith rest tail → bytes ≡ b ∷ rest → EndsWith bytes tail

@@ -4,7 +4,13 @@ use Rattle.std.proofs.Common.{◌+◌, ◌/◌, ◌%◌, drop, get_or, add-one, 
 use Rattle.std.proofs.lemmas.List.{drop_all}
 use Rattle.plcr_wire.specs.Varint.{varint}
 use Rattle.plcr_wire.proofs.Varints.{varint_small, varint_large, varint_some}
-use Rattle.plcr_wire.specs.Pen.{Pen, Shows, Puts, PutsUpTo, PutsProperFront}
+use Rattle.plcr_wire.specs.Pen.{Pen, Shows, Puts, PutsProperFront}
+
+-- a front of the bytes was put, and the rest is left
+pub record PutsUpTo (old new : Pen) (bytes rest : List ℕ) : Type 0 where
+  pub front : List ℕ
+  pub parts : bytes ≡ front ++ rest
+  pub put : Puts old new front
 
 -- nothing was put
 pub puts_none : (pen : Pen) → Puts pen pen []

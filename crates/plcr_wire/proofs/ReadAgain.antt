@@ -1,5 +1,6 @@
 -- What is spelled is read again, whatever follows it.
-use Rattle.std.proofs.Common.{◌≡◌, ◌⊎◌, inl, inr, ℕ, zero, suc, ◌+◌, ◌-◌, ◌*◌, ◌/◌, ◌%◌, ◌^◌, ◌<◌, ◌≤◌, ◌||◌, List, ◌++◌, length, Some, Ok, cond, nat_lt, refl, ap, ◌∙◌, append_assoc, length-append, pow-suc, arith}
+use Rattle.std.proofs.Common.{◌≡◌, inl, inr, ℕ, zero, suc, ◌+◌, ◌-◌, ◌*◌, ◌/◌, ◌%◌, ◌^◌, ◌<◌, ◌≤◌, ◌||◌, List, ◌++◌, length, Some, Ok, cond, nat_lt, refl, ap, ◌∙◌, append_assoc, length-append, pow-suc, arith}
+use Rattle.std.proofs.lemmas.Bool.{cases_lt}
 use Rattle.std.proofs.lemmas.Bool.Decides.{nat_tests}
 use Rattle.std.proofs.lemmas.List.{take_at, drop_at}
 use Rattle.std.proofs.lemmas.Nat.{from_le_bytes-to_le_bytes_4, from_le_bytes-to_le_bytes_8}
@@ -10,51 +11,39 @@ use Rattle.plcr_base.specs.Chains.{◌>>=◌}
 use Rattle.plcr_wire.specs.Reading.{varint_at, number_at, fixed_at, text_at, value_at, field_at, wire_of, wire_named}
 use Rattle.plcr_wire.specs.declared.wires.Wire.{Wire}
 use Rattle.plcr_wire.specs.declared.wires.Wire.TheVariants as wires
-use Rattle.plcr_wire.proofs.Varints.{varint_small, varint_large}
-
-small_or_large : (n : ℕ) → (n < 128) ⊎ (128 ≤ n)
-small_or_large n = grind arith
+use Rattle.plcr_wire.proofs.Varints.{varint_small, varint_large, below, above}
 
 -- the group before the number that the others hold
 join : (n : ℕ) → n % 128 + 128 - 128 + 128 * (n / 128) ≡ n
 join n = omega arith
 
-not_last : (n : ℕ) {A : Type 0} (x y : A) → cond (nat_lt (n % 128 + 128) 128) x y ≡ y
-not_last n x y = grind (arith, nat_tests)
-
-is_last : (n : ℕ) {A : Type 0} (x y : A) → n < 128 → cond (nat_lt n 128) x y ≡ x
-is_last n x y h = grind (arith, nat_tests)
-
 varint_again : (k n end first : ℕ) (rest : List ℕ) → n < 2 * 128 ^ k → varint_at end first k (varint n ++ rest) ≡ Ok (n, rest)
 varint_again zero n end first rest h = let small : n < 128 = omega arith in rw (varint_small n small) (grind (arith, nat_tests))
-varint_again (suc k) n end first rest h = elim (small_or_large n) [
-  | inl small ↦ rw (varint_small n small) (is_last n _ _ small)
+varint_again (suc k) n end first rest h = elim (cases_lt n 128) [
+  | inl small ↦ rw (varint_small n small) (below n 128 _ _ small)
   | inr large ↦
       let e = pow-suc 128 k in
       let more = varint_again k (n / 128) end first rest (omega (arith, e, h)) in
-      rw (varint_large n large) (not_last n _ _ ∙ ap (λ r. r >>= λ m. Ok (n % 128 + 128 - 128 + 128 * m.0, m.1)) more ∙ ap (λ m. Ok (m, rest)) (join n))
+      rw (varint_large n large) (above (n % 128 + 128) 128 _ _ (omega arith) ∙ ap (λ r. r >>= λ m. Ok (n % 128 + 128 - 128 + 128 * m.0, m.1)) more ∙ ap (λ m. Ok (m, rest)) (join n))
 ]
 
 pub number_again : (n end : ℕ) (rest : List ℕ) → n < 2 ^ 64 → number_at end (varint n ++ rest) ≡ Ok (n, rest)
 unfolding number_at
 number_again n end rest h = varint_again 9 n end _ rest (omega arith)
 
-long_enough : (m n : ℕ) {A : Type 0} (x y : A) → n ≤ m → cond (nat_lt m n) x y ≡ y
-long_enough m n x y h = grind (arith, nat_tests)
-
 fixed64_again : (n end : ℕ) (rest : List ℕ) → n < 2 ^ 64 → fixed_at w64 end (to_le_bytes w64 n ++ rest) ≡ Ok (n, rest)
 unfolding fixed_at
-fixed64_again n end rest h = long_enough (length (to_le_bytes w64 n ++ rest)) 8 _ _ (omega arith) ∙ ap (λ m. Ok (m, rest)) (from_le_bytes-to_le_bytes_8 n h)
+fixed64_again n end rest h = above (length (to_le_bytes w64 n ++ rest)) 8 _ _ (omega arith) ∙ ap (λ m. Ok (m, rest)) (from_le_bytes-to_le_bytes_8 n h)
 
 fixed32_again : (n end : ℕ) (rest : List ℕ) → n < 2 ^ 32 → fixed_at w32 end (to_le_bytes w32 n ++ rest) ≡ Ok (n, rest)
 unfolding fixed_at
-fixed32_again n end rest h = long_enough (length (to_le_bytes w32 n ++ rest)) 4 _ _ (omega arith) ∙ ap (λ m. Ok (m, rest)) (from_le_bytes-to_le_bytes_4 n h)
+fixed32_again n end rest h = above (length (to_le_bytes w32 n ++ rest)) 4 _ _ (omega arith) ∙ ap (λ m. Ok (m, rest)) (from_le_bytes-to_le_bytes_4 n h)
 
 text_again : (end : ℕ) (bytes rest : List ℕ) → length bytes < 2 ^ 64 → text_at end ((varint (length bytes) ++ bytes) ++ rest) ≡ Ok (bytes, rest)
 unfolding text_at
 text_again end bytes rest h =
     rw (append_assoc (varint (length bytes)) bytes rest, number_again (length bytes) end (bytes ++ rest) h)
-    (long_enough (length (bytes ++ rest)) (length bytes) _ _ (let e = length-append bytes rest in omega (arith, e))
+    (above (length (bytes ++ rest)) (length bytes) _ _ (let e = length-append bytes rest in omega (arith, e))
     ∙ rw (take_at bytes rest (length bytes) refl, drop_at bytes rest (length bytes) refl) refl)
 
 -- the wire type of a value

@@ -1,6 +1,6 @@
 -- What is read as a number are the varints of ten bytes at most, the tenth 0 or 1.
-use Rattle.std.proofs.Common.{◌≡◌, ◌⊎◌, inl, inr, ℕ, zero, suc, ◌+◌, ◌-◌, ◌*◌, ◌^◌, ◌<◌, ◌≤◌, List, [], ◌∷◌, ◌++◌, length, Ok, Err, cond, nat_lt, sym, ap, ◌∙◌, pow-suc, arith}
-use Rattle.std.proofs.lemmas.Bool.Decides.{nat_tests}
+use Rattle.std.proofs.Common.{◌≡◌, inl, inr, ℕ, zero, suc, ◌+◌, ◌-◌, ◌*◌, ◌^◌, ◌<◌, ◌≤◌, List, [], ◌∷◌, ◌++◌, length, Ok, Err, sym, ap, ◌∙◌, pow-suc, arith}
+use Rattle.std.proofs.lemmas.Bool.{cases_lt}
 use Rattle.plcr_wire.specs.Varint.{IsVarint}
 use Rattle.plcr_base.specs.Chains.{◌>>=◌}
 use Rattle.plcr_base.specs.Bytes.{IsBytes}
@@ -8,16 +8,8 @@ use Rattle.plcr_wire.specs.Reading.{varint_at, number_at, ReadsNumber}
 use Rattle.plcr_wire.specs.declared.fields.WireFault.TheVariants.{BadVarint}
 use Rattle.plcr_base.proofs.Chained.{bind_ok}
 use Rattle.plcr_wire.proofs.Places.{ok_is}
+use Rattle.plcr_wire.proofs.Varints.{below, above}
 use Rattle.plcr_wire.proofs.Shortest.{varint_front}
-
-below : (b n : ℕ) {A : Type 0} (x y : A) → b < n → cond (nat_lt b n) x y ≡ x
-below b n x y h = grind (arith, nat_tests)
-
-above : (b n : ℕ) {A : Type 0} (x y : A) → n ≤ b → cond (nat_lt b n) x y ≡ y
-above b n x y h = grind (arith, nat_tests)
-
-which : (b n : ℕ) → (b < n) ⊎ (n ≤ b)
-which b n = grind arith
 
 varint_reads : (front rest : List ℕ) (end first k n : ℕ) → IsVarint front n → length front ≤ k + 1 → n < 2 * 128 ^ k → varint_at end first k (front ++ rest) ≡ Ok (n, rest)
 varint_reads [] rest end first k n h short fits = absurd h
@@ -45,13 +37,13 @@ more b bs high left n rest k large small read e =
 varint_was : (bytes : List ℕ) (end first k n : ℕ) (rest : List ℕ) → IsBytes bytes → varint_at end first k bytes ≡ Ok (n, rest) → ReadsNumber bytes n rest (k + 1)
 varint_was [] end first zero n rest fits h = absurd (cc)
 varint_was [] end first (suc k) n rest fits h = absurd (cc)
-varint_was (b ∷ bs) end first zero n rest fits h = elim (which b 2) [
+varint_was (b ∷ bs) end first zero n rest fits h = elim (cases_lt b 2) [
   | inl small ↦
       let e = ok_is _ _ (sym (below b 2 (Ok (b, bs)) (Err (BadVarint first)) small) ∙ h) in
       record { front = b ∷ []; parts = ap (λ (m : ℕ × List ℕ). b ∷ m.1) e; spelled = (omega arith, sym (ap (λ (m : ℕ × List ℕ). m.0) e)); short = omega arith }
   | inr large ↦ absurd (let e = sym (above b 2 (Ok (b, bs)) (Err (BadVarint first)) large) ∙ h in cc)
 ]
-varint_was (b ∷ bs) end first (suc k) n rest fits h = elim (which b 128) [
+varint_was (b ∷ bs) end first (suc k) n rest fits h = elim (cases_lt b 128) [
   | inl small ↦
       let e = ok_is _ _ (sym (below b 128 (Ok (b, bs)) (varint_at end first k bs >>= λ m. Ok (b - 128 + 128 * m.0, m.1)) small) ∙ h) in
       record { front = b ∷ []; parts = ap (λ (m : ℕ × List ℕ). b ∷ m.1) e; spelled = (small, sym (ap (λ (m : ℕ × List ℕ). m.0) e)); short = omega arith }

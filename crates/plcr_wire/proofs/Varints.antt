@@ -3,6 +3,13 @@ use Rattle.std.proofs.Common.{◌≡◌, ℕ, zero, suc, ◌+◌, ◌/◌, ◌%�
 use Rattle.std.proofs.lemmas.Bool.Decides.{nat_tests}
 use Rattle.plcr_wire.specs.Varint.{varint_within, varint}
 
+-- a test of which number is less
+pub below : (b n : ℕ) {A : Type 0} (x y : A) → b < n → cond (nat_lt b n) x y ≡ x
+below b n x y h = grind (arith, nat_tests)
+
+pub above : (b n : ℕ) {A : Type 0} (x y : A) → n ≤ b → cond (nat_lt b n) x y ≡ y
+above b n x y h = grind (arith, nat_tests)
+
 within_small : (k n : ℕ) → n < 128 → varint_within k n ≡ n ∷ []
 within_small zero n h = refl
 within_small (suc k) n h = grind (arith, nat_tests)

@@ -47,12 +47,6 @@ pub record Puts (old new : Pen) (bytes : List ℕ) : Type 0 where
   pub sink : new.sink ≡ old.sink
   pub mark : new.mark ≡ old.mark
 
--- A front of the bytes was put, and the rest is left.
-pub record PutsUpTo (old new : Pen) (bytes rest : List ℕ) : Type 0 where
-  pub front : List ℕ
-  pub parts : bytes ≡ front ++ rest
-  pub put : Puts old new front
-
 -- A front of the bytes was put, and not all of them.
 pub record PutsProperFront (old new : Pen) (bytes : List ℕ) : Type 0 where
   pub front : List ℕ

@@ -101,11 +101,6 @@ placed to (message.Fixed32 n) = Fixed32 n
 unfoldable pub found_at : ℕ → List ℕ → Result Field WireFault
 found_at end bytes = field_at end bytes >>= λ f. Ok (record { number = f.0.number; value = placed (end - length f.1) f.0.value; next = end - length f.1 })
 
--- the list ends with this one
-pub record EndsWith (bytes tail : List ℕ) : Type 0 where
-  pub front : List ℕ
-  pub parts : bytes ≡ front ++ tail
-
 -- the value that stands at these places
 abbrev pub value_in : List ℕ → Value → message.Value
 value_in bytes (Varint n) = message.Number n

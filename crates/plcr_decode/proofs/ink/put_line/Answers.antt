@@ -2,7 +2,7 @@
 use Rattle.std.proofs.Common.{ℕ, List, ◌++◌, codes, subst}
 use Rattle.plcr_wire.specs.Pen.{Wrote}
 use Rattle.plcr_wire.proofs.Writing.{wrote_twice}
-use Rattle.plcr_decode.specs.Words.{word_text}
+use Rattle.plcr_decode.specs.inner.Words.{word_text}
 use Rattle.plcr_decode.proofs.Lines.{all_map}
 use Rattle.plcr_decode.proofs.ink.put_line.Goals as goal
 

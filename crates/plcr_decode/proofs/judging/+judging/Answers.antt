@@ -1,7 +1,7 @@
 -- The messages whose parts are joined hold none.
 use Rattle.std.proofs.Common.{rules, sym, subst}
 use Rattle.std.specs.List.{AllByRecursion}
-use Rattle.plcr_decode.specs.Required.{PlainRow}
+use Rattle.plcr_decode.specs.inner.Judging.{PlainRow}
 use Rattle.plcr_decode.proofs.Wholes.{rows_plain}
 use Rattle.plcr_decode.proofs.judging.+judging.Goals as goal
 

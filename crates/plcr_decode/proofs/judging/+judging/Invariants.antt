@@ -1,10 +1,11 @@
 -- The messages and the fields left have the first fault of all.
 use Rattle.std.proofs.Common.{◌≡◌, ◌+◌, ◌*◌, length}
 use Rattle.std.specs.List.{AllByRecursion}
-use Rattle.plcr_decode.specs.Entries.{rows_of}
+use Rattle.plcr_decode.specs.inner.Entries.{rows_of}
 use Rattle.plcr_decode.specs.Fields.{fields_of, messages_in}
-use Rattle.plcr_decode.specs.Required.{each_whole, inner_whole, whole_within, PlainRow}
-use Rattle.plcr_decode.specs.Views.{left, size}
+use Rattle.plcr_decode.specs.Required.{each_whole, inner_whole, whole_within}
+use Rattle.plcr_decode.specs.inner.Judging.{PlainRow}
+use Rattle.plcr_decode.specs.inner.Views.{left, size}
 use Rattle.plcr_decode.proofs.judging.+judging.Given as goal
 
 abbrev pub decreases-judge_within : goal.decreases-judge_within

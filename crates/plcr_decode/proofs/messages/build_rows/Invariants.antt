@@ -1,7 +1,7 @@
 -- The values built, and those of the messages left, are all; there is room for them.
 use Rattle.std.proofs.Common.{◌≡◌, ◌+◌, ◌≤◌, ◌++◌, length, map, vec_len, vec_capacity}
 use Rattle.plcr_decode.specs.Fields.{fields_of, messages_in}
-use Rattle.plcr_decode.specs.Views.{left, size}
+use Rattle.plcr_decode.specs.inner.Views.{left, size}
 use Rattle.plcr_decode.proofs.messages.build_rows.Given as goal
 
 abbrev pub invariant-loop-text : goal.invariant-loop-text

@@ -1,7 +1,7 @@
 -- The messages counted, and those left, are all; each has a byte at least.
 use Rattle.std.proofs.Common.{◌≡◌, ◌+◌, ◌≤◌, length}
 use Rattle.plcr_decode.specs.Fields.{fields_of, messages_in}
-use Rattle.plcr_decode.specs.Views.{left, size}
+use Rattle.plcr_decode.specs.inner.Views.{left, size}
 use Rattle.plcr_decode.proofs.messages.count_rows.Given as goal
 
 abbrev pub invariant-loop-count : goal.invariant-loop-count

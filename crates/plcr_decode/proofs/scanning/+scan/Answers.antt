@@ -2,7 +2,7 @@
 use Rattle.std.proofs.Common.{refl, sym, ap, ◌∙◌, ◌≡◌, ◌<◌, [], ◌∷◌, List, ℕ, length, arith}
 use Rattle.std.proofs.lemmas.Result.{err_from_is_err_and}
 use Rattle.plcr_decode.specs.Scan as spec
-use Rattle.plcr_decode.specs.Views.{step_view}
+use Rattle.plcr_decode.specs.inner.Views.{step_view}
 use Rattle.plcr_decode.proofs.Scans.{scan_within_fault, scan_more, scan_none}
 use Rattle.plcr_decode.proofs.scanning.+scan.Goals as goal
 

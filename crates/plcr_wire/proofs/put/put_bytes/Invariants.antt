@@ -1,5 +1,5 @@
 use Rattle.std.proofs.Common.{drop}
-use Rattle.plcr_wire.specs.Pen.{PutsUpTo}
+use Rattle.plcr_wire.proofs.Puttings.{PutsUpTo}
 use Rattle.plcr_wire.proofs.put.put_bytes.Given as goal
 
 -- the bytes so far were put, and the others are left

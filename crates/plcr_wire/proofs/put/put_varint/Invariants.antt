@@ -1,5 +1,5 @@
 use Rattle.plcr_wire.specs.Varint.{varint}
-use Rattle.plcr_wire.specs.Pen.{PutsUpTo}
+use Rattle.plcr_wire.proofs.Puttings.{PutsUpTo}
 use Rattle.plcr_wire.proofs.put.put_varint.Given as goal
 
 -- the groups so far were put, and those of the rest are left

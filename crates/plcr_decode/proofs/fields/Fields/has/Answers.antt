@@ -2,7 +2,7 @@
 use Rattle.std.proofs.Common.{sym, ap, ◌∙◌}
 use Rattle.plcr_wire.specs.Reading.{piece}
 use Rattle.plcr_decode.specs.Fields.{has}
-use Rattle.plcr_decode.specs.Views.{left}
+use Rattle.plcr_decode.specs.inner.Views.{left}
 use Rattle.plcr_decode.proofs.Listed.{has_here}
 use Rattle.plcr_decode.proofs.fields.Fields.has.Goals as goal
 

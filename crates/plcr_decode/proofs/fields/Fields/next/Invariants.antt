@@ -1,6 +1,6 @@
 -- The fields left are the same until one is found.
 use Rattle.std.proofs.Common.{◌≡◌, ◌≤◌, length}
-use Rattle.plcr_decode.specs.Views.{left, size}
+use Rattle.plcr_decode.specs.inner.Views.{left, size}
 use Rattle.plcr_decode.proofs.fields.Fields.next.Given as goal
 
 abbrev pub invariant-loop-piece : goal.invariant-loop-piece

@@ -1,7 +1,7 @@
 -- No message stands in the fields passed.
 use Rattle.std.proofs.Common.{◌≡◌, ◌≤◌}
 use Rattle.plcr_decode.specs.Fields.{messages_in}
-use Rattle.plcr_decode.specs.Views.{left, size}
+use Rattle.plcr_decode.specs.inner.Views.{left, size}
 use Rattle.plcr_decode.proofs.fields.Fields.next_message.Given as goal
 
 abbrev pub invariant-loop-piece : goal.invariant-loop-piece

@@ -1,7 +1,7 @@
 -- What is kept and the fields that are left give the last values.
 use Rattle.std.proofs.Common.{◌≡◌, ◌<◌, ℕ}
 use Rattle.plcr_decode.specs.Fields.{last_or, last_value}
-use Rattle.plcr_decode.specs.Views.{left, size, kept}
+use Rattle.plcr_decode.specs.inner.Views.{left, size, kept}
 use Rattle.plcr_decode.proofs.found.Found.of.Given as goal
 
 abbrev pub invariant-loop-piece : goal.invariant-loop-piece

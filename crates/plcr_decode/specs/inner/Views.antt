@@ -2,7 +2,8 @@
 use Rattle.std.specs.Prelude.{◌≡◌, ℕ, ◌+◌, ◌<◌, List, ◌++◌, length, slice_index_or, Option, Some, None}
 use Rattle.std.specs.Borrow.{Bor}
 use Rattle.plcr_wire.specs.Message.{Value, Field}
-use Rattle.plcr_decode.specs.Fields.{fields_of, joined, shown}
+use Rattle.plcr_wire.specs.Reading.{content}
+use Rattle.plcr_decode.specs.Fields.{fields_of, joined}
 use Rattle.plcr_wire.specs.declared.pieces.Content.{Content}
 use Rattle.plcr_decode.specs.declared.fields.Fields.{Fields}
 use Rattle.plcr_decode.specs.Scan as spec
@@ -24,6 +25,11 @@ size f = length f.part.now + length f.outer.now
 abbrev pub told : Option (Bor (List ℕ)) → Option (List ℕ)
 told None = None
 told (Some text) = Some text.now
+
+-- what was found, as it lies in memory
+abbrev pub shown : Option Content → Option Value
+shown None = None
+shown (Some c) = Some (content c)
 
 -- the value that is kept under a number
 abbrev pub kept : List (Option Content) → ℕ → Option Value

@@ -1,0 +1,5 @@
+-- Definitions that only private functions' contracts cite.
+pub mod Entries
+pub mod Judging
+pub mod Views
+pub mod Words
