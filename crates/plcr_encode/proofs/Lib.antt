@@ -1,4 +1,3 @@
-pub mod Files
 pub mod Lengths
 pub mod Parsed
 pub mod Roots

@@ -7,7 +7,7 @@ use Rattle.plcr_macho.specs.Images.{Listed}
 use Rattle.plcr_report.specs.Messages.{system_message, application_message, thread_message, image_message, signal_message, process_message, info_message, report_message}
 use Rattle.plcr_encode.specs.declared.context.Context.{Context}
 use Rattle.plcr_encode.specs.Images.{images_of}
-use Rattle.plcr_encode.specs.Rows.{message_fields}
+use Rattle.plcr_encode.specs.inner.Rows.{message_fields}
 use Rattle.plcr_encode.specs.Values.{system_of, application_of, signal_of, process_of, info_of, threads_of, report_of, process_report}
 use Rattle.plcr_encode.proofs.Rows.{fields-each, spelling-append}
 

@@ -6,7 +6,7 @@ use Rattle.plcr_wire.specs.Pen.{Pen, Wrote}
 use Rattle.plcr_wire.specs.Message.{Field, spelling, field_spelling, number_field, message_field}
 use Rattle.plcr_report.specs.declared.messages.Thread.{Thread}
 use Rattle.plcr_report.specs.Messages.{each, frame_message, register_message, thread_message}
-use Rattle.plcr_encode.specs.Rows.{message_fields}
+use Rattle.plcr_encode.specs.inner.Rows.{message_fields}
 use native.Mathlib.Numerals.{unary_clauses}
 use Rattle.plcr_wire.proofs.Writing.{wrote_none, wrote_twice}
 

@@ -1,5 +1,6 @@
 -- The bytes of a list, read in words of 8.
-use Rattle.std.proofs.Common.{◌≡◌, ◌⊎◌, inl, inr, ℕ, ◌+◌, ◌-◌, ◌*◌, ◌<◌, ◌≤◌, min, List, ◌++◌, sym, ap, ◌∙◌, arith, length, take, drop}
+use Rattle.std.proofs.Common.{◌≡◌, inl, inr, ℕ, ◌+◌, ◌-◌, ◌*◌, ◌<◌, ◌≤◌, min, List, ◌++◌, sym, ap, ◌∙◌, arith, length, take, drop}
+use Rattle.std.proofs.lemmas.Bool.{cases_lt}
 use Rattle.std.proofs.lemmas.List.{take_all}
 use Rattle.std.proofs.Math.Seq.{take-add}
 use Rattle.std.specs.Int.{w64, to_le_bytes}
@@ -7,12 +8,9 @@ use Rattle.plcr_base.specs.Bytes.{IsBytes}
 use Rattle.plcr_base.specs.Numbers.{u64_in}
 use Rattle.plcr_base.proofs.Words.{take-bytes_from, word_bytes}
 
-below_or_not : (m n : ℕ) → (m < n) ⊎ (n ≤ m)
-below_or_not m n = grind arith
-
 -- two fronts are one where the shorter has all
 take-same : (m n : ℕ) (xs : List ℕ) → m ≤ n → (m < n → length xs ≤ m) → take m xs ≡ take n xs
-take-same m n xs h all = elim (below_or_not m n) [
+take-same m n xs h all = elim (cases_lt m n) [
   | inl below ↦ take_all m xs (all below) ∙ sym (take_all n xs (let short = all below in omega (arith, short, h)))
   | inr above ↦ let e : m ≡ n = omega arith in ap (λ k. take k xs) e
 ]

@@ -1,5 +1,6 @@
 -- What can be written as a report.
 use Rattle.std.specs.Prelude.{◌^◌, ◌<◌, ◌≤◌, List, length, All}
+use Rattle.plcr_base.specs.Limits.{IsImageName}
 use Rattle.plcr_regs.specs.declared.arch.Arch.{Arch}
 use Rattle.plcr_regs.specs.declared.registers.Registers.{Registers}
 use Rattle.plcr_regs.specs.States.{IsWhole}
@@ -22,9 +23,9 @@ pub record IsWritable (context : Context) : Type 0 where
   pub code : length context.code.now < 2 ^ 32
   pub process : length context.process.now < 2 ^ 32
 
--- a loaded image whose name has at most 1,024 bytes
+-- a loaded image whose name is within its limit
 abbrev pub IsNamable : Listed → Type 0
-IsNamable listed = length listed.name ≤ 1024
+IsNamable listed = IsImageName listed.name
 
 -- loaded images with such names, fewer than 2^32
 pub record AreNamable (listed : List Listed) : Type 0 where

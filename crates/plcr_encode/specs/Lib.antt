@@ -1,4 +1,4 @@
 pub mod Conditions
 pub mod Images
-pub mod Rows
 pub mod Values
+pub mod inner

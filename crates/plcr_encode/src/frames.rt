@@ -3,7 +3,8 @@ ghost use Rattle.std.specs.Prelude.{◌≡◌, ◌*◌, ◌<◌, ◌≤◌, leng
 ghost use Rattle.plcr_wire.specs.Pen.{Wrote};
 ghost use Rattle.plcr_wire.specs.Message.{spelling};
 ghost use Rattle.plcr_report.specs.Messages.{frame_message};
-ghost use Rattle.plcr_encode.specs.Rows.{message_fields};
+ghost use Rattle.plcr_encode.specs.declared.frames.TheConstants.{MOST_FRAMES};
+ghost use Rattle.plcr_encode.specs.inner.Rows.{message_fields};
 ghost use Rattle.plcr_encode.specs.Values.{pc_place, value_at, pcs_of, frame_at};
 
 use crate::fields::{Message, put_message, put_number};
@@ -12,8 +13,8 @@ use plcr_regs::{Arch, Registers};
 use plcr_report::{Frame, Thread};
 use plcr_wire::Ink;
 
-/// How many frames of a thread are written.
-const FRAMES: usize = 512;
+/// Of a thread at most so many frames are written.
+const MOST_FRAMES: usize = 512;
 
 /// A frame with no symbol.
 #[derive(Drop)]
@@ -60,9 +61,9 @@ fn pc(arch: Arch) -> usize
 }
 
 /// The program counters of a thread's frames: today that of the one that it was stopped in.
-pub(crate) fn find_frames(state: &Registers) -> ArrayVec<u64, FRAMES>
+pub(crate) fn find_frames(state: &Registers) -> ArrayVec<u64, MOST_FRAMES>
     ensures found { result.items ≡ pcs_of state.now }
-    ensures few { length (pcs_of state.now) ≤ 512 }
+    ensures few { length (pcs_of state.now) ≤ MOST_FRAMES }
 {
     let mut pcs = ArrayVec::new();
     pcs.push(value(state, pc(state.arch)));
@@ -71,9 +72,9 @@ pub(crate) fn find_frames(state: &Registers) -> ArrayVec<u64, FRAMES>
 
 /// Writes the frames with these program counters.
 pub(crate) fn put_frames<W: Ink>(ink: &mut W, pcs: &[u64])
-    requires { length pcs.now ≤ 512 }
+    requires { length pcs.now ≤ MOST_FRAMES }
     ensures wrote { Wrote (W.pen ink.old) (W.pen ink.new) (spelling (message_fields 2 frame_message (map frame_at pcs.now))) }
-    ensures short { length (spelling (message_fields 2 frame_message (map frame_at pcs.now))) ≤ 40 * 512 }
+    ensures short { length (spelling (message_fields 2 frame_message (map frame_at pcs.now))) ≤ 40 * MOST_FRAMES }
 {
     for pc in pcs {
         put_message(ink, Thread::FRAMES, &FramePart { pc: *pc });

@@ -6,7 +6,7 @@ ghost use Rattle.plcr_macho.specs.Images.{listed_at};
 ghost use Rattle.plcr_report.specs.Messages.{image_message};
 ghost use Rattle.plcr_encode.specs.Conditions.{IsNamable, AreNamable};
 ghost use Rattle.plcr_encode.specs.Images.{image_of, images_of};
-ghost use Rattle.plcr_encode.specs.Rows.{message_fields};
+ghost use Rattle.plcr_encode.specs.inner.Rows.{message_fields};
 
 use crate::fields::{Message, put_message, put_number, put_text};
 use crate::names::name_of;
@@ -53,14 +53,15 @@ struct ImagePart<'a> {
 }
 
 impl Message for ImagePart<'_> {
-    ghost use Rattle.std.specs.Prelude.{◌^◌, ◌≤◌, length};
+    ghost use Rattle.std.specs.Prelude.{◌^◌};
     ghost use Rattle.std.proofs.Common.{lit<};
     ghost use Rattle.plcr_report.specs.Messages.{image_message};
+    ghost use Rattle.plcr_base.specs.Limits.{IsImageName};
     ghost use Rattle.plcr_encode.specs.Images.{image_with};
 
     ghost fields = { λ part. image_message (image_with (record { header = part.header; name = part.name.now }) part.found.now) };
 
-    ghost fits = { λ part. length part.name.now ≤ 1024 };
+    ghost fits = { λ part. IsImageName part.name.now };
 
     ghost most = { 2 ^ 11 };
 

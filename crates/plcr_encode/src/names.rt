@@ -2,18 +2,18 @@
 ghost use Rattle.std.specs.Prelude.{◌≡◌, ◌+◌, ◌<◌, ◌≤◌, ◌++◌, length, take};
 ghost use Rattle.std.specs.Int.{w64, to_le_bytes};
 ghost use Rattle.arrayvec.specs.ArrayVec.{array_vec_len};
+ghost use Rattle.plcr_base.specs.declared.limits.TheConstants.{IMAGE_NAME_BYTES};
 ghost use Rattle.plcr_macho.specs.Images.{listed_at};
+ghost use Rattle.plcr_encode.specs.Conditions.{IsNamable};
 
 use arrayvec::ArrayVec;
+use plcr_base::IMAGE_NAME_BYTES;
 use plcr_macho::Images;
 
-/// How many bytes the name of an image has at most.
-const NAME: usize = 1024;
-
 /// Appends the first bytes of a word, the lowest first.
-fn push_front(name: &mut ArrayVec<u8, NAME>, word: u64, count: usize)
+fn push_front(name: &mut ArrayVec<u8, IMAGE_NAME_BYTES>, word: u64, count: usize)
     requires within { count ≤ 8 }
-    requires room { array_vec_len name.old + count ≤ 1024 }
+    requires room { array_vec_len name.old + count ≤ IMAGE_NAME_BYTES }
     ensures { name.new.items ≡ name.old.items ++ take count (to_le_bytes w64 word) }
 {
     let bytes = word.to_le_bytes();
@@ -24,9 +24,9 @@ fn push_front(name: &mut ArrayVec<u8, NAME>, word: u64, count: usize)
 }
 
 /// The name of the image at an index.
-pub(crate) fn name_of<I: Images>(images: &mut I, i: usize) -> ArrayVec<u8, NAME>
+pub(crate) fn name_of<I: Images>(images: &mut I, i: usize) -> ArrayVec<u8, IMAGE_NAME_BYTES>
     requires inside { i < length (I.images images.old) }
-    requires short { length (listed_at (I.images images.old) i).name ≤ 1024 }
+    requires short { IsNamable (listed_at (I.images images.old) i) }
     ensures name { result.items ≡ (listed_at (I.images images.old) i).name }
     ensures same { I.images images.new ≡ I.images images.old }
     ensures follows { I.follows images.old images.new }

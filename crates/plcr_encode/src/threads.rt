@@ -3,7 +3,7 @@ ghost use Rattle.std.specs.Prelude.{◌≡◌, ◌*◌, ◌^◌, ◌<◌, ◌≤
 ghost use Rattle.plcr_wire.specs.Pen.{Wrote};
 ghost use Rattle.plcr_wire.specs.Message.{spelling};
 ghost use Rattle.plcr_report.specs.Messages.{register_message, thread_message};
-ghost use Rattle.plcr_encode.specs.Rows.{message_fields};
+ghost use Rattle.plcr_encode.specs.inner.Rows.{message_fields};
 ghost use Rattle.plcr_encode.specs.Values.{registers_of, threads_of};
 
 use crate::fields::{Message, put_flag, put_message, put_number, put_text};
@@ -65,12 +65,13 @@ struct ThreadPart<'a> {
 impl Message for ThreadPart<'_> {
     ghost use Rattle.std.specs.Prelude.{◌^◌, ◌≤◌, length};
     ghost use Rattle.std.proofs.Common.{lit<};
+    ghost use Rattle.plcr_encode.specs.declared.frames.TheConstants.{MOST_FRAMES};
     ghost use Rattle.plcr_report.specs.Messages.{thread_message};
     ghost use Rattle.plcr_encode.specs.Values.{thread_with};
 
     ghost fields = { λ part. thread_message (thread_with part.crashed part.number part.pcs.now part.state.now) };
 
-    ghost fits = { λ part. length part.pcs.now ≤ 512 };
+    ghost fits = { λ part. length part.pcs.now ≤ MOST_FRAMES };
 
     ghost most = { 2 ^ 15 };
 

@@ -1,7 +1,7 @@
 use Rattle.std.proofs.Common.{◌*◌, map, drop}
 use Rattle.plcr_wire.specs.Message.{spelling}
 use Rattle.plcr_report.specs.Messages.{frame_message}
-use Rattle.plcr_encode.specs.Rows.{message_fields}
+use Rattle.plcr_encode.specs.inner.Rows.{message_fields}
 use Rattle.plcr_encode.specs.Values.{frame_at}
 use Rattle.plcr_encode.proofs.Rows.{WroteUpTo}
 use Rattle.plcr_encode.proofs.frames.put_frames.Given as goal

@@ -2,7 +2,7 @@ use Rattle.std.proofs.Common.{◌≡◌, ◌+◌, ◌*◌, ◌≤◌, length, ma
 use Rattle.plcr_wire.specs.Message.{spelling}
 use Rattle.plcr_report.specs.Messages.{image_message}
 use Rattle.plcr_encode.specs.Images.{image_of, images_of}
-use Rattle.plcr_encode.specs.Rows.{message_fields}
+use Rattle.plcr_encode.specs.inner.Rows.{message_fields}
 use Rattle.plcr_encode.proofs.Rows.{WroteUpTo}
 use Rattle.plcr_encode.proofs.images.put_images.Given as goal
 

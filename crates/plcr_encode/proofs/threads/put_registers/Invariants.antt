@@ -3,7 +3,7 @@ use Rattle.std.specs.List.{range_with_len}
 use Rattle.plcr_wire.specs.Message.{spelling}
 use Rattle.plcr_report.specs.Messages.{register_message}
 use Rattle.plcr_regs.specs.Names.{register_count}
-use Rattle.plcr_encode.specs.Rows.{message_fields}
+use Rattle.plcr_encode.specs.inner.Rows.{message_fields}
 use Rattle.plcr_encode.specs.Values.{register_at, registers_of}
 use Rattle.plcr_encode.proofs.Rows.{WroteUpTo}
 use Rattle.plcr_encode.proofs.threads.put_registers.Given as goal

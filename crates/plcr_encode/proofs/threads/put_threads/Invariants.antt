@@ -2,7 +2,7 @@ use Rattle.std.proofs.Common.{◌≡◌, ◌+◌, ◌*◌, ◌≤◌, length, ma
 use Rattle.std.specs.List.{enumerate_from}
 use Rattle.plcr_wire.specs.Message.{spelling}
 use Rattle.plcr_report.specs.Messages.{thread_message}
-use Rattle.plcr_encode.specs.Rows.{message_fields}
+use Rattle.plcr_encode.specs.inner.Rows.{message_fields}
 use Rattle.plcr_encode.specs.Values.{thread_of, threads_of}
 use Rattle.plcr_encode.proofs.Rows.{WroteUpTo}
 use Rattle.plcr_encode.proofs.threads.put_threads.Given as goal
