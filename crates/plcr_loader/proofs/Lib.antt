@@ -1,0 +1,5 @@
+pub mod Fields
+pub mod Files
+pub mod Framed
+pub mod Lists
+pub mod Results
