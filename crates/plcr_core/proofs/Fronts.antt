@@ -4,15 +4,16 @@ use Rattle.std.specs.Option.{option_to_list}
 use Rattle.std.proofs.lemmas.List.Elements.{filter_map-append}
 use Rattle.std.specs.List.{cons_option}
 use Rattle.plcr_base.specs.Chains.{◌>>=◌}
-use Rattle.plcr_commands.specs.Commands.{Bytes, Command, Test, command_at, commands_at}
-use Rattle.plcr_commands.specs.declared.trouble.Trouble.{Trouble}
-use Rattle.plcr_commands.specs.declared.trouble.Trouble.TheVariants.{Bad, Absent}
+use Rattle.plcr_loader.specs.Commands.{Bytes, Command, Test, command_at, commands_at}
+use Rattle.plcr_loader.specs.declared.trouble.Trouble.{Trouble}
+use Rattle.plcr_loader.specs.declared.trouble.Trouble.TheVariants.{Bad, Absent}
 use Rattle.plcr_memory.specs.declared.region.Region.{Region}
 use Rattle.plcr_regs.specs.declared.arch.Arch.{Arch}
 use Rattle.plcr_regs.specs.declared.registers.Registers.{Registers}
 use Rattle.plcr_core.specs.declared.fault.CoreFault.{CoreFault}
-use Rattle.plcr_core.specs.Cores.{region_of, thread_of, fault_of, most_threads}
-use Rattle.plcr_core.specs.Gathering.{Fails, Gains, gain_of, gains_of, with_gain}
+use Rattle.plcr_core.specs.Cores.{region_of, thread_of, fault_of}
+use Rattle.plcr_core.specs.declared.limits.TheConstants.{MOST_THREADS}
+use Rattle.plcr_core.specs.inner.Gathering.{Fails, Gains, gain_of, gains_of, with_gain}
 use Rattle.plcr_core.proofs.Kept.{kept_twice}
 
 -- what the rest gives, behind the commands read so far
@@ -26,10 +27,10 @@ after_more front c (Err e) = refl
 pub goes_on : (source : Bytes) (test : Test) (end left index at : ℕ) (front : List Command) (c : Command) (all : Result (List Command) Trouble)
     → command_at source test end index at ≡ Ok c
     → after front (commands_at source test end (suc left) index at) ≡ all
-    → after (front ++ c ∷ []) (commands_at source test end left (index + 1) (at + c.size)) ≡ all
+    → after (front ++ c ∷ []) (commands_at source test end left (index + 1) (at + c.cmdsize)) ≡ all
 goes_on source test end left index at front c all here so_far =
-    let rest = commands_at source test end left (index + 1) (at + c.size) in
-    let next = λ (d : Command). commands_at source test end left (index + 1) (at + d.size) >>= λ (cs : List Command). let r : Result (List Command) Trouble = Ok (d ∷ cs) in r in
+    let rest = commands_at source test end left (index + 1) (at + c.cmdsize) in
+    let next = λ (d : Command). commands_at source test end left (index + 1) (at + d.cmdsize) >>= λ (cs : List Command). let r : Result (List Command) Trouble = Ok (d ∷ cs) in r in
     let step : after front (command_at source test end index at >>= next) ≡ after front (rest >>= λ (cs : List Command). let r : Result (List Command) Trouble = Ok (c ∷ cs) in r) =
     ap (λ (r : Result Command Trouble). after front (r >>= next)) here in
     after_more front c rest ∙ sym step ∙ so_far
@@ -39,7 +40,7 @@ pub stops : (source : Bytes) (test : Test) (end left index at : ℕ) (front : Li
     → after front (commands_at source test end (suc left) index at) ≡ all
     → all ≡ Err trouble
 stops source test end left index at front trouble all here so_far =
-    let next = λ (d : Command). commands_at source test end left (index + 1) (at + d.size) >>= λ (cs : List Command). let r : Result (List Command) Trouble = Ok (d ∷ cs) in r in
+    let next = λ (d : Command). commands_at source test end left (index + 1) (at + d.cmdsize) >>= λ (cs : List Command). let r : Result (List Command) Trouble = Ok (d ∷ cs) in r in
     sym so_far ∙ ap (λ (r : Result Command Trouble). after front (r >>= next)) here
 
 pub is_done : (source : Bytes) (test : Test) (end index at : ℕ) (front : List Command) (all : Result (List Command) Trouble)
@@ -70,7 +71,7 @@ gains_more arch front c =
     let regions = filter_more region_of front c in
     let threads = filter_more (thread_of arch) front c in
     same_gains regions
-    (ap (take most_threads) threads ∙ sym (kept_twice most_threads states (option_to_list (thread_of arch c))))
+    (ap (take MOST_THREADS) threads ∙ sym (kept_twice MOST_THREADS states (option_to_list (thread_of arch c))))
     (ap length threads ∙ length-append states (option_to_list (thread_of arch c)))
 
 -- the fault of a trouble is no want of memory

@@ -3,7 +3,8 @@ use Rattle.std.proofs.Common.{◌≡◌, ℕ, zero, suc, ◌+◌, ◌*◌, ◌<�
 use Rattle.std.specs.Option.{option_or}
 use Rattle.std.proofs.lemmas.Bool.{lt-ltb, le-ltb, ltb-true, ltb-false}
 use Rattle.std.proofs.lemmas.List.{length-drop}
-use Rattle.plcr_base.specs.Numbers.{u32_in}
+use Rattle.plcr_loader.specs.declared.thread_group.TheConstants.{LENGTH, FLAVOR, COUNT}
+use Rattle.plcr_loader.specs.Fields.{number}
 use Rattle.plcr_regs.specs.declared.arch.Arch.{Arch}
 use Rattle.plcr_regs.specs.declared.registers.Registers.{Registers}
 use Rattle.plcr_regs.specs.States.{state_in}
@@ -11,18 +12,18 @@ use Rattle.plcr_core.specs.Groups.{Group, state_length, group_at_front, first_gr
 
 -- where the next group begins
 abbrev next_place : List ℕ → ℕ
-next_place bytes = 8 + state_length bytes
+next_place bytes = LENGTH + state_length bytes
 
 -- the step of first_groups, with what is found in the rest
 abbrev with_rest : List ℕ → Option (List Group) → Option (List Group)
 with_rest bytes found =
-    if nat_lt (length bytes) 8 then Some [] else
+    if nat_lt (length bytes) LENGTH then Some [] else
     if nat_lt (length bytes) (next_place bytes) then None else
     option_map (λ groups. group_at_front bytes ∷ groups) found
 
-short : (most : ℕ) (bytes : List ℕ) → length bytes < 8 → first_groups most bytes ≡ Some []
+short : (most : ℕ) (bytes : List ℕ) → length bytes < LENGTH → first_groups most bytes ≡ Some []
 short zero bytes h = refl
-short (suc most) bytes h = let e : nat_lt (length bytes) 8 ≡ true = lt-ltb (length bytes) 8 h in rw e
+short (suc most) bytes h = let e : nat_lt (length bytes) LENGTH ≡ true = lt-ltb (length bytes) LENGTH h in rw e
 
 -- more fuel than bytes finds the same
 enough : (n m : ℕ) (bytes : List ℕ) → length bytes ≤ n → length bytes ≤ m → first_groups n bytes ≡ first_groups m bytes
@@ -46,16 +47,16 @@ groups_step bytes =
 abbrev pub accepted_in : Arch → List ℕ → Option (Option Registers)
 accepted_in arch bytes = option_map (first_state arch) (groups_in bytes)
 
-pub accepted_none : (arch : Arch) (bytes : List ℕ) → length bytes < 8 → accepted_in arch bytes ≡ Some None
+pub accepted_none : (arch : Arch) (bytes : List ℕ) → length bytes < LENGTH → accepted_in arch bytes ≡ Some None
 accepted_none arch bytes h =
-    let e : nat_lt (length bytes) 8 ≡ true = lt-ltb (length bytes) 8 h in
+    let e : nat_lt (length bytes) LENGTH ≡ true = lt-ltb (length bytes) LENGTH h in
     let none : with_rest bytes (groups_in (drop (next_place bytes) bytes)) ≡ Some [] = rw e in
     ap (option_map (first_state arch)) (groups_step bytes ∙ none)
 
-pub accepted_past : (arch : Arch) (bytes : List ℕ) → 8 ≤ length bytes → length bytes < 8 + 4 * u32_in bytes 4 → accepted_in arch bytes ≡ None
+pub accepted_past : (arch : Arch) (bytes : List ℕ) → LENGTH ≤ length bytes → length bytes < LENGTH + 4 * number COUNT bytes → accepted_in arch bytes ≡ None
 accepted_past arch bytes long past =
-    let e : nat_lt (length bytes) 8 ≡ false = le-ltb (length bytes) 8 long in
-    let f : nat_lt (length bytes) (8 + 4 * u32_in bytes 4) ≡ true = lt-ltb (length bytes) (8 + 4 * u32_in bytes 4) past in
+    let e : nat_lt (length bytes) LENGTH ≡ false = le-ltb (length bytes) LENGTH long in
+    let f : nat_lt (length bytes) (LENGTH + 4 * number COUNT bytes) ≡ true = lt-ltb (length bytes) (LENGTH + 4 * number COUNT bytes) past in
     let past : with_rest bytes (groups_in (drop (next_place bytes) bytes)) ≡ None = rw (e, f) in
     ap (option_map (first_state arch)) (groups_step bytes ∙ past)
 
@@ -64,13 +65,13 @@ first_after : (arch : Arch) (group : Group) (found : Option (List Group)) → op
 first_after arch group None = refl
 first_after arch group (Some groups) = refl
 
-pub accepted_step : (arch : Arch) (bytes : List ℕ) → 8 + 4 * u32_in bytes 4 ≤ length bytes → accepted_in arch bytes ≡ option_map (option_or (state_in arch (u32_in bytes 0) (take (4 * u32_in bytes 4) (drop 8 bytes)))) (accepted_in arch (drop (8 + 4 * u32_in bytes 4) bytes))
+pub accepted_step : (arch : Arch) (bytes : List ℕ) → LENGTH + 4 * number COUNT bytes ≤ length bytes → accepted_in arch bytes ≡ option_map (option_or (state_in arch (number FLAVOR bytes) (take (4 * number COUNT bytes) (drop LENGTH bytes)))) (accepted_in arch (drop (LENGTH + 4 * number COUNT bytes) bytes))
 accepted_step arch bytes long =
-    let e : nat_lt (length bytes) 8 ≡ false = le-ltb (length bytes) 8 (omega arith) in
-    let f : nat_lt (length bytes) (8 + 4 * u32_in bytes 4) ≡ false = le-ltb (length bytes) (8 + 4 * u32_in bytes 4) long in
+    let e : nat_lt (length bytes) LENGTH ≡ false = le-ltb (length bytes) LENGTH (omega arith) in
+    let f : nat_lt (length bytes) (LENGTH + 4 * number COUNT bytes) ≡ false = le-ltb (length bytes) (LENGTH + 4 * number COUNT bytes) long in
     let more : with_rest bytes (groups_in (drop (next_place bytes) bytes)) ≡ option_map (λ groups. group_at_front bytes ∷ groups) (groups_in (drop (next_place bytes) bytes)) = rw (e, f) in
     ap (option_map (first_state arch)) (groups_step bytes ∙ more)
-    ∙ first_after arch (group_at_front bytes) (groups_in (drop (8 + 4 * u32_in bytes 4) bytes))
+    ∙ first_after arch (group_at_front bytes) (groups_in (drop (LENGTH + 4 * number COUNT bytes) bytes))
 
 -- a state found earlier stays the first
 pub or_again : (a b : Option Registers) (found : Option (Option Registers)) → option_map (option_or (option_or a b)) found ≡ option_map (option_or a) (option_map (option_or b) found)
@@ -81,9 +82,9 @@ or_again (Some x) b (Some c) = refl
 -- a turn of the loop: the group at the front is read, and its state counts where none was accepted before
 pub turn : (arch : Arch) (groups rest others : List ℕ) (before found after : Option Registers)
     → option_map (option_or before) (accepted_in arch rest) ≡ accepted_in arch groups
-    → 8 + 4 * u32_in rest 4 ≤ length rest
-    → found ≡ state_in arch (u32_in rest 0) (take (4 * u32_in rest 4) (drop 8 rest))
-    → others ≡ drop (8 + 4 * u32_in rest 4) rest
+    → LENGTH + 4 * number COUNT rest ≤ length rest
+    → found ≡ state_in arch (number FLAVOR rest) (take (4 * number COUNT rest) (drop LENGTH rest))
+    → others ≡ drop (LENGTH + 4 * number COUNT rest) rest
     → after ≡ option_or before found
     → option_map (option_or after) (accepted_in arch others) ≡ accepted_in arch groups
 turn arch groups rest others before found after so_far long found_is others_is after_is =
@@ -91,7 +92,7 @@ turn arch groups rest others before found after so_far long found_is others_is a
     rw after_is (or_again before found (accepted_in arch others) ∙ ap (option_map (option_or before)) (sym step) ∙ so_far)
 
 -- after the last group the state kept is the accepted one
-pub done : (arch : Arch) (groups rest : List ℕ) (kept : Option Registers) → option_map (option_or kept) (accepted_in arch rest) ≡ accepted_in arch groups → length rest < 8 → Some kept ≡ accepted_in arch groups
+pub done : (arch : Arch) (groups rest : List ℕ) (kept : Option Registers) → option_map (option_or kept) (accepted_in arch rest) ≡ accepted_in arch groups → length rest < LENGTH → Some kept ≡ accepted_in arch groups
 done arch groups rest kept so_far short =
     let none : (a : Option Registers) → Some a ≡ option_map (option_or a) (Some None) = λ a. elim a as (λ o. Some o ≡ option_map (option_or o) (Some None)) [ None ↦ refl | Some x ↦ refl ] in
     none kept ∙ ap (option_map (option_or kept)) (sym (accepted_none arch rest short)) ∙ so_far
@@ -108,17 +109,17 @@ steps_of false false front (Some others) groups h = inr (refl, others, refl, cc)
 -- the step that a list of groups comes from, as facts on the bytes
 Step : List ℕ → List Group → Type 0
 Step bytes groups =
-    ((nat_lt (length bytes) 8 ≡ true) × (groups ≡ []))
+    ((nat_lt (length bytes) LENGTH ≡ true) × (groups ≡ []))
     ⊎ ((nat_lt (length bytes) (next_place bytes) ≡ false) × (others : List Group) × (groups_in (drop (next_place bytes) bytes) ≡ Some others) × (groups ≡ group_at_front bytes ∷ others))
 
 step_of : (bytes : List ℕ) (groups : List Group) → groups_in bytes ≡ Some groups → Step bytes groups
 unfolding Step
 step_of bytes groups h =
-    steps_of (nat_lt (length bytes) 8) (nat_lt (length bytes) (next_place bytes)) (group_at_front bytes) (groups_in (drop (next_place bytes) bytes)) groups (sym (groups_step bytes) ∙ h)
+    steps_of (nat_lt (length bytes) LENGTH) (nat_lt (length bytes) (next_place bytes)) (group_at_front bytes) (groups_in (drop (next_place bytes) bytes)) groups (sym (groups_step bytes) ∙ h)
 
-none_stands : (bytes : List ℕ) → Step bytes [] → length bytes < 8
+none_stands : (bytes : List ℕ) → Step bytes [] → length bytes < LENGTH
 unfolding Step
-none_stands bytes (inl h) = ltb-true (length bytes) 8 h.0
+none_stands bytes (inl h) = ltb-true (length bytes) LENGTH h.0
 none_stands bytes (inr h) = absurd (let e : [] ≡ group_at_front bytes ∷ h.1 = h.3 in cc)
 
 one_stands : (bytes : List ℕ) (group : Group) (groups : List Group) → Step bytes (group ∷ groups)
@@ -139,11 +140,11 @@ groups_stand (group ∷ groups) bytes h =
 -- the groups that stand in the bytes are found
 pub groups_found : (groups : List Group) (bytes : List ℕ) → AreGroups bytes groups → groups_in bytes ≡ Some groups
 groups_found [] bytes short =
-    let e : nat_lt (length bytes) 8 ≡ true = lt-ltb (length bytes) 8 short in
+    let e : nat_lt (length bytes) LENGTH ≡ true = lt-ltb (length bytes) LENGTH short in
     let none : with_rest bytes (groups_in (drop (next_place bytes) bytes)) ≡ Some [] = rw e in
     groups_step bytes ∙ none
 groups_found (group ∷ groups) bytes h =
-    let e : nat_lt (length bytes) 8 ≡ false = le-ltb (length bytes) 8 (omega (arith, h.0)) in
+    let e : nat_lt (length bytes) LENGTH ≡ false = le-ltb (length bytes) LENGTH (omega (arith, h.0)) in
     let f : nat_lt (length bytes) (next_place bytes) ≡ false = le-ltb (length bytes) (next_place bytes) h.0 in
     let found = groups_found groups (drop (next_place bytes) bytes) h.2 in
     let more : with_rest bytes (groups_in (drop (next_place bytes) bytes)) ≡ Some (group ∷ groups) = rw (e, f, found, h.1) in

@@ -3,7 +3,7 @@ use Rattle.std.proofs.Common.{◌≡◌, ℕ, ◌==◌, nat_lt, Bool, true, fals
 use Rattle.std.proofs.lemmas.Bool.{ltb-false}
 use Rattle.std.proofs.lemmas.List.{take_all}
 use Rattle.plcr_base.specs.Chains.{◌>>=◌, result_map}
-use Rattle.plcr_commands.specs.Commands.{Command}
+use Rattle.plcr_loader.specs.Commands.{Command}
 use Rattle.plcr_memory.specs.declared.region.Region.{Region}
 use Rattle.plcr_regs.specs.declared.arch.Arch.{Arch}
 use Rattle.plcr_regs.specs.declared.registers.Registers.{Registers}
@@ -11,8 +11,9 @@ use Rattle.plcr_core.specs.declared.fault.CoreFault.{CoreFault}
 use Rattle.plcr_core.specs.declared.fault.CoreFault.TheVariants as faults
 use Rattle.plcr_core.specs.declared.header.Header.{Header}
 use Rattle.plcr_core.specs.Heads.{header_in}
-use Rattle.plcr_core.specs.Cores.{Parts, commands_in, parts_of, parts_in, region_of, thread_of, most_threads}
-use Rattle.plcr_core.specs.Gathering.{Fails, Gives, gains_in, gains_of, parts_from}
+use Rattle.plcr_core.specs.Cores.{Parts, commands_in, parts_of, parts_in, region_of, thread_of}
+use Rattle.plcr_core.specs.declared.limits.TheConstants.{MOST_THREADS}
+use Rattle.plcr_core.specs.inner.Gathering.{Fails, Gives, gains_in, gains_of, parts_from}
 
 -- the same parts, by the states that are kept
 by_kept : (most : ℕ) (arch : Arch) (regions : List Region) (threads : List Registers) (b : Bool) → nat_lt most (length threads) ≡ b
@@ -28,7 +29,7 @@ parts_by_gains : (arch : Arch) (cs : List Command) → parts_of arch cs ≡ part
 parts_by_gains arch cs =
     let threads = filter_map (thread_of arch) cs in
     ap (λ (r : Result Parts CoreFault). cond (length threads == 0) (Err faults.NoThread) r)
-    (by_kept most_threads arch (filter_map region_of cs) threads (nat_lt most_threads (length threads)) refl)
+    (by_kept MOST_THREADS arch (filter_map region_of cs) threads (nat_lt MOST_THREADS (length threads)) refl)
 
 gathered_by : (arch : Arch) (read : Result (List Command) CoreFault) → (read >>= λ cs. parts_of arch cs) ≡ ((read >>= λ cs. Ok (gains_of arch cs)) >>= λ g. parts_from arch g)
 gathered_by arch (Ok cs) = parts_by_gains arch cs

@@ -2,6 +2,7 @@ pub mod Heads
 pub mod Segments
 pub mod Groups
 pub mod Cores
-pub mod Answers
-pub mod Gathering
+pub mod Reading
+pub mod Laws
 pub mod FaultTexts
+pub mod inner

@@ -1,15 +1,16 @@
 ghost use Rattle.std.specs.Prelude.{◌≡◌, ◌≤◌, ◌+◌, length, IfOk};
 ghost use Rattle.plcr_base.specs.Chains.{result_map};
-ghost use Rattle.plcr_commands.specs.Commands.{framed_at};
-ghost use Rattle.plcr_commands.specs.Sources.{file_bytes};
-ghost use Rattle.plcr_core.specs.Gathering.{command_of};
+ghost use Rattle.plcr_loader.specs.Commands.{framed_at};
+ghost use Rattle.plcr_loader.specs.Sources.{file_bytes};
+ghost use Rattle.plcr_core.specs.inner.Gathering.{command_of};
 
-use plcr_commands::{FileBytes, Trouble, frame_at};
+use plcr_loader::load_command::LENGTH;
+use plcr_loader::{FileBytes, Trouble, frame_at};
 
-/// A load command of a file: its kind, the place where it stands, and all its bytes.
+/// A load command of a file: which it is, the place where it stands, and all its bytes.
 #[derive(Clone, Copy)]
 pub struct WholeCommand<'a> {
-    pub kind: u32,
+    pub cmd: u32,
     pub place: u64,
     pub bytes: &'a [u8],
 }
@@ -22,14 +23,14 @@ pub fn whole_command(
     at: u64,
 ) -> Result<WholeCommand<'_>, Trouble>
     ensures frame { result_map command_of result ≡ framed_at (file_bytes file.now) end index at }
-    ensures long { IfOk result (λ f. 8 ≤ length f.bytes.now) }
+    ensures long { IfOk result (λ f. LENGTH ≤ length f.bytes.now) }
     ensures within { IfOk result (λ f. at + length f.bytes.now ≤ length file.now) }
 {
-    let head = frame_at(&FileBytes(file), end, index, at)?;
+    let command = frame_at(&FileBytes(file), end, index, at)?;
     let (_, rest) = file.split_at(at as usize);
-    let (bytes, _) = rest.split_at(head.size as usize);
+    let (bytes, _) = rest.split_at(command.cmdsize as usize);
     Ok(WholeCommand {
-        kind: head.kind,
+        cmd: command.cmd,
         place: at,
         bytes,
     })

@@ -16,7 +16,7 @@ pub enum CoreFault {
     BadCommand { index: u32 },
     /// No thread has a state that can be read.
     NoThread,
-    /// More than 4,096 threads.
+    /// More than [`MOST_THREADS`](crate::MOST_THREADS) threads.
     TooManyThreads { count: u32 },
     /// `second` is the first region that shares an address with an earlier one, `first` the first such earlier one.
     Overlap { first: usize, second: usize },

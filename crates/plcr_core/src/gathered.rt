@@ -1,18 +1,16 @@
 ghost use Rattle.std.specs.Prelude.{◌≡◌, ◌≤◌, ◌<◌, ◌+◌, ◌^◌, [], ◌++◌, length, take, All, IfOk, OnOk, option_to_list};
 ghost use Rattle.plcr_memory.specs.Regions.{IsBacked};
-ghost use Rattle.plcr_core.specs.Cores.{fault_of, most_threads};
-ghost use Rattle.plcr_core.specs.Gathering.{Gives, gains, gains_in, with_gain};
+ghost use Rattle.plcr_core.specs.Cores.{fault_of};
+ghost use Rattle.plcr_core.specs.inner.Gathering.{Gives, gains, gains_in, with_gain};
 
 use crate::fault::CoreFault;
 use crate::gain::{Gain, gain_at};
 use crate::header::Header;
-use plcr_commands::Trouble;
+use crate::limits::MOST_THREADS;
+use plcr_loader::{Trouble, mach_header_64};
 use plcr_memory::Region;
 use plcr_regs::Registers;
 use std::alloc::{AllocError, Global};
-
-/// The most threads that a core may have.
-pub const MOST_THREADS: usize = 4096;
 
 /// What the load commands of a core give: its regions, its first threads, and how many threads there are.
 #[derive(Drop)]
@@ -35,7 +33,7 @@ impl Gathered {
 
     fn add(&mut self, gain: Gain) -> Result<(), AllocError>
         requires few { self.old.count + 1 < 2 ^ 32 }
-        requires kept { length self.old.threads.items ≤ most_threads }
+        requires kept { length self.old.threads.items ≤ MOST_THREADS }
         ensures { OnOk result (gains self.new ≡ with_gain (gains self.old) gain) }
     {
         add_region(&mut self.regions, gain.region)?;
@@ -56,8 +54,8 @@ fn add_region(regions: &mut Vec<Region>, region: Option<Region>) -> Result<(), A
 
 // Appends the thread where fewer than the most are kept.
 fn add_thread(threads: &mut Vec<Registers>, thread: Option<Registers>) -> Result<(), AllocError>
-    requires { length threads.old.items ≤ most_threads }
-    ensures { OnOk result (threads.new.items ≡ take most_threads (threads.old.items ++ option_to_list thread)) }
+    requires { length threads.old.items ≤ MOST_THREADS }
+    ensures { OnOk result (threads.new.items ≡ take MOST_THREADS (threads.old.items ++ option_to_list thread)) }
 {
     let Some(thread) = thread else {
         return Ok(());
@@ -84,7 +82,7 @@ pub fn gather(alloc: Global, file: &[u8], header: &Header) -> Result<Gathered, C
     ensures backed { IfOk result (λ found. All (IsBacked file.now) found.regions.items) }
 {
     let mut found = Gathered::new(alloc);
-    let mut at = 32;
+    let mut at = mach_header_64::LENGTH as u64;
     for index in 0..header.commands {
         let gain = match gain_at(header.arch, file, header.end, index, at) {
             Ok(gain) => gain,

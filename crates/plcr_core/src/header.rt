@@ -2,17 +2,9 @@ ghost use Rattle.std.specs.Prelude.{◌≡◌};
 ghost use Rattle.plcr_core.specs.Heads.{arch_of, header_in};
 
 use crate::fault::CoreFault;
-use plcr_base::read_u32;
+use plcr_loader::mach_header_64::{CPUTYPE, FILETYPE, LENGTH, MAGIC, NCMDS, SIZEOFCMDS};
+use plcr_loader::{CPU_TYPE_X86_64, MH_CORE, MH_MAGIC_64};
 use plcr_regs::Arch;
-
-/// MH_MAGIC_64 of loader.h.
-const MAGIC: u32 = 0xfeed_facf;
-
-/// MH_CORE of loader.h.
-const CORE: u32 = 4;
-
-/// CPU_TYPE_X86_64 of machine.h.
-const CPU_X86_64: u32 = 0x0100_0007;
 
 /// What the header of a core says: how many load commands it has, and the place where they end.
 #[derive(Clone, Copy)]
@@ -26,7 +18,7 @@ fn known_arch(cpu: u32) -> Option<Arch>
     ensures { result ≡ arch_of cpu }
 {
     match cpu {
-        CPU_X86_64 => Some(Arch::X86_64),
+        CPU_TYPE_X86_64 => Some(Arch::X86_64),
         _ => None,
     }
 }
@@ -36,21 +28,21 @@ fn known_arch(cpu: u32) -> Option<Arch>
 pub fn header_of(file: &[u8]) -> Result<Header, CoreFault>
     ensures { result ≡ header_in file.now }
 {
-    if file.len() < 32 {
+    if file.len() < LENGTH {
         return Err(CoreFault::Truncated { at: file.len() });
     }
-    let magic = read_u32(file, 0);
-    let filetype = read_u32(file, 12);
-    if magic != MAGIC || filetype != CORE {
+    let magic = MAGIC.read_u32(file);
+    let filetype = FILETYPE.read_u32(file);
+    if magic != MH_MAGIC_64 || filetype != MH_CORE {
         return Err(CoreFault::NotCore { magic, filetype });
     }
-    let cpu = read_u32(file, 4);
+    let cpu = CPUTYPE.read_u32(file);
     let Some(arch) = known_arch(cpu) else {
         return Err(CoreFault::OtherCpu { cpu });
     };
     Ok(Header {
         arch,
-        commands: read_u32(file, 16),
-        end: 32 + u64::from(read_u32(file, 20)),
+        commands: NCMDS.read_u32(file),
+        end: LENGTH as u64 + u64::from(SIZEOFCMDS.read_u32(file)),
     })
 }

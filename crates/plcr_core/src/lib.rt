@@ -8,15 +8,15 @@ mod gain;
 mod gathered;
 mod header;
 mod laws;
+mod limits;
 mod read;
 mod segment;
-mod states;
 mod thread;
 
 pub use fault::CoreFault;
-pub use laws::groups_lie;
+pub use laws::{cores_lie, groups_lie};
+pub use limits::MOST_THREADS;
 pub use read::{Core, read_core};
-pub use states::ThreadStates;
 
 #[cfg(test)]
 mod tests;

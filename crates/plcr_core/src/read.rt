@@ -2,13 +2,14 @@ ghost use Rattle.std.specs.Prelude.{◌≡◌, ◌≤◌, All, IfOk};
 ghost use Rattle.plcr_base.specs.Chains.{result_map};
 ghost use Rattle.plcr_memory.specs.Regions.{IsBacked};
 ghost use Rattle.plcr_core.specs.Cores.{AreThreads, parts_in};
-ghost use Rattle.plcr_core.specs.Answers.{IsAnswer};
-ghost use Rattle.plcr_core.specs.Gathering.{Gives, gains, parts, parts_from};
+ghost use Rattle.plcr_core.specs.Reading.{IsAnswer};
+ghost use Rattle.plcr_core.specs.inner.Gathering.{Gives, gains, parts, parts_from};
 
 use crate::fault::CoreFault;
-use crate::gathered::{Gathered, MOST_THREADS, gather};
+use crate::gathered::{Gathered, gather};
 use crate::header::header_of;
-use crate::states::ThreadStates;
+use crate::limits::MOST_THREADS;
+use plcr_base::Rows;
 use plcr_memory::{Memory, MemoryFault, Region};
 use plcr_regs::{Arch, Registers};
 use std::alloc::Global;
@@ -18,7 +19,7 @@ use std::alloc::Global;
 pub struct Core {
     pub arch: Arch,
     pub memory: Memory,
-    pub threads: ThreadStates,
+    pub threads: Rows<Registers>,
 }
 
 // What a core has before its memory is laid out.
@@ -75,7 +76,7 @@ pub fn read_core(alloc: Global, bytes: Vec<u8>) -> Result<Core, CoreFault>
         Ok(memory) => Ok(Core {
             arch,
             memory,
-            threads: ThreadStates::from_vec(threads),
+            threads: Rows::new(threads),
         }),
         Err(MemoryFault::Overlap { first, second }) => Err(CoreFault::Overlap { first, second }),
         Err(MemoryFault::Wraps { index }) => Err(CoreFault::Wraps { index }),

@@ -3,12 +3,9 @@ ghost use Rattle.plcr_base.specs.Chains.{passed};
 ghost use Rattle.plcr_memory.specs.Regions.{IsBacked};
 ghost use Rattle.plcr_core.specs.Segments.{region_in, segment_trouble};
 
-use plcr_base::read_u64;
-use plcr_commands::Trouble;
+use plcr_loader::Trouble;
+use plcr_loader::segment_command_64::{FILEOFF, FILESIZE, LENGTH, VMADDR, VMSIZE};
 use plcr_memory::Region;
-
-/// The length of a segment_command_64 without its sections.
-const SEGMENT_SIZE: usize = 72;
 
 /// The region of an LC_SEGMENT_64 in a file of `file_length` bytes, None where it is empty.
 #[tactic(auto, unfolding(crate::specs::Segments::segment_trouble, crate::specs::Segments::region_in))]
@@ -21,13 +18,13 @@ pub fn segment_region(
     ensures backed { IfOk result (λ region. IfSome region (λ r.
         (r.from + r.len ≤ file_length) × (r.len ≤ r.size) × (1 ≤ r.size))) }
 {
-    if command.len() < SEGMENT_SIZE {
+    if command.len() < LENGTH {
         return Err(Trouble::Bad { index });
     }
-    let start = read_u64(command, 24);
-    let size = read_u64(command, 32);
-    let offset = read_u64(command, 40);
-    let in_file = read_u64(command, 48);
+    let start = VMADDR.read_u64(command);
+    let size = VMSIZE.read_u64(command);
+    let offset = FILEOFF.read_u64(command);
+    let in_file = FILESIZE.read_u64(command);
     let length = file_length as u64;
     if in_file > 0 && (offset > length || length - offset < in_file) {
         return Err(Trouble::Absent { place: offset });

@@ -90,6 +90,8 @@ fn a_core_has_its_region_and_its_thread(rt: HostRuntime) -> Result<(), Fail> {
         value,
     };
     assert!(rt; core.threads.as_slice() == [state].as_slice());
+    cores_lie();
+    groups_lie();
     Ok(())
 }
 
@@ -151,5 +153,140 @@ fn faults_are_the_first_in_their_order(rt: HostRuntime) -> Result<(), Fail> {
         let answer = read_core(rt.alloc(), file);
         assert!(rt; matches!(answer, Err(found) if found == fault));
     }
+    Ok(())
+}
+
+// A core of that processor, whose header tells so many commands of so many bytes, and these words behind it.
+fn words_file(
+    alloc: Global,
+    cputype: u32,
+    commands: u32,
+    size: u32,
+    words: &[u32],
+) -> Result<Vec<u8>, AllocError> {
+    let mut file = Vec::new(alloc);
+    add_words(&mut file, &[MAGIC, cputype, 3, 4, commands, size, 0, 0])?;
+    add_words(&mut file, words)?;
+    Ok(file)
+}
+
+fn fault_in(alloc: Global, file: Vec<u8>) -> Option<CoreFault> {
+    read_core(alloc, file).err()
+}
+
+// Each cause of a fault of a load command, the tests of the list before those of the file.
+#[test]
+fn load_commands_are_refused(rt: HostRuntime) -> Result<(), Fail> {
+    let bad = |index| CoreFault::BadCommand { index };
+    let other = CoreFault::OtherCpu { cpu: 7 };
+    let mut short = [0; 18];
+    short[0] = 0x19;
+    short[1] = 71;
+    // A segment of 5 bytes from byte 100 of the file on, which has 104.
+    let mut past = [0; 18];
+    past[0] = 0x19;
+    past[1] = 72;
+    past[10] = 100;
+    past[12] = 5;
+    // The processor, the number of commands and their bytes, the words behind the header, and the fault.
+    let cases = [
+        (7, 1, 7, [].as_slice(), other),
+        (X86_64, 1, 7, [1, 8].as_slice(), bad(0)),
+        (X86_64, 1, 7, [1].as_slice(), bad(0)),
+        (X86_64, 2, 15, [1, 8, 1].as_slice(), bad(1)),
+        (
+            X86_64,
+            1,
+            8,
+            [1].as_slice(),
+            CoreFault::Truncated { at: 36 },
+        ),
+        (X86_64, 1, 8, [1, 7].as_slice(), bad(0)),
+        (X86_64, 1, 12, [1, 13, 0].as_slice(), bad(0)),
+        (X86_64, 1, 12, [1, 13].as_slice(), bad(0)),
+        (
+            X86_64,
+            1,
+            12,
+            [1, 12].as_slice(),
+            CoreFault::Truncated { at: 40 },
+        ),
+        (X86_64, 1, 72, short.as_slice(), bad(0)),
+        (
+            X86_64,
+            1,
+            72,
+            past.as_slice(),
+            CoreFault::Truncated { at: 104 },
+        ),
+        (X86_64, 1, 20, [4, 20, 9, 2, 0].as_slice(), bad(0)),
+        (X86_64, 2, 28, [1, 8, 5, 20, 9, 2, 0].as_slice(), bad(1)),
+        (
+            X86_64,
+            1,
+            20,
+            [4, 20, 9, 1, 0].as_slice(),
+            CoreFault::NoThread,
+        ),
+    ];
+    for (cputype, commands, size, words, fault) in cases {
+        let file = words_file(rt.alloc(), cputype, commands, size, words)?;
+        assert_eq!(rt;
+            fault_in(rt.alloc(), file),
+            Some(fault),
+            "{size} {}",
+            words.len()
+        );
+    }
+    Ok(())
+}
+
+// The 176 bytes of an accepted group with that rip.
+fn add_group(file: &mut Vec<u8>, rip: u64) -> Result<(), AllocError> {
+    add_words(file, &[4, 42])?;
+    for i in 0..21 {
+        let number = if i == 16 { rip } else { 0 };
+        file.extend_from_slice(&number.to_le_bytes())?;
+    }
+    Ok(())
+}
+
+// A core of so many threads, of one accepted group each.
+fn threads_file(alloc: Global, count: u32) -> Result<Vec<u8>, AllocError> {
+    let mut file = words_file(alloc, X86_64, count, count.saturating_mul(184), &[])?;
+    for i in 0..count {
+        add_words(&mut file, &[4, 184])?;
+        add_group(&mut file, u64::from(i))?;
+    }
+    Ok(file)
+}
+
+// How many threads the core has, and the rip of the first.
+fn first_of(alloc: Global, file: Vec<u8>) -> Result<(usize, Option<u64>), CoreFault> {
+    let core = read_core(alloc, file)?;
+    let rip = core.threads.first().and_then(|thread| thread.value[16]);
+    Ok((core.threads.len(), rip))
+}
+
+#[test]
+fn threads_are_the_first_accepted_groups(rt: HostRuntime) -> Result<(), Fail> {
+    let alloc = rt.alloc();
+    let mut unix = words_file(alloc, X86_64, 1, 184, &[5, 184])?;
+    add_group(&mut unix, 7)?;
+    assert_eq!(rt; first_of(alloc, unix), Ok((1, Some(7))));
+    let mut later = words_file(alloc, X86_64, 1, 196, &[4, 196, 9, 1, 0])?;
+    add_group(&mut later, 8)?;
+    assert_eq!(rt; first_of(alloc, later), Ok((1, Some(8))));
+    let mut two = words_file(alloc, X86_64, 1, 364, &[4, 364])?;
+    add_group(&mut two, 9)?;
+    add_group(&mut two, 10)?;
+    add_words(&mut two, &[4])?;
+    assert_eq!(rt; first_of(alloc, two), Ok((1, Some(9))));
+    assert_eq!(rt;
+        first_of(alloc, threads_file(alloc, 4096)?),
+        Ok((4096, Some(0)))
+    );
+    let many = Err(CoreFault::TooManyThreads { count: 4097 });
+    assert_eq!(rt; first_of(alloc, threads_file(alloc, 4097)?), many);
     Ok(())
 }

@@ -26,7 +26,7 @@ pub le_rest : (at n m : ℕ) → at ≤ m → nat_le n (m - at) ≡ nat_le (at +
 le_rest at n m h = grind (arith, nat_tests)
 
 -- what is there ends within the file
-within_file : (file : List ℕ) (at n : ℕ) (xs : List ℕ) → file_bytes file at n ≡ Some xs → at + n ≤ length file
+pub within_file : (file : List ℕ) (at n : ℕ) (xs : List ℕ) → file_bytes file at n ≡ Some xs → at + n ≤ length file
 within_file file at n xs there =
     let has : nat_le (at + n) (length file) ≡ true = sym (file_has file at n) ∙ ap is_some there in
     grind (arith, nat_tests)

@@ -55,3 +55,7 @@ pub framed_by : (source : Bytes) (end index at : ℕ) (said : LoadCommand) → O
 framed_by source end index at said h =
     let framed = map_ok load_command_of (framed_at source end index at) said h in
     (framed.0, framed.1, framed.2, framed_ok source end index at framed.0 framed.1)
+
+-- a command by its place and its bytes
+pub command_is : (c : Command) (at : ℕ) (bytes : List ℕ) → c.place ≡ at → c.bytes ≡ bytes → c ≡ record { cmd = c.cmd; cmdsize = c.cmdsize; place = at; bytes = bytes }
+command_is c at bytes stands is = λ i. record { cmd = c.cmd; cmdsize = c.cmdsize; place = stands i; bytes = is i }

@@ -2,6 +2,7 @@ ghost use Rattle.std.specs.Prelude.{◌≡◌, ◌≤◌, ◌+◌, length};
 ghost use Rattle.plcr_loader.specs.Fields.{bytes_of, is_named, number};
 
 use plcr_base::{read_u16, read_u32, read_u64};
+
 /// A field of a structure: the place where it stands, and how many bytes it has.
 #[derive(Clone, Copy, Debug, PartialEq, Eq)]
 pub struct Field {

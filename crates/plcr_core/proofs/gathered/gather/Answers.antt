@@ -1,5 +1,5 @@
 use Rattle.std.proofs.Common.{sym, ◌∙◌, arith}
-use Rattle.plcr_core.specs.Gathering.{gains}
+use Rattle.plcr_core.specs.inner.Gathering.{gains}
 use Rattle.plcr_core.proofs.SoFar.{starts, kept, moves, breaks, ends}
 use Rattle.plcr_core.proofs.gathered.gather.Goals as goal
 

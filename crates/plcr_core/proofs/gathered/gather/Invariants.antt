@@ -1,4 +1,4 @@
-use Rattle.plcr_core.specs.Gathering.{gains}
+use Rattle.plcr_core.specs.inner.Gathering.{gains}
 use Rattle.plcr_core.proofs.SoFar.{SoFar}
 use Rattle.plcr_core.proofs.gathered.gather.Given as goal
 

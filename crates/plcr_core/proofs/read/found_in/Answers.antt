@@ -4,7 +4,7 @@ use Rattle.plcr_base.specs.Chains.{◌>>=◌}
 use Rattle.plcr_core.specs.declared.fault.CoreFault.{CoreFault}
 use Rattle.plcr_core.specs.Heads.{header_in}
 use Rattle.plcr_core.specs.Cores.{parts_in}
-use Rattle.plcr_core.specs.Gathering.{Gains, gains, gains_in, parts, parts_from}
+use Rattle.plcr_core.specs.inner.Gathering.{Gains, gains, gains_in, parts, parts_from}
 use Rattle.plcr_core.proofs.Parts.{no_header, by_header, fails_by, fails_on, gives_by}
 use Rattle.plcr_core.proofs.read.found_in.Goals as goal
 

@@ -1,7 +1,8 @@
 use Rattle.std.proofs.Common.{◌≡◌, ◌+◌, ◌*◌, ◌<◌, ◌≤◌, length, option_map, take, drop, arith, sym, ap, ◌∙◌}
 use Rattle.std.specs.Option.{option_or}
 use Rattle.std.proofs.lemmas.List.{length-drop, drop-drop}
-use Rattle.plcr_base.specs.Numbers.{u32_in}
+use Rattle.plcr_loader.specs.declared.thread_group.TheConstants.{LENGTH, FLAVOR, COUNT}
+use Rattle.plcr_loader.specs.Fields.{number}
 use Rattle.plcr_regs.specs.States.{state_in}
 use Rattle.plcr_core.proofs.GroupSteps.{accepted_past, turn, done}
 use Rattle.plcr_core.proofs.thread.accepted_state.Goals as goal
@@ -9,20 +10,20 @@ use Rattle.plcr_core.proofs.thread.accepted_state.Goals as goal
 pub returns-then-words-size : goal.returns-then-words-size
 returns-then-words-size c =
     let rest = c.loop-rest.rest.now in
-    let size = length-drop 8 rest in
+    let size = length-drop LENGTH rest in
     let words = ap length c.split_at.ensures.back in
-    let past : length rest < 8 + 4 * u32_in rest 4 = omega arith in
+    let past : length rest < LENGTH + 4 * number COUNT rest = omega arith in
     ap (option_map (option_or c.loop-rest.accepted)) (sym (accepted_past c.args.arch rest c.loop-rest-test.true past)) ∙ c.loop-rest.invariant
 
 pub loop-rest-preserved : goal.loop-rest-preserved
 loop-rest-preserved c =
     let rest = c.loop-rest.rest.now in
-    let size = length-drop 8 rest in
+    let size = length-drop LENGTH rest in
     let words = ap length c.split_at.ensures.back in
-    let long : 8 + 4 * u32_in rest 4 ≤ length rest = omega arith in
-    let after_words : c.split_at-in-loop-rest.result.1.now ≡ drop (8 + 4 * u32_in rest 4) rest =
-    c.split_at-in-loop-rest.ensures.back ∙ rw (c.split_at.ensures.back, c.read_u32.ensures) (drop-drop (4 * u32_in rest 4) 8 rest) in
-    let found : c.read_state.result ≡ state_in c.args.arch (u32_in rest 0) (take (4 * u32_in rest 4) (drop 8 rest)) =
+    let long : LENGTH + 4 * number COUNT rest ≤ length rest = omega arith in
+    let after_words : c.split_at-in-loop-rest.result.1.now ≡ drop (LENGTH + 4 * number COUNT rest) rest =
+    c.split_at-in-loop-rest.ensures.back ∙ rw (c.split_at.ensures.back, c.read_u32.ensures) (drop-drop (4 * number COUNT rest) LENGTH rest) in
+    let found : c.read_state.result ≡ state_in c.args.arch (number FLAVOR rest) (take (4 * number COUNT rest) (drop LENGTH rest)) =
     c.read_state.ensures.state ∙ rw (c.split_at-in-loop-rest.ensures.front, c.split_at.ensures.back, c.read_u32.ensures, c.read_u32-flavor.ensures) in
     turn c.args.arch c.args.groups.now rest _ c.loop-rest.accepted c.read_state.result _ c.loop-rest.invariant long found after_words c.or-accepted.ensures
 
