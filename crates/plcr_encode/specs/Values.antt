@@ -5,6 +5,7 @@ use Rattle.plcr_regs.specs.declared.arch.Arch.{Arch}
 use Rattle.plcr_regs.specs.declared.arch.Arch.TheVariants.{X86_64, Arm64}
 use Rattle.plcr_regs.specs.declared.registers.Registers.{Registers}
 use Rattle.plcr_regs.specs.Names.{register_count, register_names}
+use Rattle.plcr_regs.specs.Places.{pc_place}
 use Rattle.plcr_report.specs.declared.messages.Report.{Report}
 use Rattle.plcr_report.specs.declared.messages.System.{System}
 use Rattle.plcr_report.specs.declared.messages.Application.{Application}
@@ -24,11 +25,6 @@ use Rattle.plcr_encode.specs.Images.{images_of}
 abbrev pub architecture_number : Arch → ℕ
 architecture_number X86_64 = 1
 architecture_number Arm64 = 6
-
--- the place of the program counter, rip or pc, among the registers of a thread state
-abbrev pub pc_place : Arch → ℕ
-pc_place X86_64 = 16
-pc_place Arm64 = 32
 
 -- the value of register i of a state, in which it is known
 abbrev pub value_at : Registers → ℕ → ℕ

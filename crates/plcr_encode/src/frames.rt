@@ -3,13 +3,14 @@ ghost use Rattle.std.specs.Prelude.{◌≡◌, ◌*◌, ◌<◌, ◌≤◌, leng
 ghost use Rattle.plcr_wire.specs.Pen.{Wrote};
 ghost use Rattle.plcr_wire.specs.Message.{spelling};
 ghost use Rattle.plcr_report.specs.Messages.{frame_message};
+ghost use Rattle.plcr_regs.specs.declared.limits.TheConstants.{MOST_REGISTERS};
 ghost use Rattle.plcr_encode.specs.declared.frames.TheConstants.{MOST_FRAMES};
 ghost use Rattle.plcr_encode.specs.inner.Rows.{message_fields};
-ghost use Rattle.plcr_encode.specs.Values.{pc_place, value_at, pcs_of, frame_at};
+ghost use Rattle.plcr_encode.specs.Values.{value_at, pcs_of, frame_at};
 
 use crate::fields::{Message, put_message, put_number};
 use arrayvec::ArrayVec;
-use plcr_regs::{Arch, Registers};
+use plcr_regs::{Registers, pc_place};
 use plcr_report::{Frame, Thread};
 use plcr_wire::Ink;
 
@@ -43,21 +44,10 @@ impl Message for FramePart {
 
 /// A register's value. In the states that are written each register is known.
 pub(crate) fn value(state: &Registers, i: usize) -> u64
-    requires { i < 34 }
+    requires { i < MOST_REGISTERS }
     ensures { result ≡ value_at state.now i }
 {
     state.value[i].unwrap_or(0)
-}
-
-/// The place of the program counter among the registers.
-fn pc(arch: Arch) -> usize
-    ensures place { result ≡ pc_place arch }
-    ensures within { result < 34 }
-{
-    match arch {
-        Arch::X86_64 => 16,
-        Arch::Arm64 => 32,
-    }
 }
 
 /// The program counters of a thread's frames: today that of the one that it was stopped in.
@@ -66,7 +56,7 @@ pub(crate) fn find_frames(state: &Registers) -> ArrayVec<u64, MOST_FRAMES>
     ensures few { length (pcs_of state.now) ≤ MOST_FRAMES }
 {
     let mut pcs = ArrayVec::new();
-    pcs.push(value(state, pc(state.arch)));
+    pcs.push(value(state, pc_place(state.arch)));
     pcs
 }
 

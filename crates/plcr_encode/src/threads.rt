@@ -1,5 +1,6 @@
 //! The threads of a report, with their registers.
 ghost use Rattle.std.specs.Prelude.{◌≡◌, ◌*◌, ◌^◌, ◌<◌, ◌≤◌, length};
+ghost use Rattle.plcr_regs.specs.declared.limits.TheConstants.{MOST_REGISTERS};
 ghost use Rattle.plcr_wire.specs.Pen.{Wrote};
 ghost use Rattle.plcr_wire.specs.Message.{spelling};
 ghost use Rattle.plcr_report.specs.Messages.{register_message, thread_message};
@@ -42,7 +43,7 @@ impl Message for RegisterPart {
 /// Writes a thread's registers, in the order of its state.
 fn put_registers<W: Ink>(ink: &mut W, state: &Registers)
     ensures wrote { Wrote (W.pen ink.old) (W.pen ink.new) (spelling (message_fields 4 register_message (registers_of state.now))) }
-    ensures short { length (spelling (message_fields 4 register_message (registers_of state.now))) ≤ 66 * 34 }
+    ensures short { length (spelling (message_fields 4 register_message (registers_of state.now))) ≤ 66 * MOST_REGISTERS }
 {
     for i in 0..count(state.arch) {
         let part = RegisterPart {
