@@ -1,5 +1,5 @@
 -- A script stays within its limits with each line that is within its own.
-use Rattle.std.proofs.Common.{◌≡◌, ℕ, ◌<◌, ◌^◌, List, [], ◌∷◌, ◌++◌, length, arith}
+use Rattle.std.proofs.Common.{ℕ, ◌<◌, ◌^◌, List, length, arith}
 use Rattle.std.proofs.lemmas.List.Elements.{All-nil, All-push}
 use Rattle.plcr_regs.specs.declared.arch.Arch.{Arch}
 use Rattle.plcr_encode.specs.Conditions.{IsWritable}
@@ -8,9 +8,8 @@ use Rattle.plcr_script.specs.declared.keys.NumberKey.TheVariants.{Os, Timestamp,
 use Rattle.plcr_script.specs.declared.keys.TextKey.{TextKey}
 use Rattle.plcr_script.specs.declared.keys.TextKey.TheVariants.{OsVersion, Identifier, Version, Signal, Code, Process}
 use Rattle.plcr_script.specs.declared.statements.NumberedStatement.{NumberedStatement}
-use Rattle.plcr_script.specs.declared.values.DescriptiveValues.{DescriptiveValues}
 use Rattle.plcr_script.specs.Keys.{limit_of, with_number, with_text}
-use Rattle.plcr_script.specs.Scripts.{ScriptValue, script_value}
+use Rattle.plcr_script.specs.Scripts.{ScriptValue}
 use Rattle.plcr_script.specs.Sayings.{Saying, Sizes, Number, Words, States}
 use Rattle.plcr_script.specs.Reading.{no_lines, with_saying}
 use Rattle.plcr_script.specs.Contexts.{context_of}

@@ -1,11 +1,9 @@
 -- A script that is read is what its lines say; a refused line is the first that is.
-use Rattle.std.proofs.Common.{◌≡◌, ◌≢◌, ℕ, suc, ◌+◌, ◌<◌, Bool, true, false, List, [], ◌∷◌, ◌++◌, length, get_or, take, Option, Some, None, Result, Ok, Err, not, refl, sym, ◌∙◌, ap, subst, append_assoc, add-zero, arith}
+use Rattle.std.proofs.Common.{◌≡◌, ℕ, suc, ◌+◌, Bool, true, false, List, [], ◌∷◌, take, Some, Result, Ok, Err, not, refl, sym, ◌∙◌, subst, add-zero, arith}
 use Rattle.std.specs.Prelude.{if◌then◌else◌}
-use Rattle.std.specs.List.{filter_map, cons_option, enumerate_from, slice_get, fold}
-use Rattle.std.specs.Option.{option_map}
-use Rattle.std.specs.Result.{result_ok}
+use Rattle.std.specs.List.{slice_get}
 use Rattle.plcr_base.specs.Chains.{◌>>=◌}
-use Rattle.plcr_base.proofs.Chained.{bind_ok, bind_err}
+use Rattle.plcr_base.proofs.Chained.{bind_ok}
 use Rattle.plcr_script.specs.declared.faults.Kind.{Kind}
 use Rattle.plcr_script.specs.declared.faults.Kind.TheVariants.{OutOfPlace}
 use Rattle.plcr_script.specs.Splits.{lines}

@@ -1,6 +1,7 @@
 -- What is true of each script that is read.
-use Rattle.std.specs.Prelude.{ℕ, ◌≤◌, ◌<◌, ◌^◌, List, All, IsTrue, length}
+use Rattle.std.specs.Prelude.{ℕ, ◌≤◌, ◌<◌, ◌^◌, All, IsTrue, length}
 use Rattle.plcr_regs.specs.declared.arch.Arch.{Arch}
+use Rattle.plcr_machine.specs.declared.limits.TheConstants.{MOST_NODES, MOST_PASSES}
 use Rattle.plcr_encode.specs.Conditions.{IsWritable}
 use Rattle.plcr_script.specs.declared.statements.Statement.{Statement}
 use Rattle.plcr_script.specs.declared.statements.Statement.TheVariants.{Load, Unload, Report}
@@ -10,9 +11,9 @@ use Rattle.plcr_script.specs.Scripts.{ScriptValue}
 use Rattle.plcr_script.specs.Sayings.{Saying, Sizes, Number, Words, States, is_file_name}
 use Rattle.plcr_script.specs.Contexts.{context_of}
 
--- a list has 1 to 4096 nodes, and 1 to 1024 passes
+-- a list has a node and a pass at least, and each within its limit
 abbrev pub AreSizes : ℕ → ℕ → Type 0
-AreSizes nodes passes = (1 ≤ nodes) × (nodes ≤ 4096) × (1 ≤ passes) × (passes ≤ 1024)
+AreSizes nodes passes = (1 ≤ nodes) × (nodes ≤ MOST_NODES) × (1 ≤ passes) × (passes ≤ MOST_PASSES)
 
 -- a statement's name has fewer than 2^32 bytes, and its file has a lawful name
 abbrev pub IsFitStatement : Statement → Type 0

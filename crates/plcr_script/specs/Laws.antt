@@ -6,6 +6,7 @@ use Rattle.std.specs.Result.{result_ok}
 use Rattle.plcr_script.specs.declared.faults.Kind.{Kind}
 use Rattle.plcr_script.specs.declared.statements.NumberedStatement.{NumberedStatement}
 use Rattle.plcr_script.specs.declared.values.DescriptiveValues.{DescriptiveValues}
+use Rattle.plcr_script.specs.declared.limits.TheConstants.{DEFAULT_NODES, DEFAULT_PASSES}
 use Rattle.plcr_script.specs.Keys.{with_number, with_text}
 use Rattle.plcr_script.specs.Values.{default_values}
 use Rattle.plcr_script.specs.Refusals.{Refusal, kind_number}
@@ -47,15 +48,15 @@ is_sizes (Number key number) = false
 is_sizes (Words key text) = false
 is_sizes (States statement) = false
 
--- the sizes where this is said first: those that it names, else 1024 nodes and 16 passes
+-- the sizes where this is said first: those that it names, or else the sizes of a script that names none
 abbrev pub sizes_by : Saying → ℕ × ℕ
 sizes_by (Sizes nodes passes) = (nodes, passes)
-sizes_by (Number key number) = (1024, 16)
-sizes_by (Words key text) = (1024, 16)
-sizes_by (States statement) = (1024, 16)
+sizes_by (Number key number) = (DEFAULT_NODES, DEFAULT_PASSES)
+sizes_by (Words key text) = (DEFAULT_NODES, DEFAULT_PASSES)
+sizes_by (States statement) = (DEFAULT_NODES, DEFAULT_PASSES)
 
 abbrev pub sizes_in : List NumberedSaying → ℕ × ℕ
-sizes_in [] = (1024, 16)
+sizes_in [] = (DEFAULT_NODES, DEFAULT_PASSES)
 sizes_in (first ∷ others) = sizes_by first.saying
 
 -- a script is what its lines say, each read by itself: its statements in order, the sizes that the first saying names and no other does, and the values one after the other, so that the last of a key counts. No two statements write one file

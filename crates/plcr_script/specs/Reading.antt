@@ -11,6 +11,7 @@ use Rattle.plcr_script.specs.declared.statements.Statement.{Statement}
 use Rattle.plcr_script.specs.declared.statements.Statement.TheVariants.{Load, Unload, Report}
 use Rattle.plcr_script.specs.declared.statements.NumberedStatement.{NumberedStatement}
 use Rattle.plcr_script.specs.declared.values.DescriptiveValues.{DescriptiveValues}
+use Rattle.plcr_script.specs.declared.limits.TheConstants.{DEFAULT_NODES, DEFAULT_PASSES}
 use Rattle.plcr_script.specs.Splits.{lines}
 use Rattle.plcr_script.specs.Keys.{with_number, with_text}
 use Rattle.plcr_script.specs.Values.{default_values}
@@ -45,9 +46,9 @@ pub record DraftValue : Type 0 where
 abbrev pub draft_value : List NumberedStatement → ℕ → ℕ → DescriptiveValues → Bool → DraftValue
 draft_value statements nodes passes values begun = record { script = script_value statements nodes passes values; begun = begun }
 
--- the script of no lines: 1024 nodes, 16 passes and the default values
+-- the script of no lines, with the default sizes and values
 abbrev pub no_lines : DraftValue
-no_lines = draft_value [] 1024 16 default_values false
+no_lines = draft_value [] DEFAULT_NODES DEFAULT_PASSES default_values false
 
 -- whether this may not be said behind the lines so far: sizes behind anything, a value behind a statement of the run, a report into a file that an earlier one writes
 abbrev pub is_out_of_place : DraftValue → Saying → Bool

@@ -1,6 +1,8 @@
 -- What running a script comes to, statement by statement.
 use Rattle.std.specs.Prelude.{ℕ, ◌*◌, ◌^◌, Bool, List, [], ◌∷◌, ◌++◌, Option, Some, None, ◌==◌, length, nat_le, nat_lt, map, flat_map, if◌then◌else◌}
 use Rattle.std.specs.Option.{option_map}
+use Rattle.plcr_base.specs.declared.limits.TheConstants.{IMAGE_NAME_BYTES}
+use Rattle.plcr_machine.specs.declared.limits.TheConstants.{MOST_CHANGES}
 use Rattle.plcr_macho.specs.Images.{Listed}
 use Rattle.plcr_script.specs.declared.statements.Statement.{Statement}
 use Rattle.plcr_script.specs.declared.statements.Statement.TheVariants.{Load, Unload, Report}
@@ -42,13 +44,9 @@ first_refusal (Some refusal ∷ others) done = only refusal
 abbrev pub where_so : Bool → Outcome → Option Outcome
 where_so holds refusal = if holds then Some refusal else None
 
--- no more changes than this can be made and numbered
-abbrev pub most_changes : ℕ
-most_changes = 4294967295
-
--- a table that has this many changes behind it takes no more
+-- a table that has the most changes behind it takes no more
 abbrev pub worn : List Change → Option Outcome
-worn changes = where_so (nat_le most_changes (length changes)) (outcomes.Worn (length changes))
+worn changes = where_so (nat_le MOST_CHANGES (length changes)) (outcomes.Worn (length changes))
 
 -- a list that has an image on each of its nodes; nothing is held back, and each change was counted
 abbrev pub full : ℕ → List Change → Option Outcome
@@ -60,7 +58,7 @@ load_turn fault nodes changes image =
     first_refusal
     (option_map outcomes.NotImage fault
     ∷ worn changes
-    ∷ where_so (nat_lt 1024 (length image.name)) (outcomes.Long (length image.name))
+    ∷ where_so (nat_lt IMAGE_NAME_BYTES (length image.name)) (outcomes.Long (length image.name))
     ∷ full nodes changes
     ∷ [])
     (record { outcome = outcomes.Loaded (next_load changes); changes = Loads (next_load changes) image ∷ []; kept = [] })

@@ -1,9 +1,10 @@
 -- What a line of a script says by itself, or the first that is wrong with it.
-use Rattle.std.specs.Prelude.{ℕ, ◌+◌, ◌^◌, ◌<◌, Bool, true, List, [], ◌∷◌, Option, Some, None, Result, Ok, Err, ◌&&◌, ◌==◌, length, nat_lt, nat_le, unwrap_or, if◌then◌else◌, codes}
+use Rattle.std.specs.Prelude.{ℕ, ◌+◌, ◌^◌, Bool, true, List, [], ◌∷◌, Option, Some, None, Result, Ok, Err, ◌&&◌, ◌==◌, length, nat_lt, nat_le, unwrap_or, if◌then◌else◌, codes}
 use Rattle.std.specs.List.{list_all}
 use Rattle.std.specs.Str.{bytes_eq}
 use Rattle.plcr_base.specs.Chains.{◌>>=◌}
 use Rattle.plcr_io.specs.declared.limits.TheConstants.{FILE_NAME_BYTES}
+use Rattle.plcr_machine.specs.declared.limits.TheConstants.{MOST_NODES, MOST_PASSES}
 use Rattle.plcr_script.specs.declared.faults.Kind.{Kind}
 use Rattle.plcr_script.specs.declared.faults.Kind.TheVariants.{BadWord, BadNumber, TooFew, TooMany, NoSuchPass}
 use Rattle.plcr_script.specs.declared.keys.NumberKey.{NumberKey}
@@ -48,8 +49,8 @@ unfoldable pub table_in : List (List ℕ) → Result Saying Kind
 table_in [] = Err TooFew
 table_in (nodes ∷ []) = Err TooFew
 table_in (nodes ∷ passes ∷ []) = do
-  most_nodes ← number_to 4096 nodes
-  most_passes ← number_to 1024 passes
+  most_nodes ← number_to MOST_NODES nodes
+  most_passes ← number_to MOST_PASSES passes
   Ok (Sizes most_nodes most_passes)
 table_in (nodes ∷ passes ∷ more ∷ others) = Err TooMany
 

@@ -1,9 +1,10 @@
 -- Runs worked out by hand.
-use Rattle.std.specs.Prelude.{◌≡◌, ℕ, List, [], ◌∷◌, Option, Some, None, Ok, ◌==◌, length, codes, replicate, if◌then◌else◌}
+use Rattle.std.specs.Prelude.{◌≡◌, ℕ, List, [], ◌∷◌, Some, None, Ok, ◌==◌, codes, replicate, if◌then◌else◌}
 use Rattle.plcr_macho.specs.Images.{Listed}
 use Rattle.plcr_script.specs.declared.statements.Statement.{Statement}
 use Rattle.plcr_script.specs.declared.statements.Statement.TheVariants.{Load, Unload, Report}
 use Rattle.plcr_script.specs.declared.statements.NumberedStatement.{NumberedStatement}
+use Rattle.plcr_script.specs.declared.limits.TheConstants.{DEFAULT_NODES, DEFAULT_PASSES}
 use Rattle.plcr_script.specs.Values.{default_values}
 use Rattle.plcr_script.specs.Scripts.{ScriptValue, script_value}
 use Rattle.plcr_script.specs.Reading.{script_in}
@@ -35,7 +36,7 @@ two_of_a_header = script_value
     ∷ numbered 5 (Unload 0x100000000)
     ∷ numbered 6 (Unload 0x100000000)
     ∷ [])
-    1024 16 default_values
+    DEFAULT_NODES DEFAULT_PASSES default_values
 
 -- a list of one node
 abbrev pub one_node : ScriptValue
@@ -54,7 +55,7 @@ no_images = script_value
     ∷ numbered 2 (Load 0x7000 (codes "x"))
     ∷ numbered 3 (Load 0x100000000 (replicate 1025 120))
     ∷ [])
-    1024 16 default_values
+    DEFAULT_NODES DEFAULT_PASSES default_values
 
 -- what the lines of the first two scripts say
 pub record WorkedScripts : Type 0 where

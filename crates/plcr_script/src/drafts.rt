@@ -1,18 +1,13 @@
 //! A script as far as it is read.
 ghost use Rattle.std.specs.Prelude.{◌≡◌, IfOk, OnOk};
 
+use crate::limits::{DEFAULT_NODES, DEFAULT_PASSES};
 use crate::scripts::Script;
-use crate::statements::{NumberedStatement, Statement, Text};
+use crate::statements::{NumberedStatement, Statement, text_of};
 use crate::values::DescriptiveValues;
 use crate::wording::Wording;
 use std::alloc::{AllocError, Global};
 use std::marker::Model;
-
-/// The nodes of the image list where a script names no sizes.
-const NODES: u32 = 1024;
-
-/// The passes where a script names no sizes.
-const PASSES: u32 = 16;
 
 /// A script as far as it is read, and whether a line has said anything.
 #[derive(Drop)]
@@ -45,8 +40,8 @@ impl Draft {
     {
         Ok(Draft {
             statements: Vec::new(alloc),
-            nodes: NODES,
-            passes: PASSES,
+            nodes: DEFAULT_NODES,
+            passes: DEFAULT_PASSES,
             values: DescriptiveValues::defaults(alloc)?,
             begun: false,
         })
@@ -91,12 +86,12 @@ impl Draft {
             Wording::Number { key, number } => self.values.set_number(key, number),
             Wording::Words { key, text } => self.values.set_text(alloc, key, text)?,
             Wording::Load { header, name } => {
-                let name = Text::new(alloc, name)?;
+                let name = text_of(alloc, name)?;
                 self.state(line, Statement::Load { header, name })?;
             }
             Wording::Unload { header } => self.state(line, Statement::Unload { header })?,
             Wording::Report { pass, file } => {
-                let file = Text::new(alloc, file)?;
+                let file = text_of(alloc, file)?;
                 self.state(line, Statement::Report { pass, file })?;
             }
         }

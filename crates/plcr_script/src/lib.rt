@@ -5,6 +5,7 @@ mod drafts;
 mod faults;
 mod keys;
 mod laws;
+mod limits;
 mod numerals;
 mod outcomes;
 mod process;
@@ -20,6 +21,7 @@ mod worked;
 
 pub use faults::ScriptFault;
 pub use laws::scripts_are_read_line_by_line;
+pub use limits::{DEFAULT_NODES, DEFAULT_PASSES};
 pub use outcomes::{Outcome, write_outcome};
 pub use plcr_io::{add_bytes, add_decimal, put_parts};
 pub use process::Process;

@@ -1,19 +1,24 @@
 //! What a statement came to, and its line in the log.
-ghost use Rattle.std.specs.Prelude.{◌≡◌, ◌≤◌, ◌+◌, ◌++◌, length, codes, decimal, OnOk, OnErr};
+ghost use Rattle.std.specs.Prelude.{◌≡◌, ◌≤◌, ◌+◌, ◌*◌, ◌++◌, length, OnOk, OnErr};
 ghost use Rattle.std.specs.Io.KnownBytes.{append_known};
 ghost use Rattle.arrayvec.specs.ArrayVec.{array_vec_len};
 ghost use Rattle.plcr_base.specs.Causes.{Rose};
 ghost use Rattle.plcr_base.specs.Told.{AppendsProperFront};
-ghost use Rattle.plcr_script.specs.Log.{log_line, numbers, place_text};
+ghost use Rattle.plcr_script.specs.declared.outcomes.TheConstants.{WORD_BYTES, NUMBERS, PART_ROOM};
+ghost use Rattle.plcr_script.specs.Log.{log_line, numbers, place_text, outcome_text};
 
 use arrayvec::ArrayVec;
 use plcr_io::{PutFailed, Sink, add_bytes, add_decimal, put_parts};
 
-/// Room for the numbers of a script and a line, and the word behind them.
-const HEAD_ROOM: usize = 64;
+/// The most bytes of an outcome's word, with the spaces around it.
+const WORD_BYTES: usize = 16;
 
-/// Room for four numbers and a newline.
-const TAIL_ROOM: usize = 96;
+/// The most numbers of an outcome.
+const NUMBERS: usize = 4;
+
+/// Room for what stands before a file, and for what stands behind it: the numbers of a script and a line with a
+/// word, and the numbers of an outcome with a newline, where each number has 20 digits at most.
+const PART_ROOM: usize = 96;
 
 /// What a statement came to.
 #[derive(Clone, Copy)]
@@ -79,26 +84,40 @@ pub fn write_outcome<K: Sink>(
     ensures later { K.faults sink.old ≤ K.faults sink.new }
     ensures mark { K.mark sink.new ≡ K.mark sink.old }
 {
+    let words = words_of(outcome);
+    let mut head = ArrayVec::new();
+    add_place(&mut head, script, line);
+    add_bytes(&mut head, words.word);
+    let mut tail = ArrayVec::new();
+    add_numbers(&mut tail, words.numbers.as_slice());
+    add_bytes(&mut tail, b"\n");
+    put_parts(sink, head.as_slice(), words.file, tail.as_slice())
+}
+
+/// What stands behind the place of a line: the word of its outcome, a file, and numbers.
+#[derive(Drop)]
+struct OutcomeWords<'a> {
+    word: &'a [u8],
+    file: &'a [u8],
+    numbers: ArrayVec<u64, NUMBERS>,
+}
+
+/// The words of an outcome.
+fn words_of<'a>(outcome: &Outcome<'a>) -> OutcomeWords<'a>
+    ensures text { result.word.now ++ result.file.now ++ numbers result.numbers.items ≡ outcome_text outcome.now }
+    ensures short { length result.word.now ≤ WORD_BYTES }
+{
     match *outcome {
-        Outcome::Busy => write_line(script, line, b" busy", b"", &[], sink),
-        Outcome::NotImage { kind } => {
-            write_line(script, line, b" notimage", b"", &[u64::from(kind)], sink)
-        }
-        Outcome::Worn { changes } => {
-            write_line(script, line, b" worn", b"", &[u64::from(changes)], sink)
-        }
-        Outcome::Long { len } => write_line(script, line, b" long", b"", &[len as u64], sink),
+        Outcome::Busy => words(b" busy", b"", &[]),
+        Outcome::NotImage { kind } => words(b" notimage", b"", &[u64::from(kind)]),
+        Outcome::Worn { changes } => words(b" worn", b"", &[u64::from(changes)]),
+        Outcome::Long { len } => words(b" long", b"", &[len as u64]),
         Outcome::Full { live, held, seen } => {
-            let counts = [u64::from(live), u64::from(held), seen];
-            write_line(script, line, b" full", b"", &counts, sink)
+            words(b" full", b"", &[u64::from(live), u64::from(held), seen])
         }
-        Outcome::NotLoaded => write_line(script, line, b" notloaded", b"", &[], sink),
-        Outcome::Loaded { load } => {
-            write_line(script, line, b" load", b"", &[u64::from(load)], sink)
-        }
-        Outcome::Unloaded { load } => {
-            write_line(script, line, b" unload", b"", &[u64::from(load)], sink)
-        }
+        Outcome::NotLoaded => words(b" notloaded", b"", &[]),
+        Outcome::Loaded { load } => words(b" load", b"", &[u64::from(load)]),
+        Outcome::Unloaded { load } => words(b" unload", b"", &[u64::from(load)]),
         Outcome::Reported {
             file,
             bytes,
@@ -107,52 +126,44 @@ pub fn write_outcome<K: Sink>(
             high,
         } => {
             let counts = [bytes, u64::from(images), u64::from(low), u64::from(high)];
-            write_line(script, line, b" report ", file, &counts, sink)
+            words(b" report ", file, &counts)
         }
     }
 }
 
-/// Writes the line of an outcome: its word, a file behind it, and numbers behind both.
-fn write_line<K: Sink>(
-    script: Option<u32>,
-    line: u32,
-    word: &[u8],
-    file: &[u8],
-    counts: &[u64],
-    sink: &mut K,
-) -> Result<(), PutFailed>
-    requires word { length word.now ≤ 16 }
-    requires few { length counts.now ≤ 4 }
-    ensures ok { OnOk result (K.written sink.new ≡ append_known (K.written sink.old) (place_text script line ++ (word.now ++ file.now ++ numbers counts.now) ++ codes "\n")) }
-    ensures err { OnErr result (AppendsProperFront (K.written sink.old) (K.written sink.new) (place_text script line ++ (word.now ++ file.now ++ numbers counts.now) ++ codes "\n")) }
-    ensures cause { OnErr result (Rose (K.faults sink.old) (K.faults sink.new)) }
-    ensures later { K.faults sink.old ≤ K.faults sink.new }
-    ensures mark { K.mark sink.new ≡ K.mark sink.old }
+/// A word, a file behind it, and numbers behind both.
+fn words<'a>(word: &'a [u8], file: &'a [u8], counts: &[u64]) -> OutcomeWords<'a>
+    requires few { length counts.now ≤ NUMBERS }
+    ensures word { result.word.now ≡ word.now }
+    ensures file { result.file.now ≡ file.now }
+    ensures numbers { result.numbers.items ≡ counts.now }
 {
-    let mut head = ArrayVec::new();
-    add_place(&mut head, script, line);
-    add_bytes(&mut head, word);
-    let mut tail = ArrayVec::new();
-    add_numbers(&mut tail, counts);
-    add_bytes(&mut tail, b"\n");
-    put_parts(sink, head.as_slice(), file, tail.as_slice())
+    let mut numbers = ArrayVec::new();
+    match numbers.try_extend_from_slice(counts) {
+        Ok(()) => OutcomeWords {
+            word,
+            file,
+            numbers,
+        },
+        Err(_) => unreachable!(),
+    }
 }
 
 /// Adds numbers, each behind a space.
-fn add_numbers(text: &mut ArrayVec<u8, TAIL_ROOM>, counts: &[u64])
-    requires room { array_vec_len text.old + 84 ≤ 96 }
-    requires few { length counts.now ≤ 4 }
+fn add_numbers(text: &mut ArrayVec<u8, PART_ROOM>, counts: &[u64])
+    requires { array_vec_len text.old + 21 * length counts.now ≤ PART_ROOM }
     ensures items { text.new.items ≡ text.old.items ++ numbers counts.now }
-    ensures len { array_vec_len text.new ≤ array_vec_len text.old + 84 }
+    ensures len { array_vec_len text.new ≤ array_vec_len text.old + 21 * length counts.now }
 {
     for count in counts {
-        add_number(text, *count);
+        add_bytes(text, b" ");
+        add_decimal(text, *count);
     }
 }
 
 /// Adds the numbers of the script and the line.
-fn add_place(text: &mut ArrayVec<u8, HEAD_ROOM>, script: Option<u32>, line: u32)
-    requires { array_vec_len text.old + 41 ≤ 64 }
+fn add_place(text: &mut ArrayVec<u8, PART_ROOM>, script: Option<u32>, line: u32)
+    requires { array_vec_len text.old + 41 ≤ PART_ROOM }
     ensures items { text.new.items ≡ text.old.items ++ place_text script line }
     ensures len { array_vec_len text.new ≤ array_vec_len text.old + 41 }
 {
@@ -161,14 +172,4 @@ fn add_place(text: &mut ArrayVec<u8, HEAD_ROOM>, script: Option<u32>, line: u32)
         add_bytes(text, b":");
     }
     add_decimal(text, u64::from(line));
-}
-
-/// Adds a number behind a space.
-fn add_number(text: &mut ArrayVec<u8, TAIL_ROOM>, number: u64)
-    requires { array_vec_len text.old + 21 ≤ 96 }
-    ensures items { text.new.items ≡ text.old.items ++ codes " " ++ decimal number }
-    ensures len { array_vec_len text.new ≤ array_vec_len text.old + 21 }
-{
-    add_bytes(text, b" ");
-    add_decimal(text, number);
 }

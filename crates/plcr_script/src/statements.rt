@@ -1,45 +1,17 @@
 //! The statements of a script.
-ghost use Rattle.std.specs.Prelude.{◌≡◌, ℕ, List, IfOk};
+ghost use Rattle.std.specs.Prelude.{◌≡◌, IfOk};
 
+use plcr_base::Bytes;
 use std::alloc::{AllocError, Global};
-use std::marker::Model;
 
-/// A text of a script, which takes the room of its bytes.
-#[derive(Drop)]
-pub struct Text {
-    bytes: Vec<u8>,
-}
+/// A text of a script.
+pub type Text = Bytes;
 
-impl Model for Text {
-    ghost Value = { List ℕ };
-
-    ghost view = { λ t. t.bytes.items };
-}
-
-impl Text {
-    /// The text with these bytes.
-    pub fn new(alloc: Global, bytes: &[u8]) -> Result<Text, AllocError>
-        ensures { IfOk result (λ text. text ≡ bytes.now) }
-    {
-        Ok(Text {
-            bytes: Vec::from_slice(alloc, bytes)?,
-        })
-    }
-
-    /// The bytes.
-    pub fn as_slice(&self) -> &[u8]
-        ensures { result.now ≡ self.now }
-    {
-        self.bytes.as_slice()
-    }
-
-    /// The bytes, given back.
-    pub fn into_vec(self) -> Vec<u8>
-        ensures { result.items ≡ self }
-    {
-        let Text { bytes } = self;
-        bytes
-    }
+/// The text with these bytes, which takes the room for them.
+pub(crate) fn text_of(alloc: Global, bytes: &[u8]) -> Result<Text, AllocError>
+    ensures { IfOk result (λ text. text ≡ bytes.now) }
+{
+    Ok(Bytes::new(Vec::from_slice(alloc, bytes)?))
 }
 
 /// One statement of a script.

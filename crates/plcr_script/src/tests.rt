@@ -166,14 +166,6 @@ fn a_file_has_up_to_255_bytes(rt: HostRuntime) -> Result<(), Fail> {
 }
 
 #[test]
-fn a_text_gives_back_its_bytes(rt: HostRuntime) -> Result<(), Fail> {
-    let text = Text::new(rt.alloc(), b"a.plcrash")?;
-    assert_eq!(rt; text.as_slice(), b"a.plcrash".as_slice());
-    assert_eq!(rt; text.into_vec().as_slice(), b"a.plcrash".as_slice());
-    Ok(())
-}
-
-#[test]
 fn a_script_tells_its_statements_and_values(rt: HostRuntime) -> Result<(), Fail> {
     let text = b"# run\nreport 0 a.plcrash\n\nreport 0x3 b";
     let script = read_script(rt.alloc(), text, Mode::Single, &[])?;
@@ -292,6 +284,27 @@ fn a_line_of_the_log_is_written_whole_or_in_front(rt: HostRuntime) -> Result<(),
     assert_eq!(rt;
         out.bytes(),
         b"1 report a.plcrash 271 0 0 0\n2:30 report t 18446744073709551615 ".as_slice()
+    );
+    Ok(())
+}
+
+// The longest line of a script's report. A second put fails.
+#[test]
+fn a_line_of_the_log_is_one_put(rt: HostRuntime) -> Result<(), Fail> {
+    let mut out = MemOut::new(rt.alloc(), 1024, 1024, vec![in rt.alloc(); 2]?)?;
+    let most = 4_294_967_295;
+    let longest = Outcome::Reported {
+        file: &[b'f'; 255],
+        bytes: 18_446_744_073_709_551_615,
+        images: most,
+        low: most,
+        high: most,
+    };
+    assert_eq!(rt; write_outcome(Some(most), most, &longest, &mut out), Ok(()));
+    assert_eq!(rt; out.bytes().len(), 339);
+    assert_eq!(rt;
+        write_outcome(None, 1, &Outcome::Busy, &mut out),
+        Err(PutFailed)
     );
     Ok(())
 }

@@ -2,7 +2,7 @@
 ghost use Rattle.std.specs.Prelude.{◌≡◌, ◌<◌, IfOk, OnOk};
 
 use crate::keys::{NumberKey, TextKey};
-use crate::statements::Text;
+use crate::statements::{Text, text_of};
 use std::alloc::{AllocError, Global};
 
 /// What reports say of the system and the process beside what the core holds.
@@ -33,14 +33,14 @@ impl DescriptiveValues {
     {
         Ok(DescriptiveValues {
             os: 0,
-            os_version: Text::new(alloc, b"0")?,
+            os_version: text_of(alloc, b"0")?,
             timestamp: 0,
-            identifier: Text::new(alloc, b"app")?,
-            version: Text::new(alloc, b"1")?,
-            signal: Text::new(alloc, b"SIGABRT")?,
-            code: Text::new(alloc, b"#0")?,
+            identifier: text_of(alloc, b"app")?,
+            version: text_of(alloc, b"1")?,
+            signal: text_of(alloc, b"SIGABRT")?,
+            code: text_of(alloc, b"#0")?,
             address: 0,
-            process: Text::new(alloc, b"app")?,
+            process: text_of(alloc, b"app")?,
             pid: 0,
             ppid: 0,
             crashed: 0,
@@ -73,7 +73,7 @@ impl DescriptiveValues {
     ) -> Result<(), AllocError>
         ensures { OnOk result (self.new ≡ with_text key text.now self.old) }
     {
-        let text = Text::new(alloc, text)?;
+        let text = text_of(alloc, text)?;
         match key {
             TextKey::OsVersion => self.os_version = text,
             TextKey::Identifier => self.identifier = text,

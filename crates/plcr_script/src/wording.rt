@@ -14,12 +14,7 @@ use crate::keys::{NumberKey, TextKey, limit_of, number_key, text_key};
 use crate::numerals::{long_number, number_below, small_number};
 use crate::splitting::first_word;
 use plcr_io::FILE_NAME_BYTES;
-
-/// The most nodes of an image list.
-const MOST_NODES: u32 = 4096;
-
-/// The most passes over an image list.
-const MOST_PASSES: u32 = 1024;
+use plcr_machine::{MOST_NODES, MOST_PASSES};
 
 /// What a line says, as it is written.
 #[derive(Clone, Copy)]
