@@ -87,7 +87,7 @@ impl MemDesk {
 impl Desk for MemDesk {
     ghost use Rattle.plcr_io.specs.Desk.{Takes, Makes, Keeps, Abandons, HasOpen};
     ghost use Rattle.plcr_io.specs.MemDesk.{contents, tells, TakesFile, MakesOutput, KeepsOutput, AbandonsOutput};
-    ghost use Rattle.plcr_io.specs.Inner.Balance.{balanced};
+    ghost use Rattle.plcr_io.specs.inner.Balance.{balanced};
 
     type Out = MemOut;
 

@@ -1,6 +1,6 @@
 use Rattle.std.proofs.Common.{◌≡◌, ℕ, zero, suc, ◌-◌, ◌^◌, List, Option, None, Result, Ok, Err, refl, arith}
 use Rattle.std.specs.declared.io.Error.{Error}
-use Rattle.plcr_io.specs.Inner.Tries.{Interrupts, IsInterrupted, taken_by, Tries}
+use Rattle.plcr_io.specs.inner.Tries.{Interrupts, IsInterrupted, taken_by, Tries}
 use Rattle.plcr_io.proofs.host_out.write_some.Goals as goal
 
 none_taken : (answer : Result ℕ Error) → IsInterrupted answer → None ≡ taken_by answer

@@ -1,4 +1,4 @@
-use Rattle.plcr_io.specs.Inner.Tries.{Interrupts}
+use Rattle.plcr_io.specs.inner.Tries.{Interrupts}
 use Rattle.plcr_io.proofs.host_out.write_some.Given as goal
 
 abbrev pub invariant-loop : goal.invariant-loop
