@@ -138,8 +138,8 @@ def standard_output(things, report, _):
 
 def size_limits(things, report, text):
     """A limit on the size of files, from nothing to a byte less than the report."""
-    rooms = [0, 1, 255, 256, 257, 16383, 16384, 16385, *range(4093, len(report), 4093), len(report) - 1]
-    rooms = [room for room in rooms if room < len(report)]
+    near = [size + more for size in [1, 256, 4096, 16384] for more in [-1, 0, 1]]
+    rooms = [room for room in [*near, *range(5003, len(report), 5003), len(report) - 1] if room < len(report)]
     ended = -signal.SIGXFSZ
     for way in WAYS:
         dies = way.command == [PROGRAM] and not way.ignores
