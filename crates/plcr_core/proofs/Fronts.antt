@@ -4,10 +4,10 @@ use Rattle.std.specs.Option.{option_to_list}
 use Rattle.std.proofs.lemmas.List.Elements.{filter_map-append}
 use Rattle.std.specs.List.{cons_option}
 use Rattle.plcr_base.specs.Chains.{◌>>=◌}
+use Rattle.plcr_memory.specs.declared.region.Region.{Region}
 use Rattle.plcr_loader.specs.Commands.{Bytes, Command, Test, command_at, commands_at}
 use Rattle.plcr_loader.specs.declared.trouble.Trouble.{Trouble}
 use Rattle.plcr_loader.specs.declared.trouble.Trouble.TheVariants.{Bad, Absent}
-use Rattle.plcr_memory.specs.declared.region.Region.{Region}
 use Rattle.plcr_regs.specs.declared.arch.Arch.{Arch}
 use Rattle.plcr_regs.specs.declared.registers.Registers.{Registers}
 use Rattle.plcr_core.specs.declared.fault.CoreFault.{CoreFault}

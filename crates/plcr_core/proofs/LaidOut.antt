@@ -5,6 +5,9 @@ use Rattle.std.proofs.lemmas.Bool.{ltb-true, ltb-false}
 use Rattle.std.proofs.lemmas.Bool.Decides.{nat_tests}
 use Rattle.plcr_base.proofs.Chained.{bind_ok, bind_err, if_ok}
 use Rattle.plcr_base.specs.Chains.{◌>>=◌}
+use Rattle.plcr_memory.specs.declared.region.Region.{Region}
+use Rattle.plcr_memory.specs.Regions.{Contents, Ends, AreApart}
+use Rattle.plcr_memory.specs.Faults.{IsFirstWrap, IsFirstOverlap}
 use Rattle.plcr_loader.specs.declared.constants.TheConstants.{MH_CORE, MH_MAGIC_64}
 use Rattle.plcr_loader.specs.declared.mach_header_64.TheConstants.{LENGTH, MAGIC, CPUTYPE, FILETYPE, NCMDS, SIZEOFCMDS}
 use Rattle.plcr_loader.specs.declared.trouble.Trouble.{Trouble}
@@ -14,9 +17,6 @@ use Rattle.plcr_loader.specs.Sources.{file_bytes}
 use Rattle.plcr_loader.proofs.Files.{files_are_plain}
 use Rattle.plcr_loader.proofs.Lists.{lists_lie, lists_again, lists_stop}
 use Rattle.plcr_loader.proofs.Results.{faulted_ok, faulted_err}
-use Rattle.plcr_memory.specs.declared.region.Region.{Region}
-use Rattle.plcr_memory.specs.Regions.{Contents, Ends, AreApart}
-use Rattle.plcr_memory.specs.Faults.{IsFirstWrap, IsFirstOverlap}
 use Rattle.plcr_regs.specs.declared.arch.Arch.{Arch}
 use Rattle.plcr_regs.specs.declared.registers.Registers.{Registers}
 use Rattle.plcr_core.specs.declared.fault.CoreFault.{CoreFault}

@@ -4,12 +4,13 @@ use Rattle.std.specs.Option.{option_to_list}
 use Rattle.std.proofs.lemmas.List.Elements.{All-nil, All-same}
 use Rattle.std.proofs.Math.Nat.{sub-zero}
 use Rattle.plcr_base.specs.Chains.{◌>>=◌, result_map}
+use Rattle.plcr_memory.specs.declared.region.Region.{Region}
+use Rattle.plcr_memory.specs.Regions.{IsBacked}
 use Rattle.plcr_loader.specs.Commands.{Command, command_at, commands_at, faulted}
 use Rattle.plcr_loader.specs.Sources.{file_bytes}
 use Rattle.plcr_loader.specs.declared.mach_header_64.TheConstants.{LENGTH}
 use Rattle.plcr_loader.specs.declared.trouble.Trouble.{Trouble}
-use Rattle.plcr_memory.specs.declared.region.Region.{Region}
-use Rattle.plcr_memory.specs.Regions.{IsBacked}
+use Rattle.plcr_loader.proofs.Results.{map_ok, map_err}
 use Rattle.plcr_core.specs.declared.header.Header.{Header}
 use Rattle.plcr_core.specs.declared.gain.Gain.{Gain}
 use Rattle.plcr_core.specs.declared.fault.CoreFault.{CoreFault}
@@ -18,7 +19,6 @@ use Rattle.plcr_core.specs.declared.limits.TheConstants.{MOST_THREADS}
 use Rattle.plcr_core.specs.inner.Gathering.{Fails, Gains, gain_of, gains_in, gains_of, with_gain}
 use Rattle.plcr_core.proofs.Fronts.{after, after_none, goes_on, stops, is_done, gains_more, fails_at}
 use Rattle.plcr_core.proofs.Kept.{All-option, length-option, kept_few}
-use Rattle.plcr_loader.proofs.Results.{map_ok, map_err}
 
 -- the command at an index and a place
 abbrev pub here : List ℕ → Header → ℕ → ℕ → Result Command Trouble

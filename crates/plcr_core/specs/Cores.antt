@@ -1,12 +1,12 @@
 -- A core file: its header, its load commands, and the regions and thread states that these give (loader.h).
 use Rattle.std.specs.Prelude.{◌≤◌, ℕ, ◌==◌, nat_lt, if◌then◌else◌, List, All, length, filter_map, Option, None, Result, Ok, Err}
+use Rattle.plcr_base.specs.Chains.{◌>>=◌}
+use Rattle.plcr_memory.specs.declared.region.Region.{Region}
 use Rattle.plcr_loader.specs.declared.trouble.Trouble.{Trouble}
 use Rattle.plcr_loader.specs.declared.trouble.Trouble.TheVariants.{Bad, Absent}
-use Rattle.plcr_base.specs.Chains.{◌>>=◌}
 use Rattle.plcr_loader.specs.Commands.{Command, commands_at, faulted, is_segment, is_thread}
 use Rattle.plcr_loader.specs.Sources.{file_bytes}
 use Rattle.plcr_loader.specs.declared.mach_header_64.TheConstants.{LENGTH}
-use Rattle.plcr_memory.specs.declared.region.Region.{Region}
 use Rattle.plcr_regs.specs.declared.arch.Arch.{Arch}
 use Rattle.plcr_regs.specs.declared.registers.Registers.{Registers}
 use Rattle.plcr_regs.specs.States.{IsWhole}

@@ -1,14 +1,14 @@
 -- What a core is, above the reading of its bytes: a header, the load commands that lie one after the other behind it, and what these give.
 use Rattle.std.specs.Prelude.{◌≡◌, ◌≤◌, ◌<◌, ◌+◌, ◌⊎◌, ℕ, List, [], length, filter_map, All, Some, None}
+use Rattle.plcr_memory.specs.declared.region.Region.{Region}
+use Rattle.plcr_memory.specs.Regions.{Ends, AreApart}
+use Rattle.plcr_memory.specs.Faults.{IsFirstWrap, IsFirstOverlap}
 use Rattle.plcr_loader.specs.declared.constants.TheConstants.{MH_CORE, MH_MAGIC_64}
 use Rattle.plcr_loader.specs.declared.mach_header_64.TheConstants.{LENGTH, MAGIC, CPUTYPE, FILETYPE, NCMDS, SIZEOFCMDS}
 use Rattle.plcr_loader.specs.declared.trouble.Trouble.{Trouble}
 use Rattle.plcr_loader.specs.Fields.{number}
 use Rattle.plcr_loader.specs.Commands.{Command, AreLaid, IsFirstTrouble}
 use Rattle.plcr_loader.specs.Sources.{file_bytes}
-use Rattle.plcr_memory.specs.declared.region.Region.{Region}
-use Rattle.plcr_memory.specs.Regions.{Ends, AreApart}
-use Rattle.plcr_memory.specs.Faults.{IsFirstWrap, IsFirstOverlap}
 use Rattle.plcr_regs.specs.declared.registers.Registers.{Registers}
 use Rattle.plcr_core.specs.declared.fault.CoreFault.{CoreFault}
 use Rattle.plcr_core.specs.declared.fault.CoreFault.TheVariants as faults

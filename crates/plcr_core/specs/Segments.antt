@@ -1,10 +1,10 @@
 -- A segment of a core file, an LC_SEGMENT_64 (loader.h): addresses of the process, and the bytes of the file behind them.
 use Rattle.std.specs.Prelude.{ℕ, ◌+◌, min, ◌==◌, nat_lt, ◌&&◌, if◌then◌else◌, List, length, Option, Some, None}
+use Rattle.plcr_memory.specs.declared.region.Region.{Region}
 use Rattle.plcr_loader.specs.declared.segment_command_64.TheConstants.{LENGTH, VMADDR, VMSIZE, FILEOFF, FILESIZE}
 use Rattle.plcr_loader.specs.declared.trouble.Trouble.{Trouble}
 use Rattle.plcr_loader.specs.declared.trouble.Trouble.TheVariants.{Bad, Absent}
 use Rattle.plcr_loader.specs.Fields.{number}
-use Rattle.plcr_memory.specs.declared.region.Region.{Region}
 
 -- what is wrong with a segment command in a file of this length: it is too short, or its bytes pass the file's end
 unfoldable pub segment_trouble : ℕ → ℕ → List ℕ → Option Trouble

@@ -1,11 +1,16 @@
 -- What is kept of one command more.
 use Rattle.std.proofs.Common.{◌≡◌, ℕ, Bool, true, false, cond, is_some, ◌&&◌, List, [], ◌∷◌, Option, Some, None, Result, Ok, Err, refl, sym, ap}
-use Rattle.std.specs.Prelude.{codes, not}
+use Rattle.std.specs.Prelude.{not}
 use Rattle.std.specs.Option.{option_map, option_or}
 use Rattle.std.specs.List.{find}
 use Rattle.plcr_base.specs.Chains.{passed, result_map}
-use Rattle.plcr_commands.specs.declared.trouble.Trouble.{Trouble}
-use Rattle.plcr_commands.specs.Commands.{Command}
+use Rattle.plcr_loader.specs.declared.constants.TheConstants.{SEG_TEXT, SEG_LINKEDIT}
+use Rattle.plcr_loader.specs.declared.section_64.TheConstants.{SECTNAME}
+use Rattle.plcr_loader.specs.declared.uuid_command.TheConstants.{UUID}
+use Rattle.plcr_loader.specs.declared.trouble.Trouble.{Trouble}
+use Rattle.plcr_loader.specs.Commands.{Command, is_symtab, is_uuid}
+use Rattle.plcr_loader.specs.Fields.{bytes_of, is_named}
+use Rattle.plcr_macho.specs.declared.sections.TheConstants.{UNWIND_INFO, EH_FRAME}
 use Rattle.plcr_macho.specs.declared.image.Part.{Part}
 use Rattle.plcr_macho.specs.declared.kept.Segment.{Segment}
 use Rattle.plcr_macho.specs.declared.kept.Parts.{Parts}
@@ -13,10 +18,8 @@ use Rattle.plcr_macho.specs.declared.kept.Text.{Text}
 use Rattle.plcr_macho.specs.declared.kept.Tables.{Tables}
 use Rattle.plcr_macho.specs.declared.kept.Kept.{Kept}
 use Rattle.plcr_macho.specs.declared.gain.Gain.{Gain}
-use Rattle.plcr_macho.specs.Fields as fields
-use Rattle.plcr_macho.specs.Fields.{bytes_of, is_named}
-use Rattle.plcr_macho.specs.Loading.{is_segment_named, is_symtab, is_uuid}
-use Rattle.plcr_macho.specs.Keeping.{first_kept, first_parts, gain_with, kept_of, nothing, parts_in, part_in, text_of, segment_in, tables_in}
+use Rattle.plcr_macho.specs.Loading.{is_segment_named}
+use Rattle.plcr_macho.specs.inner.Keeping.{first_kept, first_parts, gain_with, kept_of, nothing, parts_in, part_in, text_of, segment_in, tables_in}
 
 find_more : {X Y : Type 0} (f : X → Y) (p : X → Bool) (x : X) (xs : List X) → option_map f (find p (x ∷ xs)) ≡ option_or (option_map f (find p (x ∷ []))) (option_map f (find p xs))
 find_more f p x xs =
@@ -42,10 +45,10 @@ pub kept_more : (c : Command) (cs : List Command) → kept_of (c ∷ cs) ≡ fir
 unfolding kept_of first_kept
 kept_more c cs =
     same_kept
-    (find_more text_of (is_segment_named (codes "__TEXT")) c cs)
-    (find_more (λ (c : Command). segment_in c.bytes) (is_segment_named (codes "__LINKEDIT")) c cs)
+    (find_more text_of (is_segment_named SEG_TEXT) c cs)
+    (find_more (λ (c : Command). segment_in c.bytes) (is_segment_named SEG_LINKEDIT) c cs)
     (find_more (λ (c : Command). tables_in c.bytes) is_symtab c cs)
-    (find_more (λ (c : Command). bytes_of fields.uuid c.bytes) is_uuid c cs)
+    (find_more (λ (c : Command). bytes_of UUID c.bytes) is_uuid c cs)
 
 pub kept_twice : (k l m : Kept) → first_kept (first_kept k l) m ≡ first_kept k (first_kept l m)
 unfolding first_kept
@@ -75,8 +78,8 @@ pub parts_more : (s : List ℕ) (ss : List (List ℕ)) → parts_in (s ∷ ss) �
 unfolding parts_in first_parts
 parts_more s ss =
     same_parts
-    (find_more part_in (is_named fields.section_name (codes "__unwind_info")) s ss)
-    (find_more part_in (is_named fields.section_name (codes "__eh_frame")) s ss)
+    (find_more part_in (is_named SECTNAME UNWIND_INFO) s ss)
+    (find_more part_in (is_named SECTNAME EH_FRAME) s ss)
 
 pub parts_twice : (p q r : Parts) → first_parts (first_parts p q) r ≡ first_parts p (first_parts q r)
 unfolding first_parts
@@ -95,10 +98,10 @@ unfolding first_parts
 none_parts p = refl
 
 -- what a command gives that passed its test, and its trouble where it didn't
-pub gives : (before : Kept) (c : Command) (o : Option Trouble) (k : Kept) → Ok k ≡ result_map (first_kept before) (passed (kept_of (c ∷ [])) o) → result_map (gain_with before) (passed c o) ≡ Ok (record { kept = k; size = c.size })
+pub gives : (before : Kept) (c : Command) (o : Option Trouble) (k : Kept) → Ok k ≡ result_map (first_kept before) (passed (kept_of (c ∷ [])) o) → result_map (gain_with before) (passed c o) ≡ Ok (record { kept = k; size = c.cmdsize })
 gives before c None k h =
     let e : k ≡ first_kept before (kept_of (c ∷ [])) = cc in
-    ap (λ (l : Kept). let r : Result Gain Trouble = Ok (record { kept = l; size = c.size }) in r) (sym e)
+    ap (λ (l : Kept). let r : Result Gain Trouble = Ok (record { kept = l; size = c.cmdsize }) in r) (sym e)
 gives before c (Some t) k h = cc
 
 pub fails : (before : Kept) (c : Command) (o : Option Trouble) (t : Trouble) → Err t ≡ result_map (first_kept before) (passed (kept_of (c ∷ [])) o) → result_map (gain_with before) (passed c o) ≡ Err t

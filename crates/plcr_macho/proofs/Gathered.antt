@@ -1,14 +1,14 @@
 -- The commands read so far gave what was kept, and the rest is still to give.
 use Rattle.std.proofs.Common.{◌≡◌, ◌≤◌, ◌<◌, ℕ, suc, ◌+◌, ◌-◌, List, [], ◌∷◌, Result, Ok, Err, refl, sym, ap, subst, ◌∙◌, arith}
 use Rattle.plcr_base.specs.Chains.{◌>>=◌, result_map}
-use Rattle.plcr_commands.specs.declared.trouble.Trouble.{Trouble}
-use Rattle.plcr_commands.specs.Commands.{Bytes, Command, command_at, commands_at}
+use Rattle.plcr_loader.specs.declared.trouble.Trouble.{Trouble}
+use Rattle.plcr_loader.specs.Commands.{Bytes, Command, command_at, commands_at}
+use Rattle.plcr_loader.proofs.Results.{map_ok, map_err}
 use Rattle.plcr_macho.specs.declared.kept.Kept.{Kept}
 use Rattle.plcr_macho.specs.declared.gain.Gain.{Gain}
 use Rattle.plcr_macho.specs.Loading.{image_trouble}
-use Rattle.plcr_macho.specs.Keeping.{first_kept, gain_with, kept_of, nothing}
+use Rattle.plcr_macho.specs.inner.Keeping.{first_kept, gain_with, kept_of, nothing}
 use Rattle.plcr_macho.proofs.FirstKept.{kept_more, kept_twice, kept_none, none_kept}
-use Rattle.plcr_macho.proofs.Framed.{map_ok, map_err}
 
 -- so many commands from an index and a place on
 abbrev pub rest : Bytes → ℕ → ℕ → ℕ → ℕ → Result (List Command) Trouble
@@ -39,7 +39,7 @@ one_more old c (Err e) = refl
 
 -- the commands from here on are one command and those behind it
 here_on : (source : Bytes) (end count index at : ℕ) (kept : Kept) → SoFar source end count index at kept → index < count
-    → behind kept (command_at source image_trouble end index at >>= λ c. rest source end (count - (index + 1)) (index + 1) (at + c.size) >>= λ cs. Ok (c ∷ cs)) ≡ result_map kept_of (rest source end count 0 0)
+    → behind kept (command_at source image_trouble end index at >>= λ c. rest source end (count - (index + 1)) (index + 1) (at + c.cmdsize) >>= λ cs. Ok (c ∷ cs)) ≡ result_map kept_of (rest source end count 0 0)
 here_on source end count index at kept h more =
     let left : count - index ≡ suc (count - (index + 1)) = omega arith in
     subst (λ (n : ℕ). behind kept (rest source end n index at) ≡ result_map kept_of (rest source end count 0 0)) left h
@@ -53,13 +53,13 @@ moves source end count index at old gain h more found =
     let read = map_ok (gain_with old) (command_at source image_trouble end index at) gain found in
     let c = read.0 in
     let left = count - (index + 1) in
-    let step = λ (r : Result Command Trouble). behind old (r >>= λ (d : Command). rest source end left (index + 1) (at + d.size) >>= λ (cs : List Command). let q : Result (List Command) Trouble = Ok (d ∷ cs) in q) in
+    let step = λ (r : Result Command Trouble). behind old (r >>= λ (d : Command). rest source end left (index + 1) (at + d.cmdsize) >>= λ (cs : List Command). let q : Result (List Command) Trouble = Ok (d ∷ cs) in q) in
     let whole : step (Ok c) ≡ result_map kept_of (rest source end count 0 0) = ap step (sym read.1) ∙ here_on source end count index at old h more in
     let kept : gain.kept ≡ first_kept old (kept_of (c ∷ [])) = ap (λ (g : Gain). g.kept) read.2 in
-    let size : gain.size ≡ c.size = ap (λ (g : Gain). g.size) read.2 in
+    let size : gain.size ≡ c.cmdsize = ap (λ (g : Gain). g.size) read.2 in
     ap (λ (k : Kept). behind k (rest source end left (index + 1) (at + gain.size))) kept
     ∙ ap (λ (n : ℕ). behind (first_kept old (kept_of (c ∷ []))) (rest source end left (index + 1) (at + n))) size
-    ∙ one_more old c (rest source end left (index + 1) (at + c.size)) ∙ whole
+    ∙ one_more old c (rest source end left (index + 1) (at + c.cmdsize)) ∙ whole
 
 -- a command with a trouble ends the reading
 pub breaks : (source : Bytes) (end count index at : ℕ) (old : Kept) (trouble : Trouble)
@@ -68,7 +68,7 @@ pub breaks : (source : Bytes) (end count index at : ℕ) (old : Kept) (trouble :
     → Err trouble ≡ result_map kept_of (rest source end count 0 0)
 breaks source end count index at old trouble h more found =
     let left = count - (index + 1) in
-    let step = λ (r : Result Command Trouble). behind old (r >>= λ (d : Command). rest source end left (index + 1) (at + d.size) >>= λ (cs : List Command). let q : Result (List Command) Trouble = Ok (d ∷ cs) in q) in
+    let step = λ (r : Result Command Trouble). behind old (r >>= λ (d : Command). rest source end left (index + 1) (at + d.cmdsize) >>= λ (cs : List Command). let q : Result (List Command) Trouble = Ok (d ∷ cs) in q) in
     ap step (sym (map_err (gain_with old) (command_at source image_trouble end index at) trouble found)) ∙ here_on source end count index at old h more
 
 -- behind the last command all is kept

@@ -1,10 +1,10 @@
 -- Bytes of a list and of a memory.
 use Rattle.std.proofs.Common.{◌≡◌, ◌≤◌, ◌<◌, ℕ, zero, suc, ◌+◌, ◌-◌, List, [], ◌∷◌, take, drop, Option, Some, None, is_some, refl, sym, ap, subst, ◌∙◌, arith}
 use Rattle.std.specs.Prelude.{IsSome, unwrap_or}
-use Rattle.plcr_commands.specs.Commands.{IsPlain}
 use Rattle.plcr_memory.specs.Regions.{Contents, byte_at, bytes_at, cons_known}
+use Rattle.plcr_loader.specs.Commands.{IsPlain}
 use Rattle.plcr_macho.specs.Sources.{plus, memory_bytes}
-use Rattle.plcr_macho.specs.Keeping.{bytes_there}
+use Rattle.plcr_macho.specs.inner.Keeping.{bytes_there}
 
 -- what stands behind a byte before others
 pub cons_known_some : (o : Option ℕ) (r : Option (List ℕ)) (xs : List ℕ) → cons_known o r ≡ Some xs → (b : ℕ) × (bs : List ℕ) × (o ≡ Some b) × (r ≡ Some bs) × (xs ≡ b ∷ bs)

@@ -1,15 +1,17 @@
 -- What an image in memory is, above the reading of its commands, and which one of a list has an address.
-use Rattle.std.specs.Prelude.{◌≡◌, ◌≤◌, ◌<◌, ◌+◌, ◌⊎◌, ℕ, List, length, codes, None, Ok, Err}
+use Rattle.std.specs.Prelude.{◌≡◌, ◌≤◌, ◌<◌, ◌+◌, ◌⊎◌, ℕ, List, length, None, Ok, Err}
 use Rattle.std.specs.List.{find}
-use Rattle.plcr_commands.specs.declared.trouble.Trouble.{Trouble}
-use Rattle.plcr_commands.specs.Commands.{Command, AreLaid, IsFirstTrouble}
 use Rattle.plcr_memory.specs.Regions.{Contents}
+use Rattle.plcr_loader.specs.declared.constants.TheConstants.{SEG_TEXT}
+use Rattle.plcr_loader.specs.declared.mach_header_64.TheConstants.{LENGTH, NCMDS, SIZEOFCMDS}
+use Rattle.plcr_loader.specs.declared.trouble.Trouble.{Trouble}
+use Rattle.plcr_loader.specs.Commands.{Command, AreLaid, IsFirstTrouble}
+use Rattle.plcr_loader.specs.Fields.{number}
 use Rattle.plcr_regs.specs.declared.arch.Arch.{Arch}
 use Rattle.plcr_macho.specs.declared.image.Image.{Image}
 use Rattle.plcr_macho.specs.declared.image.ImageFault.{ImageFault}
 use Rattle.plcr_macho.specs.declared.image.ImageFault.TheVariants.{NoText}
 use Rattle.plcr_macho.specs.Images.{Listed, listed_at}
-use Rattle.plcr_macho.specs.Fields.{number, ncmds, sizeofcmds}
 use Rattle.plcr_macho.specs.Sources.{plus, memory_bytes}
 use Rattle.plcr_macho.specs.Loading.{head_at, fault_of, image_at, image_of, image_trouble, is_segment_named}
 
@@ -18,8 +20,8 @@ pub record IsLaidOut (memory : Contents) (arch : Arch) (header : ℕ) (image : I
   pub head : List ℕ
   pub commands : List Command
   pub stands : head_at memory arch header ≡ Ok head
-  pub count : length commands ≡ number ncmds head
-  pub laid : AreLaid (memory_bytes memory (plus header 32)) image_trouble (number sizeofcmds head) 0 0 commands
+  pub count : length commands ≡ number NCMDS head
+  pub laid : AreLaid (memory_bytes memory (plus header LENGTH)) image_trouble (number SIZEOFCMDS head) 0 0 commands
   pub says : image_of header head commands ≡ Ok image
 
 -- the header stands at the address, and the fault is that of the first load command behind it that doesn't lie
@@ -27,17 +29,17 @@ pub record IsCommandFault (memory : Contents) (arch : Arch) (header : ℕ) (faul
   pub head : List ℕ
   pub trouble : Trouble
   pub stands : head_at memory arch header ≡ Ok head
-  pub first : IsFirstTrouble (memory_bytes memory (plus header 32)) image_trouble (number sizeofcmds head) (number ncmds head) 0 0 trouble
-  pub is : fault ≡ fault_of (plus header 32) trouble
+  pub first : IsFirstTrouble (memory_bytes memory (plus header LENGTH)) image_trouble (number SIZEOFCMDS head) (number NCMDS head) 0 0 trouble
+  pub is : fault ≡ fault_of (plus header LENGTH) trouble
 
 -- the header stands at the address, all its commands lie behind it, and none of them is a segment `__TEXT`
 pub record LacksText (memory : Contents) (arch : Arch) (header : ℕ) (fault : ImageFault) : Type 0 where
   pub head : List ℕ
   pub commands : List Command
   pub stands : head_at memory arch header ≡ Ok head
-  pub count : length commands ≡ number ncmds head
-  pub laid : AreLaid (memory_bytes memory (plus header 32)) image_trouble (number sizeofcmds head) 0 0 commands
-  pub none : find (is_segment_named (codes "__TEXT")) commands ≡ None
+  pub count : length commands ≡ number NCMDS head
+  pub laid : AreLaid (memory_bytes memory (plus header LENGTH)) image_trouble (number SIZEOFCMDS head) 0 0 commands
+  pub none : find (is_segment_named SEG_TEXT) commands ≡ None
   pub is : fault ≡ NoText
 
 -- the fault is the first one there: of the header, then of the first command that doesn't lie, then that there is no `__TEXT`

@@ -1,7 +1,6 @@
 pub mod Containing
-pub mod Fields
 pub mod Images
-pub mod Keeping
 pub mod Laws
 pub mod Loading
 pub mod Sources
+pub mod inner

@@ -1,7 +1,7 @@
 -- The memory of a process as what load commands are read from. Addresses are counted modulo 2^64.
 use Rattle.std.specs.Prelude.{ℕ, ◌+◌, ◌-◌, ◌^◌, ◌%◌}
-use Rattle.plcr_commands.specs.Commands.{Bytes}
 use Rattle.plcr_memory.specs.Regions.{Contents, bytes_at}
+use Rattle.plcr_loader.specs.Commands.{Bytes}
 
 -- the address so many bytes behind another
 abbrev pub plus : ℕ → ℕ → ℕ

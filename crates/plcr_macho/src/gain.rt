@@ -1,7 +1,7 @@
 ghost use Rattle.std.specs.Prelude.{◌≡◌, ◌≢◌, ◌≤◌, ◌+◌, IfOk};
 ghost use Rattle.plcr_base.specs.Chains.{result_map};
-ghost use Rattle.plcr_commands.specs.Commands.{command_at};
-ghost use Rattle.plcr_macho.specs.Keeping.{Stands, command_of, first_kept, gain_with, kept_in};
+ghost use Rattle.plcr_loader.specs.Commands.{command_at};
+ghost use Rattle.plcr_macho.specs.inner.Keeping.{Stands, command_of, first_kept, gain_with, kept_in};
 ghost use Rattle.plcr_macho.specs.Loading.{image_trouble};
 ghost use Rattle.plcr_macho.specs.Sources.{memory_bytes};
 
@@ -10,14 +10,8 @@ use crate::segment::segment_kept;
 use crate::source::MemoryBytes;
 use crate::standing::{Standing, standing_at};
 use crate::tables::{symtab_kept, uuid_kept};
-use plcr_commands::Trouble;
-
-/// LC_SYMTAB, LC_SEGMENT_64 and LC_UUID of loader.h.
-const SYMTAB: u32 = 0x2;
-
-const SEGMENT_64: u32 = 0x19;
-
-const UUID: u32 = 0x1b;
+use plcr_loader::load_command::LENGTH;
+use plcr_loader::{LC_SEGMENT_64, LC_SYMTAB, LC_UUID, Trouble};
 
 /// What is kept with one load command more, and its size in bytes.
 #[derive(Clone, Copy)]
@@ -29,14 +23,14 @@ pub struct Gain {
 // What is kept of a command that is no segment.
 fn other_kept(command: &Standing, index: u32) -> Result<Kept, Trouble>
     requires stands { Stands command.now }
-    requires least { 8 ≤ command.now.head.size }
-    requires kind { command.now.head.kind ≢ 0x19 }
+    requires least { LENGTH ≤ command.now.cmdsize }
+    requires cmd { command.now.cmd ≢ LC_SEGMENT_64 }
     ensures { result ≡ kept_in index (command_of command.now) }
 {
-    let kind = command.head.kind;
-    if kind == SYMTAB {
+    let cmd = command.cmd;
+    if cmd == LC_SYMTAB {
         symtab_kept(command, index)
-    } else if kind == UUID {
+    } else if cmd == LC_UUID {
         uuid_kept(command, index)
     } else {
         Ok(Kept::nothing())
@@ -46,10 +40,10 @@ fn other_kept(command: &Standing, index: u32) -> Result<Kept, Trouble>
 // What is kept with one command more.
 fn kept_with(command: &Standing, index: u32, before: &Kept) -> Result<Kept, Trouble>
     requires stands { Stands command.now }
-    requires least { 8 ≤ command.now.head.size }
+    requires least { LENGTH ≤ command.now.cmdsize }
     ensures { result ≡ result_map (first_kept before.now) (kept_in index (command_of command.now)) }
 {
-    if command.head.kind == SEGMENT_64 {
+    if command.cmd == LC_SEGMENT_64 {
         segment_kept(command, index, before)
     } else {
         let kept = other_kept(command, index)?;
@@ -73,6 +67,6 @@ pub fn gain_at(
     let kept = kept_with(&command, index, before)?;
     Ok(Gain {
         kept,
-        size: command.head.size,
+        size: command.cmdsize,
     })
 }

@@ -1,5 +1,5 @@
 ghost use Rattle.std.specs.Prelude.{◌≡◌};
-ghost use Rattle.plcr_macho.specs.Keeping.{first_kept, first_parts, nothing};
+ghost use Rattle.plcr_macho.specs.inner.Keeping.{first_kept, first_parts, nothing};
 
 use crate::image::Part;
 
@@ -46,7 +46,7 @@ pub struct Kept {
 
 impl Parts {
     /// The first of each, where there is one.
-    #[tactic(auto, unfolding(crate::specs::Keeping::first_parts))]
+    #[tactic(auto, unfolding(crate::specs::inner::Keeping::first_parts))]
     pub fn or(self, later: Parts) -> Parts
         ensures { result ≡ first_parts self later }
     {
@@ -71,7 +71,7 @@ impl Kept {
     }
 
     /// The first of each kind, where there is one.
-    #[tactic(auto, unfolding(crate::specs::Keeping::first_kept))]
+    #[tactic(auto, unfolding(crate::specs::inner::Keeping::first_kept))]
     pub fn or(self, later: Kept) -> Kept
         ensures { result ≡ first_kept self later }
     {

@@ -1,5 +1,5 @@
 ghost use Rattle.std.specs.Prelude.{◌≡◌, ◌<◌, ℕ, List, Ok, Err, Some, None, length};
-ghost use Rattle.plcr_commands.specs.Commands.{IsPlain};
+ghost use Rattle.plcr_loader.specs.Commands.{IsPlain};
 ghost use Rattle.plcr_memory.specs.Regions.{Contents};
 ghost use Rattle.plcr_regs.specs.declared.arch.Arch.{Arch};
 ghost use Rattle.plcr_macho.specs.declared.image.Image.{Image};

@@ -1,7 +1,6 @@
 //! Mach-O images as they lie in the memory of a process, and lists of loaded images.
 #![tactic(auto)]
 
-mod fields;
 #[cfg(test)]
 mod fixtures;
 mod gain;

@@ -1,17 +1,36 @@
-ghost use Rattle.std.specs.Prelude.{◌≡◌, ℕ, ◌<◌, ◌≤◌, length, slice_index};
+ghost use Rattle.std.specs.Prelude.{◌≡◌, ◌*◌, ℕ, ◌<◌, ◌≤◌, length, slice_index};
 ghost use Rattle.std.proofs.Common.{refl, ◌∙◌};
 ghost use Rattle.plcr_base.specs.Bytes.{IsBytes};
+ghost use Rattle.plcr_base.specs.Numbers.{u64_in};
 ghost use Rattle.plcr_macho.specs.Images.{all_listed};
 
 use crate::images::Images;
 use arrayvec::ArrayVec;
-use plcr_base::read_padded_u64;
+use plcr_base::{IMAGE_NAME_BYTES, read_padded_u64};
 
 /// An image of a plain list: the address of its header, and its name.
 #[derive(Drop)]
 pub struct PlainImage {
     pub header: u64,
-    pub name: ArrayVec<u8, 1024>,
+    pub name: ArrayVec<u8, IMAGE_NAME_BYTES>,
+}
+
+impl PlainImage {
+    /// How many bytes the name has. Each is below 256.
+    pub fn name_len(&self) -> usize
+        ensures length { result ≡ length self.now.name.items }
+        ensures bytes { IsBytes self.now.name.items }
+    {
+        byte_count(self.name.as_slice())
+    }
+
+    /// The bytes 8j to 8j + 7 of the name, the lowest first, with zeros past its end.
+    pub fn name_word(&self, j: usize) -> u64
+        requires { 8 * j < length self.now.name.items }
+        ensures { result ≡ u64_in self.now.name.items (8 * j) }
+    {
+        read_padded_u64(self.name.as_slice(), 8 * j)
+    }
 }
 
 /// A plain list as a list of images.
@@ -51,11 +70,11 @@ impl Images for ListImages<'_> {
     }
 
     fn name_len(&mut self, i: usize) -> usize {
-        byte_count(self.images[i].name.as_slice())
+        self.images[i].name_len()
     }
 
     fn name_word(&mut self, i: usize, j: usize) -> u64 {
-        read_padded_u64(self.images[i].name.as_slice(), 8 * j)
+        self.images[i].name_word(j)
     }
 
     ghost follows_itself = { λ x. refl };

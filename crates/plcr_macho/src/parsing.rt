@@ -1,7 +1,7 @@
 ghost use Rattle.std.specs.Prelude.{◌≡◌, ok_or, option_map};
 ghost use Rattle.plcr_base.specs.Chains.{result_map};
-ghost use Rattle.plcr_commands.specs.Commands.{commands_at};
-ghost use Rattle.plcr_macho.specs.Keeping.{image_by, image_from, kept_of, linked_by, moved, symtab_from};
+ghost use Rattle.plcr_loader.specs.Commands.{commands_at};
+ghost use Rattle.plcr_macho.specs.inner.Keeping.{image_by, image_from, kept_of, linked_by, moved, symtab_from};
 ghost use Rattle.plcr_macho.specs.Loading.{fault_of, image_at, image_trouble};
 ghost use Rattle.plcr_macho.specs.Sources.{memory_bytes};
 
@@ -10,7 +10,7 @@ use crate::header::{Header, header_at};
 use crate::image::{Image, ImageFault, Part, Symtab};
 use crate::kept::{Kept, Segment, Tables, Text};
 use crate::source::MemoryBytes;
-use plcr_commands::Trouble;
+use plcr_loader::{Trouble, mach_header_64};
 use plcr_memory::Memory;
 use plcr_regs::Arch;
 
@@ -50,7 +50,7 @@ fn moved_by(slide: u64, part: Option<Part>) -> Option<Part>
     })
 }
 
-#[tactic(auto, unfolding(crate::specs::Keeping::symtab_from))]
+#[tactic(auto, unfolding(crate::specs::inner::Keeping::symtab_from))]
 fn symtab_at(slide: u64, linkedit: Option<Segment>, tables: Option<Tables>) -> Option<Symtab>
     ensures { result ≡ symtab_from slide linkedit tables }
 {
@@ -74,7 +74,7 @@ fn linked(slide: u64, linkedit: &Segment, offset: u32) -> u64
         .wrapping_add(slide)
 }
 
-#[tactic(auto, unfolding(crate::specs::Keeping::image_by))]
+#[tactic(auto, unfolding(crate::specs::inner::Keeping::image_by))]
 fn image_with(address: u64, header: &Header, kept: &Kept, text: &Text) -> Image
     ensures { result ≡ image_by address header.now kept.now text.now }
 {
@@ -110,7 +110,7 @@ pub fn parse(memory: &Memory, arch: Arch, header: u64) -> Result<Image, ImageFau
     let head = header_at(memory, arch, header)?;
     let source = MemoryBytes {
         memory,
-        start: header.wrapping_add(32),
+        start: header.wrapping_add(mach_header_64::LENGTH as u64),
     };
     match kept_behind(&source, &head) {
         Ok(kept) => image_of(header, &head, &kept),

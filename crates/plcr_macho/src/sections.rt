@@ -1,66 +1,63 @@
 ghost use Rattle.std.specs.Prelude.{◌≡◌, ◌≤◌, ◌<◌, ◌+◌, ◌*◌, ◌^◌, ℕ, [], ◌∷◌, drop, if◌then◌else◌, Some, None, IsSome};
-ghost use Rattle.std.specs.Str.{bytes_eq};
+ghost use Rattle.plcr_loader.specs.declared.segment_command_64.TheConstants as segment_command_64;
 ghost use Rattle.plcr_memory.specs.Regions.{byte_at, bytes_at};
-ghost use Rattle.plcr_macho.specs.Fields.{bytes_of, section_name};
+ghost use Rattle.plcr_loader.specs.Fields.{is_named};
 ghost use Rattle.plcr_macho.specs.Loading.{sections_in};
-ghost use Rattle.plcr_macho.specs.Keeping.{Stands, bytes_there, command_of, part_in, parts_in};
+ghost use Rattle.plcr_macho.specs.inner.Keeping.{Stands, bytes_there, command_of, part_in, parts_in};
 
-use crate::fields::{
-    SECTION_ADDR, SECTION_LENGTH, SECTION_NAME, SECTION_SIZE, SEGMENT_LENGTH, has_name,
-};
 use crate::image::Part;
 use crate::kept::Parts;
 use crate::source::mapped_bytes;
 use crate::standing::Standing;
-use plcr_base::read_u64;
+use plcr_loader::section_64::{ADDR, LENGTH, SECTNAME, SIZE};
+use plcr_loader::segment_command_64;
 use plcr_memory::Memory;
 
-/// Names of sections, as their fields have them.
-const UNWIND_INFO: &[u8; 16] = b"__unwind_info\0\0\0";
+/// Names of sections, with the zeros that follow them in their field.
+pub const UNWIND_INFO: [u8; 16] = *b"__unwind_info\0\0\0";
 
-const EH_FRAME: &[u8; 16] = b"__eh_frame\0\0\0\0\0\0";
+pub const EH_FRAME: [u8; 16] = *b"__eh_frame\0\0\0\0\0\0";
 
-#[tactic(auto, unfolding(crate::specs::Keeping::part_in, crate::specs::Fields::number, plcr_base::specs::Numbers::u64_in))]
-fn part_of(section: &[u8; SECTION_LENGTH]) -> Part
+#[tactic(auto, unfolding(crate::specs::inner::Keeping::part_in))]
+fn part_of(section: &[u8; LENGTH]) -> Part
     ensures { result ≡ part_in section.now }
 {
     Part {
-        at: read_u64(section, SECTION_ADDR),
-        size: read_u64(section, SECTION_SIZE),
+        at: ADDR.read_u64(section),
+        size: SIZE.read_u64(section),
     }
 }
 
-#[tactic(auto, unfolding(crate::specs::Fields::bytes_of))]
-fn part_named(section: &[u8; SECTION_LENGTH], name: &[u8; 16]) -> Option<Part>
-    ensures { result ≡ if bytes_eq (bytes_of section_name section.now) name.now then Some (part_in section.now) else None }
+fn part_named(section: &[u8; LENGTH], name: &[u8; 16]) -> Option<Part>
+    ensures { result ≡ if is_named SECTNAME name.now section.now then Some (part_in section.now) else None }
 {
-    if has_name(section, SECTION_NAME, name) {
+    if SECTNAME.is_named(section, name) {
         Some(part_of(section))
     } else {
         None
     }
 }
 
-#[tactic(auto, unfolding(crate::specs::Keeping::parts_in))]
-fn parts_of(section: &[u8; SECTION_LENGTH]) -> Parts
+#[tactic(auto, unfolding(crate::specs::inner::Keeping::parts_in))]
+fn parts_of(section: &[u8; LENGTH]) -> Parts
     ensures { result ≡ parts_in (section.now ∷ []) }
 {
     Parts {
-        unwind: part_named(section, UNWIND_INFO),
-        eh_frame: part_named(section, EH_FRAME),
+        unwind: part_named(section, &UNWIND_INFO),
+        eh_frame: part_named(section, &EH_FRAME),
     }
 }
 
 // How many sections from an address on begin with a zero, as far as the zeros go that one region has there. Such a
 // section has neither name.
 fn nameless(memory: &Memory, at: u64) -> u64
-    ensures { (k : ℕ) → k < result → byte_at memory.now (at + 80 * k) ≡ Some 0 }
+    ensures { (k : ℕ) → k < result → byte_at memory.now (at + LENGTH * k) ≡ Some 0 }
 {
     let zeros = memory.zeros_from(at);
     if zeros == 0 {
         0
     } else {
-        (zeros - 1) / SECTION_LENGTH as u64 + 1
+        (zeros - 1) / LENGTH as u64 + 1
     }
 }
 
@@ -68,7 +65,7 @@ fn nameless(memory: &Memory, at: u64) -> u64
 fn parts_at(memory: &Memory, at: u64, size: u64, count: u32) -> Parts
     requires there { IsSome (bytes_at memory.now at size) }
     requires ends { at + size ≤ 2 ^ 64 }
-    requires within { 80 * count ≤ size }
+    requires within { LENGTH * count ≤ size }
     ensures { result ≡ parts_in (sections_in count (bytes_there memory.now at size)) }
 {
     let count = u64::from(count);
@@ -78,7 +75,7 @@ fn parts_at(memory: &Memory, at: u64, size: u64, count: u32) -> Parts
     };
     let mut index = 0;
     while index < count {
-        let section_at = at + SECTION_LENGTH as u64 * index;
+        let section_at = at + LENGTH as u64 * index;
         let passed = nameless(memory, section_at);
         if passed == 0 {
             found = found.or(parts_of(&mapped_bytes(memory, section_at)));
@@ -93,8 +90,8 @@ fn parts_at(memory: &Memory, at: u64, size: u64, count: u32) -> Parts
 /// What is kept of the sections that stand within the command of a segment.
 pub fn parts_within(command: &Standing, count: u32) -> Parts
     requires stands { Stands command.now }
-    requires within { 72 + 80 * count ≤ command.now.head.size }
-    ensures { result ≡ parts_in (sections_in count (drop 72 (command_of command.now).bytes)) }
+    requires within { segment_command_64.LENGTH + LENGTH * count ≤ command.now.cmdsize }
+    ensures { result ≡ parts_in (sections_in count (drop segment_command_64.LENGTH (command_of command.now).bytes)) }
 {
     if count == 0 {
         return Parts {
@@ -102,15 +99,15 @@ pub fn parts_within(command: &Standing, count: u32) -> Parts
             eh_frame: None,
         };
     }
-    let size = u64::from(command.head.size);
+    let size = u64::from(command.cmdsize);
     // The command is mapped, as was tested before. This tells that it ends within the addresses.
     if !command.memory.is_mapped(command.address, size) {
         unreachable!()
     }
     parts_at(
         command.memory,
-        command.address + SEGMENT_LENGTH as u64,
-        size - SEGMENT_LENGTH as u64,
+        command.address + segment_command_64::LENGTH as u64,
+        size - segment_command_64::LENGTH as u64,
         count,
     )
 }

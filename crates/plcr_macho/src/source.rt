@@ -2,8 +2,8 @@ ghost use Rattle.std.specs.Prelude.{◌≡◌, IsSome, Some};
 ghost use Rattle.plcr_memory.specs.Regions.{bytes_at};
 ghost use Rattle.plcr_macho.specs.Sources.{memory_bytes, plus};
 
-use plcr_base::read_u32;
-use plcr_commands::{Head, Source};
+use plcr_loader::load_command::LENGTH;
+use plcr_loader::{LoadCommand, Source};
 use plcr_memory::Memory;
 
 /// The memory of a process as what load commands are read from. Places count from an address, modulo 2^64.
@@ -49,12 +49,9 @@ impl Source for MemoryBytes<'_> {
     ghost found = { λ s. memory_bytes s.memory.now s.start };
 
     #[tactic(auto, unfolding(crate::specs::Sources::memory_bytes))]
-    fn head(&self, at: u64) -> Option<Head> {
-        let head: [u8; 8] = bytes_from(self.memory, self.address(at))?;
-        Some(Head {
-            kind: read_u32(&head, 0),
-            size: read_u32(&head, 4),
-        })
+    fn load_command(&self, at: u64) -> Option<LoadCommand> {
+        let front = bytes_from::<LENGTH>(self.memory, self.address(at))?;
+        Some(LoadCommand::read(&front))
     }
 
     #[tactic(auto, unfolding(crate::specs::Sources::memory_bytes))]

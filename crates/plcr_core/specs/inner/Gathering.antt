@@ -1,10 +1,10 @@
 -- What the private functions behind read_core answer.
 use Rattle.std.specs.Prelude.{◌≡◌, ℕ, ◌+◌, ◌==◌, nat_lt, if◌then◌else◌, List, ◌++◌, length, take, filter_map, Result, Ok, Err}
 use Rattle.std.specs.Option.{option_to_list}
-use Rattle.plcr_loader.specs.declared.trouble.Trouble.{Trouble}
 use Rattle.plcr_base.specs.Chains.{◌>>=◌, passed, result_map}
-use Rattle.plcr_loader.specs.Commands.{Command}
 use Rattle.plcr_memory.specs.declared.region.Region.{Region}
+use Rattle.plcr_loader.specs.declared.trouble.Trouble.{Trouble}
+use Rattle.plcr_loader.specs.Commands.{Command}
 use Rattle.plcr_regs.specs.declared.arch.Arch.{Arch}
 use Rattle.plcr_regs.specs.declared.registers.Registers.{Registers}
 use Rattle.plcr_core.specs.declared.command.WholeCommand.{WholeCommand}

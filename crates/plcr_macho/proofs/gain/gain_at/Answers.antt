@@ -1,5 +1,5 @@
 use Rattle.plcr_macho.specs.Sources.{memory_bytes}
-use Rattle.plcr_macho.specs.Keeping.{command_of}
+use Rattle.plcr_macho.specs.inner.Keeping.{command_of}
 use Rattle.plcr_macho.proofs.Segments.{gain_is}
 use Rattle.plcr_macho.proofs.gain.gain_at.Goals as goal
 

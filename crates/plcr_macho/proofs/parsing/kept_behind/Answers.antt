@@ -1,9 +1,9 @@
 use Rattle.std.proofs.Common.{◌+◌, ℕ, sym, ap, subst, ◌∙◌, arith}
 use Rattle.plcr_base.specs.Chains.{result_map}
-use Rattle.plcr_commands.specs.Commands.{commands_at}
+use Rattle.plcr_loader.specs.Commands.{commands_at}
 use Rattle.plcr_macho.specs.Sources.{memory_bytes}
 use Rattle.plcr_macho.specs.Loading.{image_trouble}
-use Rattle.plcr_macho.specs.Keeping.{kept_of}
+use Rattle.plcr_macho.specs.inner.Keeping.{kept_of}
 use Rattle.plcr_macho.proofs.Gathered.{SoFar, starts, moves, ends}
 use Rattle.plcr_macho.proofs.parsing.kept_behind.Goals as goal
 

@@ -1,5 +1,5 @@
 use Rattle.std.specs.Prelude.{◌≤◌, ◌-◌}
-use Rattle.plcr_macho.specs.Keeping.{bytes_there}
+use Rattle.plcr_macho.specs.inner.Keeping.{bytes_there}
 use Rattle.plcr_macho.proofs.Sectioned.{PartsSoFar}
 use Rattle.plcr_macho.proofs.sections.parts_at.Given as goal
 

@@ -1,11 +1,19 @@
 -- What the private functions behind parse answer: what is kept of the load commands, whose bytes stand in memory.
-use Rattle.std.specs.Prelude.{ℕ, List, [], ◌∷◌, codes, Option, Some, None, IsSome, option_map, unwrap_or, ok_or, Result, Ok}
+use Rattle.std.specs.Prelude.{ℕ, List, [], ◌∷◌, Option, Some, None, IsSome, option_map, unwrap_or, ok_or, Result, Ok}
 use Rattle.std.specs.Option.{option_or}
 use Rattle.std.specs.List.{find}
 use Rattle.plcr_base.specs.Chains.{◌>>=◌, passed}
-use Rattle.plcr_commands.specs.declared.trouble.Trouble.{Trouble}
-use Rattle.plcr_commands.specs.Commands.{Command}
 use Rattle.plcr_memory.specs.Regions.{Contents, bytes_at}
+use Rattle.plcr_loader.specs.declared.constants.TheConstants.{SEG_TEXT, SEG_LINKEDIT}
+use Rattle.plcr_loader.specs.declared.mach_header_64.TheConstants.{CPUTYPE, CPUSUBTYPE, NCMDS, SIZEOFCMDS}
+use Rattle.plcr_loader.specs.declared.segment_command_64.TheConstants.{VMADDR, VMSIZE, FILEOFF, NSECTS}
+use Rattle.plcr_loader.specs.declared.section_64.TheConstants.{SECTNAME, ADDR, SIZE}
+use Rattle.plcr_loader.specs.declared.symtab_command.TheConstants.{SYMOFF, NSYMS, STROFF, STRSIZE}
+use Rattle.plcr_loader.specs.declared.uuid_command.TheConstants.{UUID}
+use Rattle.plcr_loader.specs.declared.trouble.Trouble.{Trouble}
+use Rattle.plcr_loader.specs.Commands.{Command, is_symtab, is_uuid}
+use Rattle.plcr_loader.specs.Fields.{number, bytes_of, is_named}
+use Rattle.plcr_macho.specs.declared.sections.TheConstants.{UNWIND_INFO, EH_FRAME}
 use Rattle.plcr_macho.specs.declared.image.Part.{Part}
 use Rattle.plcr_macho.specs.declared.image.Symtab.{Symtab}
 use Rattle.plcr_macho.specs.declared.image.Image.{Image}
@@ -19,10 +27,8 @@ use Rattle.plcr_macho.specs.declared.kept.Tables.{Tables}
 use Rattle.plcr_macho.specs.declared.kept.Kept.{Kept}
 use Rattle.plcr_macho.specs.declared.standing.Standing.{Standing}
 use Rattle.plcr_macho.specs.declared.gain.Gain.{Gain}
-use Rattle.plcr_macho.specs.Fields as fields
-use Rattle.plcr_macho.specs.Fields.{number, bytes_of, is_named}
 use Rattle.plcr_macho.specs.Sources.{plus, minus}
-use Rattle.plcr_macho.specs.Loading.{is_segment_named, is_symtab, is_uuid, sections_of, image_trouble}
+use Rattle.plcr_macho.specs.Loading.{is_segment_named, sections_of, image_trouble}
 
 -- the bytes from an address on, which are mapped
 abbrev pub bytes_there : Contents → ℕ → ℕ → List ℕ
@@ -30,39 +36,39 @@ bytes_there memory a n = unwrap_or (bytes_at memory a n) []
 
 -- the load command that stands there
 abbrev pub command_of : Standing → Command
-command_of s = record { kind = s.head.kind; size = s.head.size; place = s.place; bytes = bytes_there s.memory.now s.address s.head.size }
+command_of s = record { cmd = s.cmd; cmdsize = s.cmdsize; place = s.place; bytes = bytes_there s.memory.now s.address s.cmdsize }
 
 -- all of its bytes are mapped
 abbrev pub Stands : Standing → Type 0
-Stands s = IsSome (bytes_at s.memory.now s.address s.head.size)
+Stands s = IsSome (bytes_at s.memory.now s.address s.cmdsize)
 
 -- what a header says
 unfoldable pub header_of : List ℕ → Header
 header_of head = record {
-  cpu = number fields.cputype head;
-  subtype = number fields.cpusubtype head;
-  commands = number fields.ncmds head;
-  size = number fields.sizeofcmds head;
+  cpu = number CPUTYPE head;
+  subtype = number CPUSUBTYPE head;
+  commands = number NCMDS head;
+  size = number SIZEOFCMDS head;
 }
 
 -- what a segment says
 unfoldable pub segment_in : List ℕ → Segment
 segment_in command = record {
-  vmaddr = number fields.vmaddr command;
-  vmsize = number fields.vmsize command;
-  fileoff = number fields.fileoff command;
-  sections = number fields.nsects command;
+  vmaddr = number VMADDR command;
+  vmsize = number VMSIZE command;
+  fileoff = number FILEOFF command;
+  sections = number NSECTS command;
 }
 
 -- where a section says that it lies
 unfoldable pub part_in : List ℕ → Part
-part_in section = record { at = number fields.section_addr section; size = number fields.section_size section }
+part_in section = record { at = number ADDR section; size = number SIZE section }
 
 -- where the first section of each name says that it lies
 unfoldable pub parts_in : List (List ℕ) → Parts
 parts_in sections = record {
-  unwind = option_map part_in (find (is_named fields.section_name (codes "__unwind_info")) sections);
-  eh_frame = option_map part_in (find (is_named fields.section_name (codes "__eh_frame")) sections);
+  unwind = option_map part_in (find (is_named SECTNAME UNWIND_INFO) sections);
+  eh_frame = option_map part_in (find (is_named SECTNAME EH_FRAME) sections);
 }
 
 -- the first of each, where there is one
@@ -76,19 +82,19 @@ text_of c = record { segment = segment_in c.bytes; parts = parts_in (sections_of
 -- what the tables of the symbols say
 unfoldable pub tables_in : List ℕ → Tables
 tables_in command = record {
-  symoff = number fields.symoff command;
-  nsyms = number fields.nsyms command;
-  stroff = number fields.stroff command;
-  strsize = number fields.strsize command;
+  symoff = number SYMOFF command;
+  nsyms = number NSYMS command;
+  stroff = number STROFF command;
+  strsize = number STRSIZE command;
 }
 
 -- what is kept of a list of commands: the first of each kind
 unfoldable pub kept_of : List Command → Kept
 kept_of cs = record {
-  text = option_map text_of (find (is_segment_named (codes "__TEXT")) cs);
-  linkedit = option_map (λ c. segment_in c.bytes) (find (is_segment_named (codes "__LINKEDIT")) cs);
+  text = option_map text_of (find (is_segment_named SEG_TEXT) cs);
+  linkedit = option_map (λ c. segment_in c.bytes) (find (is_segment_named SEG_LINKEDIT) cs);
   symtab = option_map (λ c. tables_in c.bytes) (find is_symtab cs);
-  uuid = option_map (λ c. bytes_of fields.uuid c.bytes) (find is_uuid cs);
+  uuid = option_map (λ c. bytes_of UUID c.bytes) (find is_uuid cs);
 }
 
 -- what is kept where nothing was read
@@ -110,7 +116,7 @@ kept_in index c = passed (kept_of (c ∷ [])) (image_trouble index c)
 
 -- what one command gives behind what was kept
 abbrev pub gain_with : Kept → Command → Gain
-gain_with before c = record { kept = first_kept before (kept_of (c ∷ [])); size = c.size }
+gain_with before c = record { kept = first_kept before (kept_of (c ∷ [])); size = c.cmdsize }
 
 -- a part in memory
 abbrev pub moved : ℕ → Part → Part
