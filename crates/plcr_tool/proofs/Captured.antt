@@ -30,7 +30,7 @@ use Rattle.plcr_encode.specs.declared.context.Context.{Context}
 use Rattle.plcr_encode.specs.Images.{image_with, image_of, images_of}
 use Rattle.plcr_encode.specs.Values.{process_report}
 use Rattle.plcr_decode.specs.Reads.{reads}
-use Rattle.plcr_tool.specs.Handed.{IsHandedContext, AreHandedThreads, IsHandedImage, AreHandedImages, AreHandedListed}
+use Rattle.plcr_tool.specs.Laws.{IsHandedContext, AreHandedThreads, IsHandedImage, AreHandedImages, AreHandedListed}
 use Rattle.plcr_tool.proofs.Stored.{IsPiece, first_found, piece_there, four_small, eight_small}
 use Rattle.plcr_tool.proofs.Written.{written_again}
 

@@ -6,9 +6,10 @@ use Rattle.std.specs.Option.{option_map}
 use Rattle.std.proofs.lemmas.List.{length-map}
 use Rattle.std.proofs.lemmas.List.Elements.{All-append, All-take, All-drop}
 use Rattle.std.proofs.lemmas.Option.{slice_get-map, slice_get_read, slice_get_within}
+use Rattle.plcr_base.specs.Limits.{IsImageName}
 use Rattle.plcr_script.specs.Changes.{Loaded, place_of, first_with}
 use Rattle.plcr_tool.specs.declared.entries.Entry.{Entry}
-use Rattle.plcr_tool.specs.Listing.{loaded_of, listed, listed_by, AreShort}
+use Rattle.plcr_tool.specs.inner.List.{loaded_of, listed, listed_by, AreShort}
 use Rattle.plcr_tool.proofs.Turning.{stands}
 
 prefix_map : {A B : Type 0} (p : B → Bool) (f : A → B) (xs : List A) → prefix_len p (map f xs) ≡ prefix_len (λ x. p (f x)) xs
@@ -32,7 +33,7 @@ remove_map f (x ∷ xs) (suc i) = ap (λ ys. f x ∷ ys) (remove_map f xs i)
 
 -- names stay short
 pub short_without : (images : List Loaded) (i : ℕ) → AreShort images → AreShort (remove images i)
-short_without images i short = All-append (λ (l : Loaded). length l.image.name ≤ 1024) (take i images) (drop (suc i) images) (All-take (λ (l : Loaded). length l.image.name ≤ 1024) i images short) (All-drop (λ (l : Loaded). length l.image.name ≤ 1024) (suc i) images short)
+short_without images i short = All-append (λ (l : Loaded). IsImageName l.image.name) (take i images) (drop (suc i) images) (All-take (λ (l : Loaded). IsImageName l.image.name) i images short) (All-drop (λ (l : Loaded). IsImageName l.image.name) (suc i) images short)
 
 -- the load of the first entry with a header
 pub load_in : (header : ℕ) (entries : List Entry) (place : ℕ) (entry : Entry) → place_of header (map loaded_of entries) ≡ Some place → entry ≡ slice_index_or entries place entry → Some entry.load ≡ option_map (λ (l : Loaded). l.load) (first_with header (map loaded_of entries))

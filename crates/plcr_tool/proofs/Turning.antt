@@ -11,7 +11,10 @@ use Rattle.plcr_script.specs.declared.outcomes.Outcome.TheVariants.{NotImage, Wo
 use Rattle.plcr_script.specs.Changes as changes
 use Rattle.plcr_script.specs.Changes.{Change, Loads, Unloads, place_of, first_with, changed, is_load, list_after, next_load}
 use Rattle.plcr_script.specs.Runs.{Turn, load_turn, unload_turn, unloaded}
-use Rattle.plcr_tool.specs.Listing.{ListValue, list_value, with_load, with_unload, IsAfter, Comes}
+use Rattle.plcr_machine.specs.declared.limits.TheConstants.{MOST_CHANGES}
+use Rattle.plcr_base.specs.declared.limits.TheConstants.{IMAGE_NAME_BYTES}
+use Rattle.plcr_tool.specs.inner.Changing.{IsAfter, Comes}
+use Rattle.plcr_tool.specs.inner.List.{ListValue, list_value, with_load, with_unload}
 
 -- the list after one more change
 list_after_more : (cs : List Change) (c : Change) → list_after (cs ++ c ∷ []) ≡ changed (list_after cs) c
@@ -40,21 +43,21 @@ pub load_not_image : (list : ListValue) (nodes kind : ℕ) (cs : List Change) (i
 load_not_image list nodes kind cs image after = record { is = refl; kept = refl; after = same_list list nodes cs after }
 
 -- a load behind too many changes
-pub load_worn : (list : ListValue) (nodes : ℕ) (cs : List Change) (image : Listed) → IsAfter list nodes cs → nat_le 4294967295 list.changes ≡ true → Comes (load_turn None nodes cs image) nodes cs (Worn list.changes) list
+pub load_worn : (list : ListValue) (nodes : ℕ) (cs : List Change) (image : Listed) → IsAfter list nodes cs → nat_le MOST_CHANGES list.changes ≡ true → Comes (load_turn None nodes cs image) nodes cs (Worn list.changes) list
 load_worn list nodes cs image after worn =
-    let is : nat_le 4294967295 (length cs) ≡ true = rw after.counted at worn in
+    let is : nat_le MOST_CHANGES (length cs) ≡ true = rw after.counted at worn in
     rw is (record { is = ap Worn after.counted; kept = refl; after = same_list list nodes cs after })
 
 -- a load of a name that is too long
-pub load_long : (list : ListValue) (nodes : ℕ) (cs : List Change) (image : Listed) → IsAfter list nodes cs → nat_le 4294967295 list.changes ≡ false → nat_lt 1024 (length image.name) ≡ true → Comes (load_turn None nodes cs image) nodes cs (Long (length image.name)) list
+pub load_long : (list : ListValue) (nodes : ℕ) (cs : List Change) (image : Listed) → IsAfter list nodes cs → nat_le MOST_CHANGES list.changes ≡ false → nat_lt IMAGE_NAME_BYTES (length image.name) ≡ true → Comes (load_turn None nodes cs image) nodes cs (Long (length image.name)) list
 load_long list nodes cs image after worn long =
-    let is : nat_le 4294967295 (length cs) ≡ false = rw after.counted at worn in
+    let is : nat_le MOST_CHANGES (length cs) ≡ false = rw after.counted at worn in
     rw (is, long) (record { is = refl; kept = refl; after = same_list list nodes cs after })
 
 -- a load on a full list
-pub load_full : (list : ListValue) (nodes : ℕ) (cs : List Change) (image : Listed) → IsAfter list nodes cs → nat_le 4294967295 list.changes ≡ false → nat_lt 1024 (length image.name) ≡ false → (length list.images == list.nodes) ≡ true → Comes (load_turn None nodes cs image) nodes cs (Full list.nodes 0 (list.changes * 2 ^ 32)) list
+pub load_full : (list : ListValue) (nodes : ℕ) (cs : List Change) (image : Listed) → IsAfter list nodes cs → nat_le MOST_CHANGES list.changes ≡ false → nat_lt IMAGE_NAME_BYTES (length image.name) ≡ false → (length list.images == list.nodes) ≡ true → Comes (load_turn None nodes cs image) nodes cs (Full list.nodes 0 (list.changes * 2 ^ 32)) list
 load_full list nodes cs image after worn long full =
-    let is : nat_le 4294967295 (length cs) ≡ false = rw after.counted at worn in
+    let is : nat_le MOST_CHANGES (length cs) ≡ false = rw after.counted at worn in
     let all : (length (list_after cs) == nodes) ≡ true = rw (after.images, after.sized) at full in
     rw (is, long, all) (record { is = rw (after.sized, after.counted) refl; kept = refl; after = same_list list nodes cs after })
 
@@ -70,9 +73,9 @@ load_after list nodes cs image after =
     }
 
 -- a load that is made
-pub load_made : (list : ListValue) (nodes : ℕ) (cs : List Change) (image : Listed) → IsAfter list nodes cs → nat_le 4294967295 list.changes ≡ false → nat_lt 1024 (length image.name) ≡ false → (length list.images == list.nodes) ≡ false → Comes (load_turn None nodes cs image) nodes cs (Loaded (list.loads + 1)) (with_load list image)
+pub load_made : (list : ListValue) (nodes : ℕ) (cs : List Change) (image : Listed) → IsAfter list nodes cs → nat_le MOST_CHANGES list.changes ≡ false → nat_lt IMAGE_NAME_BYTES (length image.name) ≡ false → (length list.images == list.nodes) ≡ false → Comes (load_turn None nodes cs image) nodes cs (Loaded (list.loads + 1)) (with_load list image)
 load_made list nodes cs image after worn long full =
-    let is : nat_le 4294967295 (length cs) ≡ false = rw after.counted at worn in
+    let is : nat_le MOST_CHANGES (length cs) ≡ false = rw after.counted at worn in
     let some : (length (list_after cs) == nodes) ≡ false = rw (after.images, after.sized) at full in
     rw (is, long, some) (record { is = ap Loaded after.loads; kept = refl; after = load_after list nodes cs image after })
 
@@ -82,9 +85,9 @@ answered None = NotLoaded
 answered (Some load) = Unloaded load
 
 -- an unload behind too many changes
-pub unload_worn : (list : ListValue) (nodes header : ℕ) (cs : List Change) → IsAfter list nodes cs → nat_le 4294967295 list.changes ≡ true → Comes (unload_turn cs header) nodes cs (Worn list.changes) list
+pub unload_worn : (list : ListValue) (nodes header : ℕ) (cs : List Change) → IsAfter list nodes cs → nat_le MOST_CHANGES list.changes ≡ true → Comes (unload_turn cs header) nodes cs (Worn list.changes) list
 unload_worn list nodes header cs after worn =
-    let is : nat_le 4294967295 (length cs) ≡ true = rw after.counted at worn in
+    let is : nat_le MOST_CHANGES (length cs) ≡ true = rw after.counted at worn in
     rw is (record { is = ap Worn after.counted; kept = refl; after = same_list list nodes cs after })
 
 -- what stands at a place
@@ -119,9 +122,9 @@ unloaded_kept header None = refl
 unloaded_kept header (Some loaded) = refl
 
 -- an unload that isn't refused
-pub unload_comes : (list : ListValue) (nodes header : ℕ) (cs : List Change) → IsAfter list nodes cs → nat_le 4294967295 list.changes ≡ false → Comes (unload_turn cs header) nodes cs (unloaded header (first_with header list.images)).outcome (with_unload list (place_of header list.images))
+pub unload_comes : (list : ListValue) (nodes header : ℕ) (cs : List Change) → IsAfter list nodes cs → nat_le MOST_CHANGES list.changes ≡ false → Comes (unload_turn cs header) nodes cs (unloaded header (first_with header list.images)).outcome (with_unload list (place_of header list.images))
 unload_comes list nodes header cs after worn =
-    let is : nat_le 4294967295 (length cs) ≡ false = rw after.counted at worn in
+    let is : nat_le MOST_CHANGES (length cs) ≡ false = rw after.counted at worn in
     let first : first_with header list.images ≡ first_with header (list_after cs) = ap (first_with header) after.images in
     let place : place_of header list.images ≡ place_of header (list_after cs) = ap (place_of header) after.images in
     let turn = unloaded header (first_with header (list_after cs)) in

@@ -25,7 +25,7 @@ use Rattle.plcr_encode.proofs.Lengths.{number_short, bytes_short}
 use Rattle.plcr_decode.specs.Fits.{TypedRegister, TypedThread, TypedProcessor, TypedImage, TypedReport}
 use Rattle.plcr_decode.specs.Reads.{reads}
 use Rattle.plcr_decode.proofs.Bounds.{file_again}
-use Rattle.plcr_tool.specs.Handed.{IsHandedContext, IsHandedState, AreHandedThreads, IsHandedImage, AreHandedImages}
+use Rattle.plcr_tool.specs.Laws.{IsHandedContext, IsHandedState, AreHandedThreads, IsHandedImage, AreHandedImages}
 
 -- fields that are spelt in at most so many bytes
 pub record AtMost (n : ℕ) (fs : List Field) : Type 0 where

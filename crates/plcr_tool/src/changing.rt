@@ -2,13 +2,11 @@
 ghost use Rattle.std.specs.Prelude.{ℕ, List};
 ghost use Rattle.plcr_script.specs.Changes.{Change};
 ghost use Rattle.plcr_script.specs.Runs.{load_turn, unload_turn};
-ghost use Rattle.plcr_tool.specs.Listing.{IsAfter, Comes};
+ghost use Rattle.plcr_tool.specs.inner.Changing.{IsAfter, Comes};
 
 use crate::list::ImageList;
+use plcr_base::IMAGE_NAME_BYTES;
 use plcr_script::{Outcome, Process};
-
-/// The most bytes of an image's name.
-const NAME_BYTES: usize = 1024;
 
 /// Loads an image, unless that is refused.
 pub(crate) fn load<P: Process>(
@@ -28,7 +26,7 @@ pub(crate) fn load<P: Process>(
             changes: list.changes(),
         };
     }
-    if name.len() > NAME_BYTES {
+    if name.len() > IMAGE_NAME_BYTES {
         return Outcome::Long { len: name.len() };
     }
     if list.is_full() {

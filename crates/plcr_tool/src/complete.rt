@@ -4,26 +4,32 @@ ghost use Rattle.plcr_tool.specs.Complete.{
   ReportsAreComplete,
   CoreRefusalsAreExact,
   ScriptRefusalsAreExact,
+  LongJobsAreRefused,
   WordsReport,
   ShownReportsAreComplete,
   ReportRefusalsAreExact,
+  LongReportsAreRefused,
   WordsShow,
 };
 
 /// On a core and a script that can be taken, `report` has status 0 with all files and lines, or 7, where no
 /// output and no line fails. Where they can be taken, status 3 comes exactly for what is no core and 4 for
-/// what is no script behind a core, but for want of memory.
+/// what is no script behind a core, but for want of memory. The first file that is too long is refused with
+/// status 2 and its line, but for want of memory, where the files before it can be taken and no take fails.
 pub fn reports_are_complete()
     ensures complete { ReportsAreComplete }
     ensures no_core { CoreRefusalsAreExact }
     ensures no_script { ScriptRefusalsAreExact }
+    ensures too_long { LongJobsAreRefused }
     ensures words { WordsReport }
 {}
 
 /// On a report that can be taken, `show` has status 0 with its text, or 7, where no line fails. Where the
-/// file can be taken, status 6 comes exactly for what is no report, but for want of memory.
+/// file can be taken, status 6 comes exactly for what is no report, but for want of memory. One that is too
+/// long is refused with status 2 and its line, but for want of memory, where its take doesn't fail.
 pub fn shown_reports_are_complete()
     ensures complete { ShownReportsAreComplete }
     ensures no_report { ReportRefusalsAreExact }
+    ensures too_long { LongReportsAreRefused }
     ensures words { WordsShow }
 {}

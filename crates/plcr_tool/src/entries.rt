@@ -1,7 +1,7 @@
 //! Images of a run's list, each with the number of its load.
 ghost use Rattle.std.specs.Prelude.{◌≡◌, map};
 ghost use Rattle.std.proofs.Common.{refl, ◌∙◌};
-ghost use Rattle.plcr_tool.specs.Listing.{listed_by};
+ghost use Rattle.plcr_tool.specs.inner.List.{listed_by};
 
 use plcr_macho::{Images, ListImages, PlainImage};
 use std::slice;

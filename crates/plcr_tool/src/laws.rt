@@ -1,4 +1,4 @@
-//! What is written is read again, and what a command makes is what the run of its script comes to.
+//! What is written is read again.
 ghost use Rattle.std.specs.Prelude.{◌≡◌, List, Ok};
 ghost use Rattle.plcr_regs.specs.declared.registers.Registers as state;
 ghost use Rattle.plcr_memory.specs.Regions.{Contents};
@@ -9,8 +9,7 @@ ghost use Rattle.plcr_report.specs.Spelling.{spelling_of};
 ghost use Rattle.plcr_encode.specs.declared.context.Context as context;
 ghost use Rattle.plcr_encode.specs.Values.{report_of, process_report};
 ghost use Rattle.plcr_decode.specs.Reads.{reads};
-ghost use Rattle.plcr_tool.specs.Steps.{StepsKeepTheRunsFiles, StepsLogTheRun};
-ghost use Rattle.plcr_tool.specs.Handed.{IsHandedContext, AreHandedThreads, AreHandedImages, AreHandedListed};
+ghost use Rattle.plcr_tool.specs.Laws.{IsHandedContext, AreHandedThreads, AreHandedImages, AreHandedListed};
 
 /// The file of each report that a capture may write spells that report: whatever context, threads and images
 /// are handed in, it is what a reader of the file gets.
@@ -26,11 +25,4 @@ pub fn captured_reports_are_read()
     ensures { (about : context.Context) → (threads : List state.Registers) → (memory : Contents) → (listed : List Listed)
         → IsHandedContext about → AreHandedThreads about threads → IsBytes memory.file → AreHandedListed listed
         → reads (spelling_of (process_report about threads memory listed)) ≡ Ok (process_report about threads memory listed) }
-{}
-
-/// The steps of which a command says that they were done keep just the files of the script's run, and their lines are
-/// its log.
-pub fn steps_are_the_run()
-    ensures files { StepsKeepTheRunsFiles }
-    ensures log { StepsLogTheRun }
 {}

@@ -1,9 +1,11 @@
 //! The list of images that a run keeps. It takes all its room when it is made.
 ghost use Rattle.std.specs.Prelude.{◌≡◌, ◌≤◌, ◌+◌, ◌==◌, false, position, vec_len, IfOk};
 ghost use Rattle.std.specs.Vec.{vec_capacity};
+ghost use Rattle.plcr_base.specs.Limits.{IsImageName};
 
 use crate::entries::{Entries, Entry};
 use arrayvec::ArrayVec;
+use plcr_machine::MOST_CHANGES;
 use plcr_macho::{Images, PlainImage};
 use std::alloc::{AllocError, Global};
 use std::marker::Model;
@@ -21,7 +23,7 @@ pub struct ImageList {
 impl Model for ImageList {
     ghost use Rattle.std.specs.Prelude.{map, vec_len};
     ghost use Rattle.std.specs.Vec.{vec_capacity};
-    ghost use Rattle.plcr_tool.specs.Listing.{ListValue, list_value, loaded_of, HasRoom};
+    ghost use Rattle.plcr_tool.specs.inner.List.{ListValue, list_value, loaded_of, HasRoom};
 
     ghost Value = { ListValue };
 
@@ -33,7 +35,7 @@ impl Model for ImageList {
 impl ImageList {
     ghost use Rattle.std.specs.Prelude.{◌<◌, ◌^◌, [], length, nat_le, option_map};
     ghost use Rattle.plcr_script.specs.Changes.{place_of, first_with};
-    ghost use Rattle.plcr_tool.specs.Listing.{list_value, listed, with_load, with_unload, AreShort};
+    ghost use Rattle.plcr_tool.specs.inner.List.{list_value, listed, with_load, with_unload, AreShort};
 
     /// The empty list, with all its room.
     pub(crate) fn open(alloc: Global, nodes: u32) -> Result<ImageList, AllocError>
@@ -74,9 +76,9 @@ impl ImageList {
 
     /// Whether no more changes can be counted.
     pub(crate) fn is_worn(&self) -> bool
-        ensures { result ≡ nat_le 4294967295 self.now.changes }
+        ensures { result ≡ nat_le MOST_CHANGES self.now.changes }
     {
-        self.changes == u32::MAX
+        self.changes == MOST_CHANGES
     }
 
     /// Whether there is no room.
@@ -88,9 +90,9 @@ impl ImageList {
 
     /// Loads an image, and gives the number of the load.
     pub(crate) fn load(&mut self, header: u64, name: &[u8]) -> u32
-        requires worn { nat_le 4294967295 self.old.changes ≡ false }
+        requires worn { nat_le MOST_CHANGES self.old.changes ≡ false }
         requires full { (length self.old.images == self.old.nodes) ≡ false }
-        requires name { length name.now ≤ 1024 }
+        requires name { IsImageName name.now }
         ensures load { result ≡ self.old.loads + 1 }
         ensures list { self.new ≡ with_load self.old (record { header = header; name = name.now }) }
     {
@@ -116,7 +118,7 @@ impl ImageList {
 
     /// Unloads the first image with a header, if there is one, and gives the number of its load.
     pub(crate) fn unload(&mut self, header: u64) -> Option<u32>
-        requires { nat_le 4294967295 self.old.changes ≡ false }
+        requires { nat_le MOST_CHANGES self.old.changes ≡ false }
         ensures load { result ≡ option_map (λ loaded. loaded.load) (first_with header self.old.images) }
         ensures list { self.new ≡ with_unload self.old (place_of header self.old.images) }
     {

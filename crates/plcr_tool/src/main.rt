@@ -3,35 +3,25 @@
 
 mod changing;
 mod complete;
-mod ending;
 mod entries;
-mod files;
 #[cfg(test)]
 mod fixtures;
 #[cfg(test)]
 mod image_tests;
 mod laws;
 mod list;
-mod preparing;
-mod print;
-mod process;
-mod refusals;
-mod refusing;
 mod report;
 mod running;
-mod saving;
 mod show;
 #[cfg(test)]
 mod show_tests;
 mod stepping;
-mod taking;
 #[cfg(test)]
 mod tests;
 mod top;
 
-use ending::{Ending, status};
+use plcr_command::{Ending, Refusal, status};
 use plcr_io::{HostDesk, HostOut};
-use refusals::Refusal;
 use std::process::ExitCode;
 use std::{env, io};
 

@@ -1,11 +1,11 @@
 //! Running a script on a process.
 ghost use Rattle.std.specs.Prelude.{◌≡◌, [], OnOk, OnErr};
 ghost use Rattle.plcr_script.specs.Lawful.{IsLawful};
-ghost use Rattle.plcr_script.specs.Runs.{meanings};
-ghost use Rattle.plcr_tool.specs.Seen.{seen};
-ghost use Rattle.plcr_tool.specs.Listing.{list_value};
-ghost use Rattle.plcr_tool.specs.Steps.{steps_of};
-ghost use Rattle.plcr_tool.specs.Endings.{IsDone, IsStopped, GoesOn};
+ghost use Rattle.plcr_script.specs.Runs.{meanings, run_of};
+ghost use Rattle.plcr_command.specs.Seen.{seen};
+ghost use Rattle.plcr_command.specs.Endings.{GoesOn};
+ghost use Rattle.plcr_tool.specs.Report.{IsDone, IsStopped};
+ghost use Rattle.plcr_tool.specs.inner.List.{list_value};
 
 use crate::list::ImageList;
 use crate::stepping::{Stop, take_step};
@@ -25,10 +25,10 @@ pub(crate) fn run<P: Process, D: Desk, L: Sink>(
     requires context { P.accepts process.now context.now }
     requires lawful { IsLawful script.now }
     requires empty { list.old ≡ list_value script.now.nodes [] 0 0 }
-    ensures done { OnOk result (IsDone (steps_of (meanings (P.image_fault process.now) (P.report process.now context.now)) script.now)
+    ensures done { OnOk result (IsDone (run_of (meanings (P.image_fault process.now) (P.report process.now context.now)) script.now)
         (seen (D.told desk.old) (L.written lines.old) (L.faults lines.old))
         (seen (D.told desk.new) (L.written lines.new) (L.faults lines.new))) }
-    ensures stopped { OnErr result (IsStopped (steps_of (meanings (P.image_fault process.now) (P.report process.now context.now)) script.now)
+    ensures stopped { OnErr result (IsStopped (run_of (meanings (P.image_fault process.now) (P.report process.now context.now)) script.now)
         (seen (D.told desk.old) (L.written lines.old) (L.faults lines.old))
         (seen (D.told desk.new) (L.written lines.new) (L.faults lines.new))) }
     ensures goes_on { GoesOn

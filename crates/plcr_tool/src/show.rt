@@ -1,16 +1,12 @@
 //! The command `show REPORT`.
-ghost use Rattle.std.specs.Prelude.{◌≡◌, [], ◌∷◌, MatchResult, Ok};
-ghost use Rattle.plcr_decode.specs.Reads.{reads};
-ghost use Rattle.plcr_tool.specs.Seen.{seen};
-ghost use Rattle.plcr_tool.specs.Files.{MadeNothing};
-ghost use Rattle.plcr_tool.specs.Refusals.{IsReport, Refuses, ReportMisread, shown_files};
-ghost use Rattle.plcr_tool.specs.Commands.{Goes, ShowDoes, Shows};
+ghost use Rattle.std.specs.Prelude.{◌≡◌, [], ◌∷◌, MatchResult};
+ghost use Rattle.plcr_command.specs.Seen.{seen};
+ghost use Rattle.plcr_command.specs.Taking.{MadeNothing};
+ghost use Rattle.plcr_command.specs.Refusals.{IsRead, Refuses};
+ghost use Rattle.plcr_command.specs.Endings.{Goes};
+ghost use Rattle.plcr_tool.specs.Show.{IsReport, ReportMisread, ShowDoes, Shows, shown_files};
 
-use crate::ending::{Ending, status};
-use crate::files::report_file;
-use crate::refusals::Refusal;
-use crate::refusing::refuse;
-use crate::taking::take_file;
+use plcr_command::{Ending, Refusal, refuse, report_file, status, take_file};
 use plcr_decode::{DecodeFault, decode, write_text};
 use plcr_io::{Desk, PutFailed, Sink};
 use plcr_report::Report;
@@ -65,7 +61,7 @@ fn read_report<'a, D: Desk>(
     desk: &mut D,
 ) -> Result<Report, Refusal<'a>>
     ensures read { MatchResult result
-        (IsReport report.now (D.told desk.old) (D.told desk.new))
+        (IsRead IsReport (shown_files report.now) (D.told desk.old) (D.told desk.new))
         (Refuses ReportMisread (shown_files report.now) (D.told desk.old) (D.told desk.new)) }
     ensures nothing { MadeNothing (D.told desk.old) (D.told desk.new) }
 {
@@ -75,7 +71,7 @@ fn read_report<'a, D: Desk>(
 
 /// The report that the bytes are.
 fn report_of<'a>(alloc: Global, bytes: &[u8]) -> Result<Report, Refusal<'a>>
-    ensures { MatchResult result (λ value. reads bytes.now ≡ Ok value) (ReportMisread (bytes.now ∷ [])) }
+    ensures { MatchResult result (IsReport (bytes.now ∷ [])) (ReportMisread (bytes.now ∷ [])) }
 {
     match decode(alloc, bytes) {
         Ok(report) => Ok(report),

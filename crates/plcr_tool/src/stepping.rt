@@ -1,20 +1,20 @@
 //! One step of a run: what a statement comes to, its file if it writes one, and its line of the log.
-ghost use Rattle.std.specs.Prelude.{◌≡◌, ◌≤◌, ℕ, List, None, IsTrue, length};
+ghost use Rattle.std.specs.Prelude.{◌≡◌, ◌≤◌, [], ◌∷◌, ℕ, List, None, IsTrue, length};
 ghost use Rattle.plcr_io.specs.Desk.{Told};
 ghost use Rattle.plcr_script.specs.Sayings.{is_file_name};
 ghost use Rattle.plcr_script.specs.Lawful.{IsFitStatement};
 ghost use Rattle.plcr_script.specs.Changes.{Change};
 ghost use Rattle.plcr_script.specs.Runs.{meanings, turn_of};
 ghost use Rattle.plcr_script.specs.Log.{log_line};
-ghost use Rattle.plcr_tool.specs.Seen.{seen};
-ghost use Rattle.plcr_tool.specs.Listing.{IsAfter, listed};
-ghost use Rattle.plcr_tool.specs.Steps.{line_step, report_step};
-ghost use Rattle.plcr_tool.specs.Endings.{StepEnds, TurnEnds, GoesOn};
+ghost use Rattle.plcr_command.specs.Seen.{seen};
+ghost use Rattle.plcr_command.specs.Endings.{GoesOn};
+ghost use Rattle.plcr_tool.specs.inner.Changing.{IsAfter};
+ghost use Rattle.plcr_tool.specs.inner.List.{listed};
+ghost use Rattle.plcr_tool.specs.inner.Stepping.{StepEnds, TurnEnds, report_line};
 
 use crate::changing::{load, unload};
 use crate::list::ImageList;
-use crate::print::print_line;
-use crate::saving::{Unsaved, save};
+use plcr_command::{Unsaved, print_unwritten, save_report};
 use plcr_encode::Context;
 use plcr_io::{Desk, PutFailed, Sink};
 use plcr_script::{Outcome, Process, Statement, write_outcome};
@@ -67,7 +67,7 @@ pub(crate) fn take_step<P: Process, D: Desk, L: Sink>(
 
 /// Prints the line of a statement that writes no file.
 fn tell<L: Sink>(number: u32, outcome: &Outcome, lines: &mut L) -> Result<(), Stop>
-    ensures ends { (desk : Told) → StepEnds result (line_step (log_line None number outcome.now))
+    ensures ends { (desk : Told) → StepEnds result [] (log_line None number outcome.now)
         (seen desk (L.written lines.old) (L.faults lines.old))
         (seen desk (L.written lines.new) (L.faults lines.new)) }
     ensures later { L.faults lines.old ≤ L.faults lines.new }
@@ -91,7 +91,9 @@ fn report<P: Process, D: Desk, L: Sink>(
 ) -> Result<(), Stop>
     requires context { P.accepts process.now context.now }
     requires named { IsTrue (is_file_name file.now) }
-    ensures ends { StepEnds result (report_step number file.now (P.report process.now context.now (listed list.now.images)) (length list.now.images) list.now.changes)
+    ensures ends { StepEnds result
+        ((file.now, P.report process.now context.now (listed list.now.images)) ∷ [])
+        (report_line number file.now (P.report process.now context.now (listed list.now.images)) (length list.now.images) list.now.changes)
         (seen (D.told desk.old) (L.written lines.old) (L.faults lines.old))
         (seen (D.told desk.new) (L.written lines.new) (L.faults lines.new)) }
     ensures goes_on { GoesOn
@@ -100,9 +102,9 @@ fn report<P: Process, D: Desk, L: Sink>(
     ensures mark { L.mark lines.new ≡ L.mark lines.old }
 {
     let mut images = list.images();
-    match save(file_name(file), process, context, &mut images, desk) {
+    match save_report(file_name(file), process, context, &mut images, desk) {
         Err(Unsaved) => {
-            print_line(lines, b"cannot write ", file, b"\n");
+            print_unwritten(lines, file);
             Err(Stop::Unwritten)
         }
         Ok(bytes) => {

@@ -1,14 +1,12 @@
 //! The command line.
 ghost use Rattle.std.specs.Prelude.{◌≡◌, ◌≤◌, map, string_bytes};
 ghost use Rattle.plcr_base.specs.Told.{Prints};
-ghost use Rattle.plcr_tool.specs.Lines.{usage_line};
-ghost use Rattle.plcr_tool.specs.Seen.{seen};
-ghost use Rattle.plcr_tool.specs.Commands.{TopDoes};
+ghost use Rattle.plcr_command.specs.Seen.{seen};
+ghost use Rattle.plcr_tool.specs.Top.{TopDoes, usage_line};
 
-use crate::ending::{Ending, status};
-use crate::print::print_line;
 use crate::report::report_command;
 use crate::show::show_command;
+use plcr_command::{Ending, print_line, status};
 use plcr_io::{Desk, Sink};
 use std::alloc::Global;
 

@@ -1,10 +1,10 @@
-use Rattle.plcr_tool.proofs.Takings.{still_refused}
+use Rattle.plcr_command.proofs.Takings.{still_refused}
 use Rattle.plcr_tool.proofs.Ended.{reports_run}
 use Rattle.plcr_tool.proofs.report.report.Goals as goal
 
 pub returns-in-Ok-clause-did : goal.returns-in-Ok-clause-did
 returns-in-Ok-clause-did g c =
-    reports_run _ _ c.in-Ok.job c.run_job.result _ _ _ _ _ _ _ c.in-Ok.ensures.read c.prepare.ensures.nothing c.run_job.ensures.goes_on.desk.taken c.run_job.ensures.ends
+    reports_run _ _ c.in-Ok.prepared.job c.run_prepared.result _ _ _ _ _ _ _ c.in-Ok.ensures.read c.prepare.ensures.nothing c.run_prepared.ensures.goes_on.desk.taken c.run_prepared.ensures.ends
 
 pub returns-in-Err-clause-did : goal.returns-in-Err-clause-did
 returns-in-Err-clause-did g c = record {

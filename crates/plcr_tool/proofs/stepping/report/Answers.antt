@@ -2,12 +2,12 @@ use Rattle.plcr_tool.proofs.Stepped.{step_done, step_unprinted, step_unwritten}
 use Rattle.plcr_tool.proofs.Contexts.{namable}
 use Rattle.plcr_tool.proofs.stepping.report.Goals as goal
 
-pub save-requires-clause-images : goal.save-requires-clause-images
-save-requires-clause-images g c = rw c.images-images.ensures.images (namable c.args.list.now.images c.images-images.ensures.short c.images-images.ensures.few)
+pub save_report-requires-clause-images : goal.save_report-requires-clause-images
+save_report-requires-clause-images g c = rw c.images-images.ensures.images (namable c.args.list.now.images c.images-images.ensures.short c.images-images.ensures.few)
 
 pub returns-in-Err-clause-ends : goal.returns-in-Err-clause-ends
 returns-in-Err-clause-ends g c =
-    rw (← c.images-images.ensures.images) (step_unwritten _ _ c.args.number _ _ _ _ c.args.file.now _ _ _ _ c.in-Err.ensures.unsaved c.file_name.ensures c.print_line.ensures.printed)
+    rw (← c.images-images.ensures.images) (step_unwritten _ _ _ _ c.args.file.now _ _ _ _ c.in-Err.ensures.unsaved c.file_name.ensures c.print_unwritten.ensures.printed)
 
 pub returns-in-Ok-write_outcome-clause-ends : goal.returns-in-Ok-write_outcome-clause-ends
 returns-in-Ok-write_outcome-clause-ends g c =

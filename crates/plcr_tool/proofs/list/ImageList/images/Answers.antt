@@ -1,6 +1,6 @@
 use Rattle.std.proofs.Common.{arith}
 use Rattle.std.proofs.lemmas.List.{length-map}
-use Rattle.plcr_tool.specs.Listing.{loaded_of}
+use Rattle.plcr_tool.specs.inner.List.{loaded_of}
 use Rattle.plcr_tool.proofs.Places.{listed_entries}
 use Rattle.plcr_tool.proofs.list.ImageList.images.Goals as goal
 

@@ -1,6 +1,6 @@
 use Rattle.std.proofs.Common.{◌≡◌, Some, None, map, arith, sym, ◌∙◌, refl}
 use Rattle.plcr_script.specs.Changes.{place_of}
-use Rattle.plcr_tool.specs.Listing.{loaded_of}
+use Rattle.plcr_tool.specs.inner.List.{loaded_of}
 use Rattle.plcr_tool.proofs.Places.{place_in, remove_map, short_without, load_in}
 use Rattle.plcr_tool.proofs.list.ImageList.unload.Goals as goal
 

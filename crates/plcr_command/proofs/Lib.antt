@@ -1,0 +1,6 @@
+pub mod Exact
+pub mod Kept
+pub mod Numbered
+pub mod Offered
+pub mod Reported
+pub mod Takings

@@ -1,0 +1,11 @@
+pub mod Complete
+pub mod Endings
+pub mod Files
+pub mod Jobs
+pub mod Lines
+pub mod Process
+pub mod Refusals
+pub mod Saving
+pub mod Seen
+pub mod Taking
+pub mod inner

@@ -1,0 +1,44 @@
+-- What is handed in for a report: each number has the width of its type, and names and uuids have lawful lengths.
+use Rattle.std.specs.Prelude.{◌≡◌, ◌^◌, ◌<◌, ◌≤◌, List, length, All, IfSome}
+use Rattle.std.specs.List.{AllByRecursion}
+use Rattle.plcr_base.specs.Limits.{IsImageName}
+use Rattle.plcr_regs.specs.declared.registers.Registers.{Registers}
+use Rattle.plcr_report.specs.declared.messages.Image.{Image}
+use Rattle.plcr_decode.specs.Fits.{TypedProcessor}
+use Rattle.plcr_encode.specs.declared.context.Context.{Context}
+use Rattle.plcr_macho.specs.Images.{Listed}
+use Rattle.plcr_encode.specs.Conditions.{AreWhole, AreNamable, IsWritable}
+
+-- a context that can be written
+pub record IsHandedContext (context : Context) : Type 0 where
+  pub writable : IsWritable context
+  pub address : context.address < 2 ^ 64
+  pub pid : context.pid < 2 ^ 32
+  pub ppid : context.ppid < 2 ^ 32
+
+-- a state whose known registers have 64 bits
+abbrev pub IsHandedState : Registers → Type 0
+IsHandedState state = AllByRecursion (λ value. IfSome value (λ n. n < 2 ^ 64)) state.value
+
+-- whole states of the context's architecture, fewer than 2^32
+pub record AreHandedThreads (context : Context) (threads : List Registers) : Type 0 where
+  pub whole : AreWhole context.arch threads
+  pub each : AllByRecursion IsHandedState threads
+
+-- an image: its name is within its limit, and its uuid has 16 bytes
+pub record IsHandedImage (image : Image) : Type 0 where
+  pub base_address : image.base_address < 2 ^ 64
+  pub size : image.size < 2 ^ 64
+  pub name : IsImageName image.name
+  pub uuid : IfSome image.uuid (λ bytes. length bytes ≡ 16)
+  pub code_type : IfSome image.code_type TypedProcessor
+
+-- images, fewer than 2^32
+pub record AreHandedImages (images : List Image) : Type 0 where
+  pub each : AllByRecursion IsHandedImage images
+  pub few : length images < 2 ^ 32
+
+-- loaded images that can be written, each at an address of 64 bits
+pub record AreHandedListed (listed : List Listed) : Type 0 where
+  pub namable : AreNamable listed
+  pub headers : All (λ (l : Listed). l.header < 2 ^ 64) listed

@@ -1,0 +1,42 @@
+-- The words of the command line: the command that they choose, and what the program does for them.
+use Rattle.std.specs.Prelude.{◌≡◌, ℕ, List, [], ◌∷◌, codes, if◌then◌else◌}
+use Rattle.std.specs.Str.{bytes_eq}
+use Rattle.plcr_base.specs.Told.{Prints}
+use Rattle.plcr_command.specs.declared.endings.Ending.{Ending}
+use Rattle.plcr_command.specs.declared.endings.Ending.TheVariants.{Misused}
+use Rattle.plcr_command.specs.Seen.{Seen}
+use Rattle.plcr_command.specs.Endings.{Ended}
+use Rattle.plcr_tool.specs.Report.{Reports}
+use Rattle.plcr_tool.specs.Show.{Shows}
+
+-- the command that the words ask for; `Usage` where they fit no form
+pub data Form : Type 0 where
+  Report : (core script : List ℕ) → Form
+  Show : (report : List ℕ) → Form
+  Usage : Form
+
+-- `report CORE SCRIPT`, `show REPORT`, and nothing else
+abbrev pub form_of : List (List ℕ) → Form
+form_of (word ∷ report ∷ []) = if bytes_eq word (codes "show") then Show report else Usage
+form_of (word ∷ core ∷ script ∷ []) = if bytes_eq word (codes "report") then Report core script else Usage
+form_of words = Usage
+
+-- the command forms, in one line
+abbrev pub usage_line : List ℕ
+usage_line = codes "usage: report CORE SCRIPT / show REPORT / make N CORE SCRIPT / threads CORE SCRIPT...\n"
+
+-- the usage line was printed, and the desk wasn't touched
+pub record IsMisused (old new : Seen) : Type 0 where
+  pub desk : new.desk ≡ old.desk
+  pub printed : Prints old.lines new.lines usage_line old.line_faults new.line_faults
+
+-- what the program did for words of this form, where it ended so
+abbrev pub Does : Form → Seen → Seen → Ending → Type 0
+Does (Report core script) old new ending = Reports core script old new ending
+Does (Show report) old new ending = Shows report old new ending
+Does Usage old new Misused = IsMisused old new
+Does Usage old new ending = ⊥
+
+-- what the program does for its words
+abbrev pub TopDoes : List (List ℕ) → Seen → Seen → ℕ → Type 0
+TopDoes words old new status = Ended (Does (form_of words) old new) status old new
