@@ -7,13 +7,15 @@ use Rattle.plcr_script.specs.declared.keys.NumberKey.{NumberKey}
 use Rattle.plcr_script.specs.declared.keys.NumberKey.TheVariants.{Os, Timestamp, Address, Pid, Ppid, Crashed, User}
 use Rattle.plcr_script.specs.declared.keys.TextKey.{TextKey}
 use Rattle.plcr_script.specs.declared.keys.TextKey.TheVariants.{OsVersion, Identifier, Version, Signal, Code, Process}
+use Rattle.plcr_script.specs.declared.modes.Mode.{Mode}
 use Rattle.plcr_script.specs.declared.statements.NumberedStatement.{NumberedStatement}
 use Rattle.plcr_script.specs.Keys.{limit_of, with_number, with_text}
 use Rattle.plcr_script.specs.Scripts.{ScriptValue}
 use Rattle.plcr_script.specs.Sayings.{Saying, Sizes, Number, Words, States}
 use Rattle.plcr_script.specs.Reading.{no_lines, with_saying}
 use Rattle.plcr_script.specs.Contexts.{context_of}
-use Rattle.plcr_script.specs.Lawful.{IsFit, IsFitStatement, IsLawful}
+use Rattle.plcr_script.specs.Lawful.{IsFitStatement, IsLawful}
+use Rattle.plcr_script.specs.inner.Fits.{IsFit}
 
 -- the values with another number can be written
 number_writable : (script : ScriptValue) (key : NumberKey) (n : ℕ) (arch : Arch) → n < limit_of key → IsWritable (context_of script arch) → IsWritable (context_of (record script { values = with_number key n script.values }) arch)
@@ -35,8 +37,8 @@ text_writable script Code text arch fits w = record { os = w.os; timestamp = w.t
 text_writable script Process text arch fits w = record { os = w.os; timestamp = w.timestamp; os_version = w.os_version; identifier = w.identifier; version = w.version; signal = w.signal; code = w.code; process = fits }
 
 -- the script of no lines is lawful
-pub lawful_at_first : IsLawful no_lines.script
-lawful_at_first = record {
+pub lawful_at_first : (mode : Mode) (before : List ScriptValue) → IsLawful (no_lines mode before).script
+lawful_at_first mode before = record {
   sizes = (omega arith, omega arith, omega arith, omega arith);
   statements = All-nil (λ (s : NumberedStatement). IsFitStatement s.statement);
   writable = λ arch. record {

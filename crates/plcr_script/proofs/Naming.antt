@@ -1,13 +1,14 @@
--- The files that statements write, and the set of them.
-use Rattle.std.proofs.Common.{◌≡◌, ℕ, Bool, true, false, cond, List, [], ◌∷◌, ◌++◌, Some, None, refl, sym, ◌∙◌, ap, ◌||◌}
+-- The files that statements and scripts write, and sets of them.
+use Rattle.std.proofs.Common.{◌≡◌, ℕ, Bool, true, false, cond, List, [], ◌∷◌, ◌++◌, Option, Some, None, refl, sym, ◌∙◌, ap, subst, append_assoc, take, length, get_or, ◌+◌, ◌<◌, ◌||◌}
+use Rattle.std.specs.Prelude.{option_to_list}
 use Rattle.std.specs.List.{list_any}
-use Rattle.std.proofs.lemmas.List.{append-nil}
+use Rattle.std.proofs.lemmas.List.{append-nil, take_more}
 use Rattle.std.proofs.lemmas.List.Elements.{filter_map-append}
 use Rattle.std.proofs.lemmas.List.Folds.{list_any-append}
 use Rattle.std.specs.Str.{bytes_eq}
 use Rattle.std.specs.BTreeSet.{BTreeSet}
 use denote.Ref.{Bor}
-use Rattle.plcr_script.specs.Names.{has, IsIndex}
+use Rattle.plcr_script.specs.inner.Names.{has, IsIndex}
 use Rattle.plcr_script.specs.declared.statements.NumberedStatement.{NumberedStatement}
 use Rattle.plcr_script.specs.Reading.{file_of, files_of, is_named}
 
@@ -23,27 +24,41 @@ or_last true false = refl
 or_last false true = refl
 or_last false false = refl
 
--- a statement that writes no file names none
-pub named_same : (file : List ℕ) (earlier : List NumberedStatement) (s : NumberedStatement) → file_of s.statement ≡ None → is_named file (earlier ++ s ∷ []) ≡ is_named file earlier
+-- the files of statements with one more
+pub files_more : (xs : List NumberedStatement) (x : NumberedStatement) → files_of (xs ++ x ∷ []) ≡ files_of xs ++ files_of (x ∷ [])
+files_more xs x = filter_map-append (λ s. file_of s.statement) xs (x ∷ [])
+
+-- the same behind other files
+pub files_behind : (files : List (List ℕ)) (xs : List NumberedStatement) (x : NumberedStatement) → files ++ files_of (xs ++ x ∷ []) ≡ (files ++ files_of xs) ++ files_of (x ∷ [])
+files_behind files xs x = ap (λ (fs : List (List ℕ)). files ++ fs) (files_more xs x) ∙ sym (append_assoc files (files_of xs) (files_of (x ∷ [])))
+
+-- a set that gained a name is that of the files with one more
+pub index_more : (old new : BTreeSet (Bor (List ℕ))) (files : List (List ℕ)) (name : List ℕ) → IsIndex old files → ((q : List ℕ) → has new q ≡ (bytes_eq name q || has old q)) → IsIndex new (files ++ name ∷ [])
 unfolding is_named
-named_same file earlier s none =
-    ap (λ (names : List (List ℕ)). list_any (λ name. bytes_eq name file) names)
-    (filter_map-append (λ t. file_of t.statement) earlier (s ∷ []) ∙ rw none (append-nil (files_of earlier)))
+index_more old new files name index added q =
+    let p : List ℕ → Bool = λ file. bytes_eq file q in
+    added q ∙ ap (λ b. bytes_eq name q || b) (index q)
+    ∙ sym (list_any-append p files (name ∷ []) ∙ or_last (list_any p files) (bytes_eq name q))
 
--- one more statement that writes a file names it
-pub named_more : (file name : List ℕ) (earlier : List NumberedStatement) (s : NumberedStatement) → file_of s.statement ≡ Some name → is_named file (earlier ++ s ∷ []) ≡ (bytes_eq name file || is_named file earlier)
-unfolding is_named
-named_more file name earlier s some =
-    let p : List ℕ → Bool = λ written. bytes_eq written file in
-    ap (λ (names : List (List ℕ)). list_any p names) (filter_map-append (λ t. file_of t.statement) earlier (s ∷ []))
-    ∙ list_any-append p (files_of earlier) (files_of (s ∷ []))
-    ∙ rw some (or_last (list_any p (files_of earlier)) (bytes_eq name file))
+-- a set stays that of the files with those of no statement more
+pub index_same : (names : BTreeSet (Bor (List ℕ))) (files : List (List ℕ)) → IsIndex names files → IsIndex names (files ++ [])
+index_same names files index = subst (λ (fs : List (List ℕ)). IsIndex names fs) (sym (append-nil files)) index
 
--- the set of the files stays that of the statements with one more that writes none
-pub index_same : (names : BTreeSet (Bor (List ℕ))) (earlier : List NumberedStatement) (s : NumberedStatement) → IsIndex names earlier → file_of s.statement ≡ None → IsIndex names (earlier ++ s ∷ [])
-index_same names earlier s index none q = index q ∙ sym (named_same q earlier s none)
+-- the set of the files behind a statement that writes none, and behind one that writes a file
+pub index_behind : (names : BTreeSet (Bor (List ℕ))) (files : List (List ℕ)) (xs : List NumberedStatement) (x : NumberedStatement) → IsIndex names ((files ++ files_of xs) ++ files_of (x ∷ [])) → IsIndex names (files ++ files_of (xs ++ x ∷ []))
+index_behind names files xs x index = subst (λ (fs : List (List ℕ)). IsIndex names fs) (sym (files_behind files xs x)) index
 
--- a set that gained a name is that of the statements with one more that writes it
-pub index_more : (old new : BTreeSet (Bor (List ℕ))) (earlier : List NumberedStatement) (s : NumberedStatement) (name : List ℕ) → IsIndex old earlier → ((q : List ℕ) → has new q ≡ (bytes_eq name q || has old q)) → file_of s.statement ≡ Some name → IsIndex new (earlier ++ s ∷ [])
-index_more old new earlier s name index added some q =
-    added q ∙ ap (λ b. bytes_eq name q || b) (index q) ∙ sym (named_more q name earlier s some)
+-- the files of one statement
+pub files_one : (x : NumberedStatement) → files_of (x ∷ []) ≡ option_to_list (file_of x.statement)
+files_one x = of (file_of x.statement) refl
+  where
+    of : (file : Option (List ℕ)) → file_of x.statement ≡ file → files_of (x ∷ []) ≡ option_to_list file
+    of None h = rw h refl
+    of (Some file) h = rw h refl
+
+-- the set of the files behind some statements, and one statement more
+pub index_step : (names : BTreeSet (Bor (List ℕ))) (files : List (List ℕ)) (xs : List NumberedStatement) (i : ℕ) (x : NumberedStatement) → i < length xs → x ≡ get_or xs i x → IsIndex names ((files ++ files_of (take i xs)) ++ option_to_list (file_of x.statement)) → IsIndex names (files ++ files_of (take (i + 1) xs))
+index_step names files xs i x within is index =
+    let more : take (i + 1) xs ≡ take i xs ++ x ∷ [] = take_more xs i x within ∙ ap (λ (y : NumberedStatement). take i xs ++ y ∷ []) (sym is) in
+    let same = ap (λ (ys : List NumberedStatement). files ++ files_of ys) more ∙ files_behind files (take i xs) x ∙ ap (λ (fs : List (List ℕ)). (files ++ files_of (take i xs)) ++ fs) (files_one x) in
+    subst (λ (fs : List (List ℕ)). IsIndex names fs) (sym same) index

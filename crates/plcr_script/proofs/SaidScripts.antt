@@ -1,16 +1,18 @@
 -- What the lines of a script say, each by itself, makes the script.
-use Rattle.std.proofs.Common.{◌≡◌, ◌≢◌, ℕ, ◌+◌, ◌<◌, ◌^◌, Bool, true, false, List, [], ◌∷◌, ◌++◌, length, get_or, Some, None, Result, Ok, Err, refl, sym, ◌∙◌, ap, subst, append_assoc, arith, rules}
+use Rattle.std.proofs.Common.{◌≡◌, ◌≢◌, ℕ, ◌+◌, ◌<◌, ◌^◌, Bool, true, false, List, [], ◌∷◌, ◌++◌, length, get_or, Some, None, Result, Ok, Err, refl, sym, ◌∙◌, ap, subst, append_assoc, arith, rules, ◌||◌}
 use Rattle.std.specs.Prelude.{All, AllPairs, IsFalse, drop, nat_lt, codes, if◌then◌else◌}
 use Rattle.std.specs.List.{filter_map, list_any, fold}
 use Rattle.std.specs.Str.{bytes_eq}
 use Rattle.std.proofs.lemmas.Bool.{both_ways}
 use Rattle.std.proofs.lemmas.List.{append-nil}
-use Rattle.std.proofs.lemmas.List.Elements.{filter_map-append, All-nil, All-cons}
-use Rattle.std.proofs.lemmas.List.Folds.{list_any_at}
+use Rattle.std.proofs.lemmas.List.Elements.{All-nil, All-cons, All-push}
+use Rattle.std.proofs.lemmas.List.Folds.{list_any_at, list_any-append}
 use Rattle.std.proofs.lemmas.List.Quantifiers.{all_pairs_push}
 use Rattle.std.proofs.lemmas.Slice.Eq.{bytes_eq-Decides}
 use Rattle.plcr_script.specs.declared.statements.NumberedStatement.{NumberedStatement}
 use Rattle.plcr_script.specs.declared.values.DescriptiveValues.{DescriptiveValues}
+use Rattle.plcr_script.specs.declared.modes.Mode.{Mode}
+use Rattle.plcr_script.specs.declared.limits.TheConstants.{DEFAULT_PASSES}
 use Rattle.plcr_base.specs.Chains.{◌>>=◌}
 use Rattle.plcr_base.proofs.Chained.{bind_ok}
 use Rattle.plcr_script.specs.declared.faults.Kind.{Kind}
@@ -22,8 +24,9 @@ use Rattle.plcr_script.specs.Refusals.{only_if}
 use Rattle.plcr_script.specs.Values.{default_values}
 use Rattle.plcr_script.specs.Scripts.{ScriptValue}
 use Rattle.plcr_script.specs.Sayings.{Saying, Sizes, Number, Words, States, says_nothing, is_file_name, number_below, table_in, set_in, load_in, unload_in, report_in, saying_of, saying_in}
-use Rattle.plcr_script.specs.Reading.{DraftValue, no_lines, with_said, is_out_of_place, is_named, is_taken, with_lines, script_in, file_of, files_of}
+use Rattle.plcr_script.specs.Reading.{DraftValue, no_lines, with_said, is_out_of_place, is_named, is_taken, with_lines, script_in, file_of, files_of, written_by}
 use Rattle.plcr_script.specs.Laws.{NumberedSaying, said_by, sayings_from, statement_by, values_by, is_sizes, sizes_in, IsSaidBy}
+use Rattle.plcr_script.proofs.Naming.{files_more}
 use Rattle.plcr_script.proofs.WholeScripts.{Turn, Silent, Said, lines_turn}
 
 -- a line that says nothing, and one that says this
@@ -158,108 +161,136 @@ record Read (out : DraftValue) (n : ℕ) (texts : List (List ℕ)) : Type 0 wher
   whole : Whole out (sayings_from n passes texts)
 
 -- the first that is said
-first_said : (others : List (List ℕ)) (out : DraftValue) (n : ℕ) (line : List ℕ) (s : Saying) → says_nothing line ≡ false → saying_in 16 line ≡ Ok s → Later (with_said no_lines n s) out (sayings_from (n + 1) (with_said no_lines n s).script.passes others) → Read out n (line ∷ others)
-first_said others out n line (Sizes a b) h e l = record {
+first_said : (mode : Mode) (before : List ScriptValue) (others : List (List ℕ)) (out : DraftValue) (n : ℕ) (line : List ℕ) (s : Saying) → says_nothing line ≡ false → saying_in DEFAULT_PASSES line ≡ Ok s → Later (with_said (no_lines mode before) n s) out (sayings_from (n + 1) (with_said (no_lines mode before) n s).script.passes others) → Read out n (line ∷ others)
+first_said mode before others out n line (Sizes a b) h e l = record {
   passes = b;
   same = l.passes;
-  whole = subst (λ (ss : List NumberedSaying). Whole out ss) (sym (says_from b n line others (Sizes a b) h (sizes_free 16 b line a b e)))
+  whole = subst (λ (ss : List NumberedSaying). Whole out ss) (sym (says_from b n line others (Sizes a b) h (sizes_free DEFAULT_PASSES b line a b e)))
       (record { statements = l.statements; nodes = l.nodes; passes = l.passes; once = l.none; values = l.values });
 }
-first_said others out n line (Number key number) h e l = record {
-  passes = 16;
+first_said mode before others out n line (Number key number) h e l = record {
+  passes = DEFAULT_PASSES;
   same = l.passes;
-  whole = subst (λ (ss : List NumberedSaying). Whole out ss) (sym (says_from 16 n line others (Number key number) h e))
+  whole = subst (λ (ss : List NumberedSaying). Whole out ss) (sym (says_from DEFAULT_PASSES n line others (Number key number) h e))
       (record { statements = l.statements; nodes = l.nodes; passes = l.passes; once = l.none; values = l.values });
 }
-first_said others out n line (Words key text) h e l = record {
-  passes = 16;
+first_said mode before others out n line (Words key text) h e l = record {
+  passes = DEFAULT_PASSES;
   same = l.passes;
-  whole = subst (λ (ss : List NumberedSaying). Whole out ss) (sym (says_from 16 n line others (Words key text) h e))
+  whole = subst (λ (ss : List NumberedSaying). Whole out ss) (sym (says_from DEFAULT_PASSES n line others (Words key text) h e))
       (record { statements = l.statements; nodes = l.nodes; passes = l.passes; once = l.none; values = l.values });
 }
-first_said others out n line (States statement) h e l = record {
-  passes = 16;
+first_said mode before others out n line (States statement) h e l = record {
+  passes = DEFAULT_PASSES;
   same = l.passes;
-  whole = subst (λ (ss : List NumberedSaying). Whole out ss) (sym (says_from 16 n line others (States statement) h e))
+  whole = subst (λ (ss : List NumberedSaying). Whole out ss) (sym (says_from DEFAULT_PASSES n line others (States statement) h e))
       (record { statements = l.statements; nodes = l.nodes; passes = l.passes; once = l.none; values = l.values });
 }
 
-read_turn : (others : List (List ℕ)) (next out : DraftValue) (n : ℕ) (line : List ℕ) → Turn no_lines n line next → with_lines next (n + 1) others ≡ Ok out → (with_lines no_lines (n + 1) others ≡ Ok out → Read out (n + 1) others) → Read out n (line ∷ others)
-read_turn others next out n line (Silent h same) rest goes =
+read_turn : (mode : Mode) (before : List ScriptValue) (others : List (List ℕ)) (next out : DraftValue) (n : ℕ) (line : List ℕ) → Turn (no_lines mode before) n line next → with_lines next (n + 1) others ≡ Ok out → (with_lines (no_lines mode before) (n + 1) others ≡ Ok out → Read out (n + 1) others) → Read out n (line ∷ others)
+read_turn mode before others next out n line (Silent h same) rest goes =
     let r = goes (subst (λ (d : DraftValue). with_lines d (n + 1) others ≡ Ok out) same rest) in
     record {
       passes = r.passes;
       same = r.same;
       whole = subst (λ (ss : List NumberedSaying). Whole out ss) (sym (silent_from r.passes n line others h)) r.whole;
     }
-read_turn others next out n line (Said s h e place same) rest goes =
-    first_said others out n line s h e (later others (with_said no_lines n s) out (n + 1) refl (subst (λ (d : DraftValue). with_lines d (n + 1) others ≡ Ok out) same rest))
+read_turn mode before others next out n line (Said s h e place same) rest goes =
+    first_said mode before others out n line s h e (later others (with_said (no_lines mode before) n s) out (n + 1) refl (subst (λ (d : DraftValue). with_lines d (n + 1) others ≡ Ok out) same rest))
 
 -- the lines up to the first saying, and those behind it
-read_whole : (texts : List (List ℕ)) (out : DraftValue) (n : ℕ) → with_lines no_lines n texts ≡ Ok out → Read out n texts
+read_whole : (mode : Mode) (before : List ScriptValue) (texts : List (List ℕ)) (out : DraftValue) (n : ℕ) → with_lines (no_lines mode before) n texts ≡ Ok out → Read out n texts
 unfolding with_lines
-read_whole [] out n h =
-    let same : out ≡ no_lines = cc in
+read_whole mode before [] out n h =
+    let same : out ≡ no_lines mode before = cc in
     record {
-      passes = 16;
+      passes = DEFAULT_PASSES;
       same = ap (λ (d : DraftValue). d.script.passes) same;
       whole = subst (λ (d : DraftValue). Whole d []) (sym same) (record { statements = refl; nodes = refl; passes = refl; once = All-nil NoSizes; values = refl });
     }
-read_whole (line ∷ others) out n h =
-    let t = lines_turn no_lines out n line others h in
-    read_turn others t.0 out n line t.1 t.2 (λ k. read_whole others out (n + 1) k)
+read_whole mode before (line ∷ others) out n h =
+    let t = lines_turn (no_lines mode before) out n line others h in
+    read_turn mode before others t.0 out n line t.1 t.2 (λ k. read_whole mode before others out (n + 1) k)
 
--- the files of statements with one more
-abbrev AreApart : List NumberedStatement → Type 0
-AreApart statements = AllPairs (λ f g. f ≢ g) (files_of statements)
-
-files_more : (xs : List NumberedStatement) (x : NumberedStatement) → files_of (xs ++ x ∷ []) ≡ files_of xs ++ files_of (x ∷ [])
-files_more xs x = filter_map-append (λ s. file_of s.statement) xs (x ∷ [])
-
--- a file that isn't named yet is none of those before it
-apart_from : (earlier : List NumberedStatement) (file : List ℕ) → is_named file earlier ≡ false → (k : ℕ) (d : List ℕ) → k < length (files_of earlier) → get_or (files_of earlier) k d ≢ file
+-- a file that none of these is
+not_named : (names : List (List ℕ)) (file : List ℕ) → is_named file names ≡ false → (k : ℕ) (d : List ℕ) → k < length names → get_or names k d ≢ file
 unfolding is_named
-apart_from earlier file h k d lt same =
-    both_ways (list_any (λ name. bytes_eq name file) (files_of earlier)) h
-    (list_any_at (λ name. bytes_eq name file) (files_of earlier) k d lt ((bytes_eq-Decides (get_or (files_of earlier) k d) file).1 same))
+not_named names file h k d lt same =
+    both_ways (list_any (λ name. bytes_eq name file) names) h
+    (list_any_at (λ name. bytes_eq name file) names k d lt ((bytes_eq-Decides (get_or names k d) file).1 same))
 
-statement_apart : (earlier : List NumberedStatement) (line : ℕ) (s : Statement) → is_taken (file_of s) earlier ≡ false → AreApart earlier → AreApart (earlier ++ record { line = line; statement = s } ∷ [])
-statement_apart earlier line (Load header name) free apart = rw (files_more earlier (record { line = line; statement = Load header name }), append-nil (files_of earlier)) apart
-statement_apart earlier line (Unload header) free apart = rw (files_more earlier (record { line = line; statement = Unload header }), append-nil (files_of earlier)) apart
-statement_apart earlier line (Report pass file) free apart =
-    rw (files_more earlier (record { line = line; statement = Report pass file }))
-    (all_pairs_push (λ f g. f ≢ g) (files_of earlier) file apart (apart_from earlier file free))
+neither : (a b : Bool) → (a || b) ≡ false → (a ≡ false) × (b ≡ false)
+neither true b h = absurd cc
+neither false b h = (refl, h)
 
-said_apart : (draft : DraftValue) (n : ℕ) (s : Saying) → is_out_of_place draft s ≡ false → AreApart draft.script.statements → AreApart (with_said draft n s).script.statements
-said_apart draft n (Sizes a b) place apart = apart
-said_apart draft n (Number key number) place apart = apart
-said_apart draft n (Words key text) place apart = apart
-said_apart draft n (States statement) place apart = statement_apart draft.script.statements n statement place apart
+not_named_in : (file : List ℕ) (xs ys : List (List ℕ)) → is_named file (xs ++ ys) ≡ false → (is_named file xs ≡ false) × (is_named file ys ≡ false)
+unfolding is_named
+not_named_in file xs ys h = neither _ _ (sym (list_any-append (λ name. bytes_eq name file) xs ys) ∙ h)
 
-turn_apart : (draft next : DraftValue) (n : ℕ) (line : List ℕ) → Turn draft n line next → AreApart draft.script.statements → AreApart next.script.statements
-turn_apart draft next n line (Silent h same) apart = subst (λ (d : DraftValue). AreApart d.script.statements) (sym same) apart
-turn_apart draft next n line (Said s h e place same) apart = subst (λ (d : DraftValue). AreApart d.script.statements) (sym same) (said_apart draft n s place apart)
+-- no two statements of a draft write one file, and none writes that of a script before
+abbrev Differs : List (List ℕ) → List ℕ → Type 0
+Differs names file = All (λ name. file ≢ name) names
 
-lines_apart : (texts : List (List ℕ)) (draft out : DraftValue) (n : ℕ) → with_lines draft n texts ≡ Ok out → AreApart draft.script.statements → AreApart out.script.statements
+record AreApart (before : List (List ℕ)) (files : List (List ℕ)) : Type 0 where
+  apart : AllPairs (λ f g. f ≢ g) files
+  fresh : All (λ f. Differs before f) files
+
+one_apart : (before files : List (List ℕ)) (file : List ℕ) → is_named file (before ++ files) ≡ false → AreApart before files → AreApart before (files ++ file ∷ [])
+one_apart before files file free h =
+    let both = not_named_in file before files free in
+    record {
+      apart = all_pairs_push (λ f g. f ≢ g) files file h.apart (not_named files file both.1);
+      fresh = All-push (Differs before) files file h.fresh (λ k d lt same. not_named before file both.0 k d lt (sym same));
+    }
+
+statement_apart : (before : List (List ℕ)) (earlier : List NumberedStatement) (line : ℕ) (s : Statement) → is_taken (file_of s) (before ++ files_of earlier) ≡ false → AreApart before (files_of earlier) → AreApart before (files_of (earlier ++ record { line = line; statement = s } ∷ []))
+statement_apart before earlier line (Load header name) free h = rw (files_more earlier (record { line = line; statement = Load header name }), append-nil (files_of earlier)) h
+statement_apart before earlier line (Unload header) free h = rw (files_more earlier (record { line = line; statement = Unload header }), append-nil (files_of earlier)) h
+statement_apart before earlier line (Report pass file) free h =
+    rw (files_more earlier (record { line = line; statement = Report pass file })) (one_apart before (files_of earlier) file free h)
+
+abbrev IsApart : DraftValue → Type 0
+IsApart draft = AreApart (written_by draft.before) (files_of draft.script.statements)
+
+said_apart : (draft : DraftValue) (n : ℕ) (s : Saying) → is_out_of_place draft s ≡ false → IsApart draft → IsApart (with_said draft n s)
+said_apart draft n (Sizes a b) place h = h
+said_apart draft n (Number key number) place h = h
+said_apart draft n (Words key text) place h = h
+said_apart draft n (States statement) place h = statement_apart (written_by draft.before) draft.script.statements n statement place h
+
+turn_apart : (draft next : DraftValue) (n : ℕ) (line : List ℕ) → Turn draft n line next → IsApart draft → IsApart next
+turn_apart draft next n line (Silent h same) apart = subst IsApart (sym same) apart
+turn_apart draft next n line (Said s h e place same) apart = subst IsApart (sym same) (said_apart draft n s place apart)
+
+turn_before : (draft next : DraftValue) (n : ℕ) (line : List ℕ) → Turn draft n line next → next.before ≡ draft.before
+turn_before draft next n line (Silent h same) = ap (λ (d : DraftValue). d.before) same
+turn_before draft next n line (Said s h e place same) = ap (λ (d : DraftValue). d.before) same
+
+-- the scripts before stay, and so does it that files are apart
+lines_apart : (texts : List (List ℕ)) (draft out : DraftValue) (n : ℕ) → with_lines draft n texts ≡ Ok out → IsApart draft → (out.before ≡ draft.before) × IsApart out
 unfolding with_lines
-lines_apart [] draft out n h apart = let same : draft ≡ out = cc in subst (λ (d : DraftValue). AreApart d.script.statements) same apart
+lines_apart [] draft out n h apart = let same : draft ≡ out = cc in subst (λ (d : DraftValue). (d.before ≡ draft.before) × IsApart d) same (refl, apart)
 lines_apart (line ∷ others) draft out n h apart =
     let t = lines_turn draft out n line others h in
-    lines_apart others t.0 out (n + 1) t.2 (turn_apart draft t.0 n line t.1 apart)
+    let rest = lines_apart others t.0 out (n + 1) t.2 (turn_apart draft t.0 n line t.1 apart) in
+    (rest.0 ∙ turn_before draft t.0 n line t.1, rest.1)
 
 -- a script that is read is what its lines say
-pub script_said : (bytes : List ℕ) (script : ScriptValue) → script_in bytes ≡ Ok script → IsSaidBy (sayings_from 1 script.passes (lines bytes)) script
+pub script_said : (mode : Mode) (before : List ScriptValue) (bytes : List ℕ) (script : ScriptValue) → script_in mode before bytes ≡ Ok script → IsSaidBy before (sayings_from 1 script.passes (lines bytes)) script
 unfolding script_in
-script_said bytes script h =
-    let d = bind_ok (with_lines no_lines 1 (lines bytes)) (λ (draft : DraftValue). Ok draft.script) script h in
+script_said mode before bytes script h =
+    let d = bind_ok (with_lines (no_lines mode before) 1 (lines bytes)) (λ (draft : DraftValue). Ok draft.script) script h in
     let same : d.0.script ≡ script = cc (d.2) in
-    let r = read_whole (lines bytes) d.0 1 d.1 in
+    let r = read_whole mode before (lines bytes) d.0 1 d.1 in
     let w = subst (λ (p : ℕ). Whole d.0 (sayings_from 1 p (lines bytes))) (sym r.same) r.whole in
-    subst (λ (s : ScriptValue). IsSaidBy (sayings_from 1 s.passes (lines bytes)) s) same (record {
+    let a = lines_apart (lines bytes) (no_lines mode before) d.0 1 d.1 (record { apart = λ i j d before within. absurd (omega arith); fresh = All-nil (Differs (written_by before)) }) in
+    let apart = subst (λ (scripts : List ScriptValue). AreApart (written_by scripts) (files_of d.0.script.statements)) a.0 a.1 in
+    subst (λ (s : ScriptValue). IsSaidBy before (sayings_from 1 s.passes (lines bytes)) s) same (record {
       statements = w.statements;
       nodes = w.nodes;
       passes = w.passes;
       once = w.once;
       values = w.values;
-      apart = lines_apart (lines bytes) no_lines d.0 1 d.1 (λ i j d before within. absurd (omega arith));
+      apart = apart.apart;
+      fresh = apart.fresh;
     })

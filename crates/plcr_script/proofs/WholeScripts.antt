@@ -4,10 +4,12 @@ use Rattle.std.specs.Prelude.{if◌then◌else◌}
 use Rattle.std.specs.List.{slice_get}
 use Rattle.plcr_base.specs.Chains.{◌>>=◌}
 use Rattle.plcr_base.proofs.Chained.{bind_ok}
+use Rattle.plcr_script.specs.declared.modes.Mode.{Mode}
 use Rattle.plcr_script.specs.declared.faults.Kind.{Kind}
 use Rattle.plcr_script.specs.declared.faults.Kind.TheVariants.{OutOfPlace}
 use Rattle.plcr_script.specs.Splits.{lines}
 use Rattle.plcr_script.specs.Refusals.{Refusal, kind_number, only_if, refused_at}
+use Rattle.plcr_script.specs.Scripts.{ScriptValue}
 use Rattle.plcr_script.specs.Sayings.{Saying, says_nothing, saying_in}
 use Rattle.plcr_script.specs.Reading.{DraftValue, no_lines, is_out_of_place, with_said, with_line, with_lines, script_in}
 use Rattle.plcr_script.specs.Laws.{IsFirstRefused}
@@ -117,12 +119,12 @@ err_of (Ok draft) refusal h = absurd cc
 err_of (Err e) refusal h = cc
 
 -- the first refused line of a script
-pub script_refused : (bytes : List ℕ) (refusal : Refusal) → script_in bytes ≡ Err refusal → IsFirstRefused (lines bytes) refusal
+pub script_refused : (mode : Mode) (before : List ScriptValue) (bytes : List ℕ) (refusal : Refusal) → script_in mode before bytes ≡ Err refusal → IsFirstRefused mode before (lines bytes) refusal
 unfolding script_in
-script_refused bytes refusal h =
-    let p = first_refused (lines bytes) no_lines 1 refusal (err_of (with_lines no_lines 1 (lines bytes)) refusal h) in
+script_refused mode before bytes refusal h =
+    let p = first_refused (lines bytes) (no_lines mode before) 1 refusal (err_of (with_lines (no_lines mode before) 1 (lines bytes)) refusal h) in
     record {
-      before = p.before;
+      place = p.before;
       draft = p.so_far;
       text = p.text;
       kind = p.kind;

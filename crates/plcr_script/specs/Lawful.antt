@@ -6,9 +6,8 @@ use Rattle.plcr_encode.specs.Conditions.{IsWritable}
 use Rattle.plcr_script.specs.declared.statements.Statement.{Statement}
 use Rattle.plcr_script.specs.declared.statements.Statement.TheVariants.{Load, Unload, Report}
 use Rattle.plcr_script.specs.declared.statements.NumberedStatement.{NumberedStatement}
-use Rattle.plcr_script.specs.Keys.{limit_of}
 use Rattle.plcr_script.specs.Scripts.{ScriptValue}
-use Rattle.plcr_script.specs.Sayings.{Saying, Sizes, Number, Words, States, is_file_name}
+use Rattle.plcr_script.specs.Sayings.{is_file_name}
 use Rattle.plcr_script.specs.Contexts.{context_of}
 
 -- a list has a node and a pass at least, and each within its limit
@@ -20,13 +19,6 @@ abbrev pub IsFitStatement : Statement → Type 0
 IsFitStatement (Load header name) = length name < 2 ^ 32
 IsFitStatement (Unload header) = Unit {0}
 IsFitStatement (Report pass file) = IsTrue (is_file_name file)
-
--- what a line says is within its limits
-abbrev pub IsFit : Saying → Type 0
-IsFit (Sizes nodes passes) = AreSizes nodes passes
-IsFit (Number key number) = number < limit_of key
-IsFit (Words key text) = length text < 2 ^ 32
-IsFit (States statement) = IsFitStatement statement
 
 -- a script within its limits, whose descriptive values can be written in reports
 pub record IsLawful (script : ScriptValue) : Type 0 where

@@ -4,6 +4,7 @@ use Rattle.std.specs.List.{enumerate_from, filter_map}
 use Rattle.std.specs.Option.{option_map}
 use Rattle.std.specs.Result.{result_ok}
 use Rattle.plcr_script.specs.declared.faults.Kind.{Kind}
+use Rattle.plcr_script.specs.declared.modes.Mode.{Mode}
 use Rattle.plcr_script.specs.declared.statements.NumberedStatement.{NumberedStatement}
 use Rattle.plcr_script.specs.declared.values.DescriptiveValues.{DescriptiveValues}
 use Rattle.plcr_script.specs.declared.limits.TheConstants.{DEFAULT_NODES, DEFAULT_PASSES}
@@ -12,7 +13,7 @@ use Rattle.plcr_script.specs.Values.{default_values}
 use Rattle.plcr_script.specs.Refusals.{Refusal, kind_number}
 use Rattle.plcr_script.specs.Scripts.{ScriptValue}
 use Rattle.plcr_script.specs.Sayings.{Saying, Sizes, Number, Words, States, says_nothing, saying_in}
-use Rattle.plcr_script.specs.Reading.{DraftValue, no_lines, files_of, with_line, with_lines}
+use Rattle.plcr_script.specs.Reading.{DraftValue, no_lines, files_of, written_by, with_line, with_lines}
 
 -- what a line says, with the line's number
 pub record NumberedSaying : Type 0 where
@@ -59,23 +60,24 @@ abbrev pub sizes_in : List NumberedSaying → ℕ × ℕ
 sizes_in [] = (DEFAULT_NODES, DEFAULT_PASSES)
 sizes_in (first ∷ others) = sizes_by first.saying
 
--- a script is what its lines say, each read by itself: its statements in order, the sizes that the first saying names and no other does, and the values one after the other, so that the last of a key counts. No two statements write one file
-pub record IsSaidBy (sayings : List NumberedSaying) (script : ScriptValue) : Type 0 where
+-- a script is what its lines say, each read by itself: its statements in order, the sizes that the first saying names and no other does, and the values one after the other, so that the last of a key counts. No two statements write one file, and none writes that of a script before
+pub record IsSaidBy (before : List ScriptValue) (sayings : List NumberedSaying) (script : ScriptValue) : Type 0 where
   pub statements : script.statements ≡ filter_map (λ s. statement_by s.line s.saying) sayings
   pub nodes : script.nodes ≡ (sizes_in sayings).0
   pub passes : script.passes ≡ (sizes_in sayings).1
   pub once : All (λ (s : NumberedSaying). IsFalse (is_sizes s.saying)) (drop 1 sayings)
   pub values : script.values ≡ fold (λ values s. values_by values s.saying) default_values sayings
   pub apart : AllPairs (λ f g. f ≢ g) (files_of script.statements)
+  pub fresh : All (λ f. All (λ g. f ≢ g) (written_by before)) (files_of script.statements)
 
 -- a line is the first that is refused: those before it make a script, after which this line is refused
-pub record IsFirstRefused (texts : List (List ℕ)) (refusal : Refusal) : Type 0 where
-  pub before : ℕ
+pub record IsFirstRefused (mode : Mode) (before : List ScriptValue) (texts : List (List ℕ)) (refusal : Refusal) : Type 0 where
+  pub place : ℕ
   pub draft : DraftValue
   pub text : List ℕ
   pub kind : Kind
-  pub number : refusal.line ≡ before + 1
-  pub accepted : with_lines no_lines 1 (take before texts) ≡ Ok draft
-  pub stands : slice_get texts before ≡ Some text
+  pub number : refusal.line ≡ place + 1
+  pub accepted : with_lines (no_lines mode before) 1 (take place texts) ≡ Ok draft
+  pub stands : slice_get texts place ≡ Some text
   pub refused : with_line draft refusal.line text ≡ Err kind
   pub told : refusal.kind ≡ kind_number kind

@@ -6,8 +6,7 @@ pub mod Refusals
 pub mod Scripts
 pub mod Sayings
 pub mod Reading
-pub mod Wording
-pub mod Names
+pub mod inner
 pub mod Log
 pub mod Contexts
 pub mod Lawful

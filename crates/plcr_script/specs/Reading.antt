@@ -1,16 +1,16 @@
 -- What a script means: its statements, sizes and values, or its first refused line.
-use Rattle.std.specs.Prelude.{◌≡◌, ℕ, ◌+◌, Bool, true, false, List, [], ◌∷◌, ◌++◌, Option, Some, None, Result, Ok, Err, not, length, nat_lt, if◌then◌else◌}
-use Rattle.std.specs.List.{list_any, filter_map}
+use Rattle.std.specs.Prelude.{◌≡◌, ℕ, ◌+◌, Bool, true, false, List, [], ◌∷◌, ◌++◌, Option, Some, None, Result, Ok, Err, not, length, nat_lt, flat_map, filter_map, if◌then◌else◌}
+use Rattle.std.specs.List.{list_any}
 use Rattle.std.specs.Str.{bytes_eq}
 use Rattle.plcr_base.specs.Chains.{◌>>=◌}
 use Rattle.plcr_script.specs.declared.faults.Kind.{Kind}
 use Rattle.plcr_script.specs.declared.faults.Kind.TheVariants.{OutOfPlace}
 use Rattle.plcr_script.specs.declared.faults.ScriptFault.{ScriptFault}
 use Rattle.plcr_script.specs.declared.faults.ScriptFault.TheVariants as faults
+use Rattle.plcr_script.specs.declared.modes.Mode.{Mode}
 use Rattle.plcr_script.specs.declared.statements.Statement.{Statement}
 use Rattle.plcr_script.specs.declared.statements.Statement.TheVariants.{Load, Unload, Report}
 use Rattle.plcr_script.specs.declared.statements.NumberedStatement.{NumberedStatement}
-use Rattle.plcr_script.specs.declared.values.DescriptiveValues.{DescriptiveValues}
 use Rattle.plcr_script.specs.declared.limits.TheConstants.{DEFAULT_NODES, DEFAULT_PASSES}
 use Rattle.plcr_script.specs.Splits.{lines}
 use Rattle.plcr_script.specs.Keys.{with_number, with_text}
@@ -29,33 +29,43 @@ file_of (Report pass file) = Some file
 abbrev pub files_of : List NumberedStatement → List (List ℕ)
 files_of statements = filter_map (λ s. file_of s.statement) statements
 
--- whether one of the statements writes the file
-unfoldable pub is_named : List ℕ → List NumberedStatement → Bool
-is_named file statements = list_any (λ name. bytes_eq name file) (files_of statements)
+-- the files that scripts write, in order
+abbrev pub written_by : List ScriptValue → List (List ℕ)
+written_by scripts = flat_map (λ script. files_of script.statements) scripts
 
--- whether the file that is to be written, if there is one, is that of one of the statements
-abbrev pub is_taken : Option (List ℕ) → List NumberedStatement → Bool
-is_taken None statements = false
-is_taken (Some file) statements = is_named file statements
+-- whether the file is one of these
+unfoldable pub is_named : List ℕ → List (List ℕ) → Bool
+is_named file names = list_any (λ name. bytes_eq name file) names
 
--- a script as far as it is read, and whether a line has said anything
+-- whether the file that is to be written, if there is one, is one of these
+abbrev pub is_taken : Option (List ℕ) → List (List ℕ) → Bool
+is_taken None names = false
+is_taken (Some file) names = is_named file names
+
+-- a script as far as it is read: what it is read for, the scripts before it, and whether a line has said anything
 pub record DraftValue : Type 0 where
+  pub mode : Mode
+  pub before : List ScriptValue
   pub script : ScriptValue
   pub begun : Bool
 
-abbrev pub draft_value : List NumberedStatement → ℕ → ℕ → DescriptiveValues → Bool → DraftValue
-draft_value statements nodes passes values begun = record { script = script_value statements nodes passes values; begun = begun }
+abbrev pub draft_value : Mode → List ScriptValue → ScriptValue → Bool → DraftValue
+draft_value mode before script begun = record { mode = mode; before = before; script = script; begun = begun }
 
 -- the script of no lines, with the default sizes and values
-abbrev pub no_lines : DraftValue
-no_lines = draft_value [] DEFAULT_NODES DEFAULT_PASSES default_values false
+abbrev pub no_lines : Mode → List ScriptValue → DraftValue
+no_lines mode before = draft_value mode before (script_value [] DEFAULT_NODES DEFAULT_PASSES default_values) false
 
--- whether this may not be said behind the lines so far: sizes behind anything, a value behind a statement of the run, a report into a file that an earlier one writes
+-- the files that the scripts before, and the lines so far, write
+abbrev pub files_before : DraftValue → List (List ℕ)
+files_before draft = written_by draft.before ++ files_of draft.script.statements
+
+-- whether this may not be said behind the lines so far: sizes behind anything, a value behind a statement of the run, a report into a file that an earlier one writes, in this script or in one before it
 abbrev pub is_out_of_place : DraftValue → Saying → Bool
 is_out_of_place draft (Sizes nodes passes) = draft.begun
 is_out_of_place draft (Number key number) = nat_lt 0 (length draft.script.statements)
 is_out_of_place draft (Words key text) = nat_lt 0 (length draft.script.statements)
-is_out_of_place draft (States statement) = is_taken (file_of statement) draft.script.statements
+is_out_of_place draft (States statement) = is_taken (file_of statement) (files_before draft)
 
 -- the script with what a line says
 abbrev pub with_saying : ScriptValue → ℕ → Saying → ScriptValue
@@ -65,7 +75,7 @@ with_saying script line (Words key text) = record script { values = with_text ke
 with_saying script line (States statement) = record script { statements = script.statements ++ record { line = line; statement = statement } ∷ [] }
 
 abbrev pub with_said : DraftValue → ℕ → Saying → DraftValue
-with_said draft line saying = record { script = with_saying draft.script line saying; begun = true }
+with_said draft line saying = record draft { script = with_saying draft.script line saying; begun = true }
 
 -- the draft after a line, or what is wrong with the line
 unfoldable pub with_line : DraftValue → ℕ → List ℕ → Result DraftValue Kind
@@ -79,9 +89,9 @@ unfoldable pub with_lines : DraftValue → ℕ → List (List ℕ) → Result Dr
 with_lines draft number [] = Ok draft
 with_lines draft number (line ∷ others) = refused_at number (with_line draft number line) >>= λ next. with_lines next (number + 1) others
 
--- what the bytes of a script mean: the script, or its first refused line
-unfoldable pub script_in : List ℕ → Result ScriptValue Refusal
-script_in bytes = with_lines no_lines 1 (lines bytes) >>= λ draft. Ok draft.script
+-- what the bytes of a script mean that is read for a mode, behind the scripts before it: the script, or its first refused line
+unfoldable pub script_in : Mode → List ScriptValue → List ℕ → Result ScriptValue Refusal
+script_in mode before bytes = with_lines (no_lines mode before) 1 (lines bytes) >>= λ draft. Ok draft.script
 
 -- a fault tells the refusal that reading gives; want of memory tells nothing
 abbrev pub Tells : {A : Type 0} → ScriptFault → Result A Refusal → Type 0

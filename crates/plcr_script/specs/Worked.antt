@@ -1,6 +1,7 @@
 -- Runs worked out by hand.
 use Rattle.std.specs.Prelude.{◌≡◌, ℕ, List, [], ◌∷◌, Some, None, Ok, ◌==◌, codes, replicate, if◌then◌else◌}
 use Rattle.plcr_macho.specs.Images.{Listed}
+use Rattle.plcr_script.specs.declared.modes.Mode.TheVariants.{Single}
 use Rattle.plcr_script.specs.declared.statements.Statement.{Statement}
 use Rattle.plcr_script.specs.declared.statements.Statement.TheVariants.{Load, Unload, Report}
 use Rattle.plcr_script.specs.declared.statements.NumberedStatement.{NumberedStatement}
@@ -59,8 +60,8 @@ no_images = script_value
 
 -- what the lines of the first two scripts say
 pub record WorkedScripts : Type 0 where
-  pub two_of_one_header : script_in (codes "load 0x100000000 x\nload 0x100000000 y\nunload 0x100000000\nreport 0 a\nunload 0x100000000\nunload 0x100000000\n") ≡ Ok two_of_a_header
-  pub sized : script_in (codes "table 1 1\nload 0x100000000 A\nload 0x100004000 B\nunload 0x100000000\nload 0x100004000 B\n") ≡ Ok one_node
+  pub two_of_one_header : script_in Single [] (codes "load 0x100000000 x\nload 0x100000000 y\nunload 0x100000000\nreport 0 a\nunload 0x100000000\nunload 0x100000000\n") ≡ Ok two_of_a_header
+  pub sized : script_in Single [] (codes "table 1 1\nload 0x100000000 A\nload 0x100004000 B\nunload 0x100000000\nload 0x100004000 B\n") ≡ Ok one_node
 
 -- the runs, where the report with the image y has 315 bytes
 pub record WorkedRuns (report : List Listed → List ℕ) : Type 0 where

@@ -2,6 +2,7 @@
 ghost use Rattle.std.specs.Prelude.{◌≡◌, IfOk, OnOk};
 
 use crate::limits::{DEFAULT_NODES, DEFAULT_PASSES};
+use crate::modes::Mode;
 use crate::scripts::Script;
 use crate::statements::{NumberedStatement, Statement, text_of};
 use crate::values::DescriptiveValues;
@@ -9,9 +10,11 @@ use crate::wording::Wording;
 use std::alloc::{AllocError, Global};
 use std::marker::Model;
 
-/// A script as far as it is read, and whether a line has said anything.
+/// A script as far as it is read: what it is read for, the scripts before it, and whether a line has said anything.
 #[derive(Drop)]
-pub(crate) struct Draft {
+pub(crate) struct Draft<'a> {
+    mode: Mode,
+    before: &'a [Script],
     statements: Vec<NumberedStatement>,
     nodes: u32,
     passes: u32,
@@ -19,26 +22,33 @@ pub(crate) struct Draft {
     begun: bool,
 }
 
-impl Model for Draft {
+impl<'a> Model for Draft<'a> {
+    ghost use Rattle.plcr_script.specs.Scripts.{script_value};
     ghost use Rattle.plcr_script.specs.Reading.{DraftValue, draft_value};
 
     ghost Value = { DraftValue };
 
-    ghost view = { λ d. draft_value d.statements.items d.nodes d.passes d.values d.begun };
+    ghost view = { λ d. draft_value d.mode d.before.now (script_value d.statements.items d.nodes d.passes d.values) d.begun };
 }
 
-impl Draft {
+impl<'a> Draft<'a> {
     ghost use Rattle.std.specs.Prelude.{nat_lt, length};
     ghost use Rattle.plcr_script.specs.Reading.{no_lines, with_said};
     ghost use Rattle.plcr_script.specs.Sayings.{States};
-    ghost use Rattle.plcr_script.specs.Lawful.{IsFit};
-    ghost use Rattle.plcr_script.specs.Wording.{said};
+    ghost use Rattle.plcr_script.specs.inner.Fits.{IsFit};
+    ghost use Rattle.plcr_script.specs.inner.Wording.{said};
 
     /// The script of no lines.
-    pub(crate) fn new(alloc: Global) -> Result<Draft, AllocError>
-        ensures { IfOk result (λ draft. draft ≡ no_lines) }
+    pub(crate) fn new(
+        alloc: Global,
+        mode: Mode,
+        before: &'a [Script],
+    ) -> Result<Draft<'a>, AllocError>
+        ensures { IfOk result (λ draft. draft ≡ no_lines mode before.now) }
     {
         Ok(Draft {
+            mode,
+            before,
             statements: Vec::new(alloc),
             nodes: DEFAULT_NODES,
             passes: DEFAULT_PASSES,
@@ -110,9 +120,11 @@ impl Draft {
 
     /// The script that was read.
     pub(crate) fn finish(self) -> Script
-        ensures { result ≡ self.script }
+        ensures { result ≡ self.entry.script }
     {
         let Draft {
+            mode: _,
+            before: _,
             statements,
             nodes,
             passes,

@@ -2,7 +2,9 @@
 ghost use Rattle.std.specs.Prelude.{◌≡◌, ◌<◌, ◌≤◌, ◌^◌, length, IfSome};
 ghost use Rattle.std.specs.Option.{SomeIff};
 ghost use Rattle.std.specs.Str.Parse.{AllDigits, digits_value};
-ghost use Rattle.plcr_script.specs.Numerals.{IsBase, numeral_in, number_in, below};
+ghost use Rattle.plcr_script.specs.declared.numerals.TheConstants.{DECIMAL_DIGITS};
+ghost use Rattle.plcr_script.specs.Numerals.{numeral_in, number_in, below};
+ghost use Rattle.plcr_script.specs.inner.Fits.{IsBase};
 
 /// The most digits of a decimal number, as 2^64 - 1 has.
 const DECIMAL_DIGITS: usize = 20;
@@ -46,7 +48,7 @@ fn number(word: &[u8]) -> Option<u128>
 /// The number that 1 to `most` digits of a base write.
 fn bounded(base: u32, most: usize, text: &[u8]) -> Option<u128>
     requires base { IsBase base }
-    requires most { most ≤ 20 }
+    requires most { most ≤ DECIMAL_DIGITS }
     ensures { result ≡ numeral_in base most text.now }
 {
     if text.is_empty() || text.len() > most {
@@ -58,7 +60,7 @@ fn bounded(base: u32, most: usize, text: &[u8]) -> Option<u128>
 /// The number that digits of a base write.
 fn digits(base: u32, text: &[u8]) -> Option<u128>
     requires base { IsBase base }
-    requires few { length text.now ≤ 20 }
+    requires few { length text.now ≤ DECIMAL_DIGITS }
     ensures { SomeIff result (AllDigits base text.now) (digits_value base text.now) }
 {
     let mut value: u128 = 0;

@@ -73,6 +73,13 @@ impl Script {
         &self.statements[i].statement
     }
 
+    /// The statements, with the numbers of their lines.
+    pub(crate) fn statements(&self) -> &[NumberedStatement]
+        ensures { result.now ≡ self.now.statements }
+    {
+        self.statements.as_slice()
+    }
+
     /// The context of reports of a process of this architecture, with the script's descriptive
     /// values.
     pub fn context<'a>(&'a self, arch: Arch) -> Context<'a>

@@ -1,5 +1,6 @@
 //! The statements of a script.
-ghost use Rattle.std.specs.Prelude.{◌≡◌, IfOk};
+ghost use Rattle.std.specs.Prelude.{◌≡◌, IfOk, option_copied};
+ghost use Rattle.plcr_script.specs.Reading.{file_of};
 
 use plcr_base::Bytes;
 use std::alloc::{AllocError, Global};
@@ -23,6 +24,19 @@ pub enum Statement {
     Unload { header: u64 },
     /// The pass enters if it is out, walks to the end, captures into the file, and leaves.
     Report { pass: u32, file: Text },
+}
+
+impl Statement {
+    /// The file that it writes, if it writes one.
+    pub(crate) fn file(&self) -> Option<&[u8]>
+        ensures { option_copied result ≡ file_of self.now }
+    {
+        match self {
+            Statement::Load { header: _, name: _ } => None,
+            Statement::Unload { header: _ } => None,
+            Statement::Report { pass: _, file } => Some(file.as_slice()),
+        }
+    }
 }
 
 /// A statement and the number of its line, from 1.

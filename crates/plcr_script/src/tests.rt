@@ -308,3 +308,27 @@ fn a_line_of_the_log_is_one_put(rt: HostRuntime) -> Result<(), Fail> {
     );
     Ok(())
 }
+
+#[test]
+fn a_file_of_a_script_before_is_out_of_place(rt: HostRuntime) -> Result<(), Fail> {
+    let alloc = rt.alloc();
+    let first = read_script(alloc, b"report 0 a\nreport 0 b", Mode::Single, &[])?;
+    let second = read_script(alloc, b"load 1\nreport 0 c", Mode::Single, &[])?;
+    let before = [first, second];
+    let cases = [
+        ("report 0 d\nreport 0 aa", 0),
+        ("report 0 d\nreport 0 b", 2),
+        ("report 0 c", 1),
+        ("report 16 c", 0),
+    ];
+    for (text, want) in cases {
+        let bytes = text.as_bytes();
+        assert!(rt; bytes.len() < 1 << 32);
+        let got = match read_script(alloc, bytes, Mode::Single, &before) {
+            Err(ScriptFault::Refused { line, kind: 6 }) => line,
+            _ => 0,
+        };
+        assert_eq!(rt; got, want, "{text}");
+    }
+    Ok(())
+}

@@ -5,9 +5,9 @@ ghost use Rattle.std.specs.Option.{option_copied};
 ghost use Rattle.plcr_script.specs.Splits.{words};
 ghost use Rattle.plcr_script.specs.Sayings as sayings;
 ghost use Rattle.plcr_script.specs.Sayings.{table_in, set_in, load_in, unload_in, report_in, saying_of, saying_in, value_in, number_to};
-ghost use Rattle.plcr_script.specs.Lawful.{IsFit};
+ghost use Rattle.plcr_script.specs.inner.Fits.{IsFit};
 ghost use Rattle.plcr_script.specs.Keys.{number_key_in, text_key_in};
-ghost use Rattle.plcr_script.specs.Wording.{IsWorded, said};
+ghost use Rattle.plcr_script.specs.inner.Wording.{IsWorded, said};
 
 use crate::faults::Kind;
 use crate::keys::{NumberKey, TextKey, limit_of, number_key, text_key};

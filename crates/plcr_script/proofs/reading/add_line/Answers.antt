@@ -1,5 +1,5 @@
 use Rattle.std.proofs.Common.{sym, ◌∙◌}
-use Rattle.plcr_script.specs.Wording.{said}
+use Rattle.plcr_script.specs.inner.Wording.{said}
 use Rattle.plcr_script.proofs.Steps.{nothing, unworded, displaced, placed}
 use Rattle.plcr_script.proofs.Lawfulness.{lawful_with}
 use Rattle.plcr_script.proofs.reading.add_line.Goals as goal

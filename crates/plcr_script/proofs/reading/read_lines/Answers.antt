@@ -1,17 +1,17 @@
 use Rattle.std.proofs.Common.{◌≡◌, length, sym, refl, ◌∙◌, subst, arith, rules, Result}
 use Rattle.std.proofs.lemmas.Result.{err_from_is_err_and}
 use Rattle.plcr_script.specs.Refusals.{Refusal}
-use Rattle.plcr_script.specs.Reading.{DraftValue, is_named, Tells}
+use Rattle.plcr_script.specs.Reading.{DraftValue, written_by, Tells}
 use Rattle.plcr_script.proofs.Steps.{goes_on, stops, ends}
 use Rattle.plcr_script.proofs.Lawfulness.{lawful_at_first}
+use Rattle.plcr_script.proofs.Naming.{index_same}
 use Rattle.plcr_script.proofs.reading.read_lines.Goals as goal
 
 pub loop-rest-init : goal.loop-rest-init
-unfolding is_named
 loop-rest-init c = record {
   read = rw c.in_ok-draft.ensures refl;
-  index = λ name. rw (c.new-names.ensures.empty, c.in_ok-draft.ensures) refl;
-  lawful = rw c.in_ok-draft.ensures lawful_at_first;
+  index = rw c.in_ok-draft.ensures (index_same c.in_ok-names.names (written_by c.args.before.now) c.in_ok-names.ensures);
+  lawful = rw c.in_ok-draft.ensures (lawful_at_first c.args.mode c.args.before.now);
   first = omega arith;
   count = omega arith;
 }

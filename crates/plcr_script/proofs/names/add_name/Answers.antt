@@ -1,9 +1,9 @@
 use Rattle.std.proofs.Common.{true, cond, ap, ◌∙◌}
 use Rattle.std.specs.Str.{bytes_eq}
 use Rattle.std.proofs.lemmas.Map.Text.{is_eq-slice_cmp}
-use Rattle.plcr_script.specs.Names.{has}
+use Rattle.plcr_script.specs.inner.Names.{has}
 use Rattle.plcr_script.proofs.Naming.{cond_or}
-use Rattle.plcr_script.proofs.reading.add_name.Goals as goal
+use Rattle.plcr_script.proofs.names.add_name.Goals as goal
 
 pub returns-clause-added : goal.returns-clause-added
 returns-clause-added c = λ q.
