@@ -24,6 +24,7 @@ use Rattle.plcr_imagelist.specs.Keeping.{times, is_node, waits, once_where, Agre
 use Rattle.plcr_imagelist.proofs.Counted.{times-append, times-snoc, times_empty, once_true, once_false, is_node_bound, is_node_at, last_none, last_some}
 use Rattle.plcr_imagelist.proofs.Placed.{cut_out}
 use Rattle.plcr_nodes.proofs.Pacing.{changes_same, owes_same, paced_same}
+use Rattle.plcr_nodes.specs.declared.gate.TheConstants.{COUNT_UNIT}
 
 once_never : (a : Bool) → once_where (a && false) ≡ 0
 once_never true = refl
@@ -211,12 +212,12 @@ agrees_gate o e past names r spares gone spares' gone' listed c l own legal pace
     })
 
 -- the readers that a word of the gate tells
-pub readers_told : (nodes passes found : ℕ) (past : List Entry) (names : List (List ℕ)) → IsHistory nodes passes past names → found ≡ gate_of passes past → found % 4294967296 ≡ readers passes past
+pub readers_told : (nodes passes found : ℕ) (past : List Entry) (names : List (List ℕ)) → IsHistory nodes passes past names → found ≡ gate_of passes past → found % COUNT_UNIT ≡ readers passes past
 readers_told nodes passes found past names legal gate = let few = legal.few_passes in let most = readers_most passes past in omega arith
 
 -- a change was counted
 pub agrees_counted : (old : OwnerState) (found : ℕ) (new : OwnerState) (spares gone spares' gone' : List ℕ) (listed : List Image) (c l : ℕ) → IsCounted old found new → owes_count old.history ≡ true
-    → Settles (found % 4294967296) spares gone spares' gone' → Agrees old spares gone listed c l → Agrees new spares' gone' listed c l
+    → Settles (found % COUNT_UNIT) spares gone spares' gone' → Agrees old spares gone listed c l → Agrees new spares' gone' listed c l
 agrees_counted old found new spares gone spares' gone' listed c l k owes settles a =
     let own = k.sees.added.owner refl in
     let told = readers_told old.nodes old.passes found k.past k.names k.sees.legal k.gate in
@@ -227,7 +228,7 @@ agrees_counted old found new spares gone spares' gone' listed c l k owes settles
 
 -- the gate was looked at
 pub agrees_looked : (old : OwnerState) (found : ℕ) (new : OwnerState) (spares gone spares' gone' : List ℕ) (listed : List Image) (c l : ℕ) → IsLooked old found new
-    → Settles (found % 4294967296) spares gone spares' gone' → Agrees old spares gone listed c l → Agrees new spares' gone' listed c l
+    → Settles (found % COUNT_UNIT) spares gone spares' gone' → Agrees old spares gone listed c l → Agrees new spares' gone' listed c l
 agrees_looked old found new spares gone spares' gone' listed c l k settles a =
     let own = k.sees.added.owner refl in
     let told = readers_told old.nodes old.passes found k.past k.names k.sees.legal k.gate in

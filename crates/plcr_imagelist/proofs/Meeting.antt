@@ -22,7 +22,7 @@ use Rattle.plcr_machine.proofs.Reach.{reach_busy}
 use Rattle.plcr_nodes.specs.Entries.{among}
 use Rattle.plcr_nodes.specs.Seeing.{AddsOthers, GoesOn}
 use Rattle.plcr_nodes.proofs.Seeing.{own_of}
-use Rattle.plcr_nodes.proofs.Known.{own_longer}
+use Rattle.plcr_nodes.proofs.Known.{own_apart}
 use Rattle.plcr_nodes.proofs.Staying.{image_stays}
 use Rattle.plcr_imagelist.specs.Keeping.{last_of}
 use Rattle.plcr_imagelist.specs.Holds.{images_on, before_enter, HasEnded}
@@ -38,22 +38,6 @@ before_enter-step p (Load n i a) past s = refl
 before_enter-step p (Unload n) past s = refl
 before_enter-step p (Count k) past s = refl
 before_enter-step p (Look k) past s = refl
-
-own_cons : (p : ℕ) (e : Entry) (past : List Entry) → (own_entries p (e ∷ past) ≡ own_entries p past) ⊎ (length (own_entries p (e ∷ past)) ≡ suc (length (own_entries p past)))
-own_cons p (Enter q) past = by_cases (eqb q p) (λ t. inr (rw t refl)) (λ t. inl (rw t refl))
-own_cons p (Leave q) past = by_cases (eqb q p) (λ t. inr (rw t refl)) (λ t. inl (rw t refl))
-own_cons p (Load n i a) past = inl refl
-own_cons p (Unload n) past = inl refl
-own_cons p (Count k) past = inl refl
-own_cons p (Look k) past = inl refl
-
-own_apart : (p : ℕ) (e : Entry) (added past : List Entry) → own_entries p (e ∷ added ++ past) ≡ own_entries p past
-    → (own_entries p (e ∷ added ++ past) ≡ own_entries p (added ++ past)) × (own_entries p (added ++ past) ≡ own_entries p past)
-own_apart p e added past s =
-    elim (own_cons p e (added ++ past)) [
-      | inl t ↦ (t, sym t ∙ s)
-      | inr t ↦ absurd (let m = own_longer p added past in let z = ap length s in omega (arith, t))
-    ]
 
 before_enter-added : (p : ℕ) (added past : List Entry) → own_entries p (added ++ past) ≡ own_entries p past → before_enter p (added ++ past) ≡ before_enter p past
 before_enter-added p [] past s = refl

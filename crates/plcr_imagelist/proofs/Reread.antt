@@ -1,5 +1,5 @@
 -- What a hold reads of the images that it has met.
-use Rattle.std.proofs.Common.{◌≡◌, ℕ, zero, suc, ◌+◌, ◌*◌, ◌<◌, ◌≤◌, All, Bool, List, [], ◌∷◌, length, get_or, true, false, eqb, refl, sym, ap, ◌∙◌, subst, arith}
+use Rattle.std.proofs.Common.{◌≡◌, ℕ, zero, suc, ◌+◌, ◌*◌, ◌<◌, All, Bool, List, [], ◌∷◌, length, get_or, true, false, eqb, refl, sym, ap, ◌∙◌, subst, arith}
 use Rattle.std.proofs.lemmas.Bool.{or_left, or_right}
 use Rattle.plcr_machine.specs.declared.entry.Entry.{Entry}
 use Rattle.plcr_machine.specs.Lists.{loaded, loads, name_of}
@@ -9,6 +9,7 @@ use Rattle.plcr_macho.specs.Images.{Listed, listed_at}
 use Rattle.plcr_base.specs.Numbers.{u64_in}
 use Rattle.plcr_nodes.specs.Entries.{among}
 use Rattle.plcr_base.specs.Bytes.{IsBytes}
+use Rattle.plcr_base.specs.Limits.{IsImageName}
 use Rattle.plcr_nodes.specs.Names.{AreNames}
 use Rattle.plcr_nodes.proofs.NamesKept.{name_short, bytes_named}
 use Rattle.plcr_nodes.proofs.Spelling.{no_bytes}
@@ -106,7 +107,7 @@ word_within s met i j node below is word =
     omega arith
 
 -- each name is short
-pub named_short : (names : List (List ℕ)) → AreNames names → (ns : List ℕ) (h : List Entry) → All (λ (x : Listed). length x.name ≤ 1024) (all_named names (images_on ns h))
+pub named_short : (names : List (List ℕ)) → AreNames names → (ns : List ℕ) (h : List Entry) → All (λ (x : Listed). IsImageName x.name) (all_named names (images_on ns h))
 named_short names s [] h k d below = absurd (omega arith)
 named_short names s (n ∷ ns) h zero d below = name_short (loaded n h).load names s
 named_short names s (n ∷ ns) h (suc k) d below = named_short names s ns h k d (omega arith)

@@ -9,6 +9,7 @@ use Rattle.plcr_machine.specs.Histories.{IsLegal}
 use Rattle.plcr_machine.proofs.Pace.{changes-paced}
 use Rattle.plcr_machine.proofs.OnNodes.{IsApart}
 use Rattle.plcr_machine.proofs.Freedom.{live_apart}
+use Rattle.plcr_machine.specs.declared.limits.TheConstants.{MOST_CHANGES}
 use Rattle.plcr_nodes.specs.Names.{header_in, name_in, stored_elsewhere}
 use Rattle.plcr_nodes.specs.Tokens.{OwnerState, IsLinked}
 use Rattle.plcr_nodes.specs.Unlinking.{IsUnlinked}
@@ -80,15 +81,15 @@ rest_counted old found new k paced owes =
 pub record IsDue (h : List Entry) : Type 0 where
   pub paced : IsPaced h
   pub owes : owes_count h ≡ true
-  pub fewer : counts h < 4294967295
+  pub fewer : counts h < MOST_CHANGES
 
-pub due_linked : (old : OwnerState) (node : ℕ) (new : OwnerState) → IsLinked old node new → IsPaced old.history → owes_count old.history ≡ false → counts old.history < 4294967295 → IsDue new.history
+pub due_linked : (old : OwnerState) (node : ℕ) (new : OwnerState) → IsLinked old node new → IsPaced old.history → owes_count old.history ≡ false → counts old.history < MOST_CHANGES → IsDue new.history
 due_linked old node new k paced owes few =
     let own = k.sees.added.owner refl in
     let same = counts_same k.past old.history own in
     subst (λ (s : OwnerState). IsDue s.history) (sym k.now) (record { paced = (owes_same k.past old.history own ∙ owes, paced_same k.past old.history own paced); owes = refl; fewer = omega arith })
 
-pub due_unlinked : (old : OwnerState) (node : ℕ) (new : OwnerState) → IsUnlinked old node new → IsPaced old.history → owes_count old.history ≡ false → counts old.history < 4294967295 → IsDue new.history
+pub due_unlinked : (old : OwnerState) (node : ℕ) (new : OwnerState) → IsUnlinked old node new → IsPaced old.history → owes_count old.history ≡ false → counts old.history < MOST_CHANGES → IsDue new.history
 due_unlinked old node new k paced owes few =
     let own = k.sees.added.owner refl in
     let same = counts_same k.past old.history own in

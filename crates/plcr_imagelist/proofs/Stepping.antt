@@ -1,10 +1,12 @@
 -- A change between its steps.
-use Rattle.std.proofs.Common.{◌≡◌, ◌≢◌, inl, inr, ℕ, suc, ◌+◌, ◌<◌, ◌≤◌, List, [], ◌∷◌, length, true, false, eqb, Some, refl, sym, ap, ◌∙◌, subst, arith, ne_eqb, get_or}
+use Rattle.std.proofs.Common.{◌≡◌, ◌≢◌, inl, inr, ℕ, suc, ◌+◌, ◌<◌, List, [], ◌∷◌, length, true, false, eqb, Some, refl, sym, ap, ◌∙◌, subst, arith, ne_eqb, get_or}
 use Rattle.plcr_base.specs.Bytes.{IsBytes}
+use Rattle.plcr_base.specs.Limits.{IsImageName}
 use Rattle.plcr_machine.specs.declared.image.Image.{Image}
 use Rattle.plcr_machine.specs.Lists.{live, loads, changes}
 use Rattle.plcr_machine.specs.Passes.{owes_count}
 use Rattle.plcr_machine.proofs.Cases.{eqb_same}
+use Rattle.plcr_machine.specs.declared.limits.TheConstants.{MOST_CHANGES}
 use Rattle.plcr_nodes.specs.Names.{words_of}
 use Rattle.plcr_nodes.specs.Plays.{store}
 use Rattle.plcr_nodes.specs.Tokens.{IsLinked}
@@ -21,7 +23,7 @@ use Rattle.plcr_imagelist.proofs.Resting.{loaded_at, unloaded_at, due_linked, du
 use Rattle.plcr_imagelist.proofs.Storing.{stored_more, IsWhole, whole}
 
 -- before the change itself, none is to be counted, and there is room for one more
-pub making_rest : (b : BooksState) (task : Task) (name : List ℕ) (load made : ℕ) → IsMaking b task name load made → made < change_step (doing_of task name) → (owes_count b.owner.history ≡ false) × (changes b.owner.history < 4294967295)
+pub making_rest : (b : BooksState) (task : Task) (name : List ℕ) (load made : ℕ) → IsMaking b task name load made → made < change_step (doing_of task name) → (owes_count b.owner.history ≡ false) × (changes b.owner.history < MOST_CHANGES)
 making_rest b task name load made m early =
     let due : owes_count b.owner.history ≡ false = m.owes ∙ ne_eqb made (change_step (doing_of task name)) (λ e. omega arith) in
     let same = counts-rest b.owner.history m.paced due in
@@ -105,7 +107,7 @@ making_unlinked b b' at image name load made m early k =
     }
 
 -- a change that was just begun
-pub making_begun_load : (b : BooksState) (header : ℕ) (name : List ℕ) (load : ℕ) → IsAtRest (writer_state b.owner) → changes b.owner.history < 4294967295 → b.spare ≢ 0 → length name ≤ 1024
+pub making_begun_load : (b : BooksState) (header : ℕ) (name : List ℕ) (load : ℕ) → IsAtRest (writer_state b.owner) → changes b.owner.history < MOST_CHANGES → b.spare ≢ 0 → IsImageName name
     → IsBytes name → load ≡ suc (loads b.owner.history) → IsMaking b (Load header) name load 0
 making_begun_load b header name load r few some short bytes number =
     let same = counts-rest b.owner.history r.paced r.counted in
@@ -121,7 +123,7 @@ making_begun_load b header name load r few some short bytes number =
       ready = λ _. (some, number, λ k below. absurd (omega arith));
     }
 
-pub making_begun_unload : (b : BooksState) (at : ℕ) (image : Image) (load : ℕ) → IsAtRest (writer_state b.owner) → changes b.owner.history < 4294967295
+pub making_begun_unload : (b : BooksState) (at : ℕ) (image : Image) (load : ℕ) → IsAtRest (writer_state b.owner) → changes b.owner.history < MOST_CHANGES
     → at < length (live b.owner.history) → image ≡ get_or (live b.owner.history) at image → first_with image.header (live b.owner.history) ≡ Some image → IsMaking b (Unload at image) [] load 0
 making_begun_unload b at image load r few below is first =
     let same = counts-rest b.owner.history r.paced r.counted in

@@ -1,11 +1,12 @@
 -- What the first steps of a load have stored in its node.
-use Rattle.std.proofs.Common.{◌≡◌, ◌≢◌, ℕ, suc, ◌+◌, ◌*◌, ◌<◌, ◌≤◌, List, ◌∷◌, length, true, false, cond, eqb, ltb, refl, sym, ap, ◌∙◌, subst, arith, Some, Option, ne_eqb}
+use Rattle.std.proofs.Common.{◌≡◌, ◌≢◌, ℕ, suc, ◌+◌, ◌*◌, ◌<◌, List, ◌∷◌, length, true, false, cond, eqb, ltb, refl, sym, ap, ◌∙◌, subst, arith, Some, Option, ne_eqb}
 use Rattle.std.proofs.lemmas.Bool.{lt-ltb, le-ltb, eqb-true, eqb-false}
 use Rattle.plcr_base.specs.Bytes.{IsBytes}
 use Rattle.plcr_base.specs.Numbers.{u64_in}
+use Rattle.plcr_base.specs.Limits.{IsImageName}
 use Rattle.plcr_machine.proofs.Cases.{by_cases, eqb_same}
 use Rattle.plcr_nodes.specs.declared.view.Store.{Store}
-use Rattle.plcr_nodes.specs.Names.{words_of, payload_word, stored, value_or, header_in, name_in, IsFilled, IsEnded, IsShort}
+use Rattle.plcr_nodes.specs.Names.{words_of, payload_word, stored, value_or, header_in, name_in, IsFilled, IsEnded}
 use Rattle.plcr_nodes.specs.Plays.{store}
 use Rattle.plcr_nodes.proofs.Spelling.{spelled}
 use Rattle.plcr_imagelist.specs.Making.{word_stored, value_stored, AreStored}
@@ -36,7 +37,7 @@ pub record IsWhole (node header : ℕ) (name : List ℕ) (ss : List Store) : Typ
   pub header_is : header ≡ header_in node ss
   pub name_is : name ≡ name_in node ss
 
-pub whole : (node header : ℕ) (name : List ℕ) (ss : List Store) → IsBytes name → length name ≤ 1024 → AreStored node header name (3 + words_of (length name)) ss → IsWhole node header name ss
+pub whole : (node header : ℕ) (name : List ℕ) (ss : List Store) → IsBytes name → IsImageName name → AreStored node header name (3 + words_of (length name)) ss → IsWhole node header name ss
 whole node header name ss bytes short all =
     let w : ℕ = words_of (length name) in
     let at : (k : ℕ) → k < 2 + w → stored node (k + 1) ss ≡ Some (payload_word header name k) = λ k below.
@@ -50,7 +51,7 @@ whole node header name ss bytes short all =
     record {
       filled = record {
         header = head ∙ ap (λ (o : Option ℕ). Some (value_or 0 o)) (sym head);
-        short = subst IsShort (sym same) short;
+        short = subst IsImageName (sym same) short;
         len = size ∙ ap (λ (xs : List ℕ). Some (length xs)) (sym same);
         name = subst (λ (xs : List ℕ). (k : ℕ) → k < words_of (length xs) → stored node (k + 3) ss ≡ Some (u64_in xs (8 * k))) (sym same) words;
       };

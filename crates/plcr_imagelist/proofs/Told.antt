@@ -5,6 +5,7 @@ use Rattle.plcr_machine.specs.declared.entry.Entry.{Entry}
 use Rattle.plcr_machine.specs.Lists.{has, live}
 use Rattle.plcr_machine.specs.Histories.{IsHistory}
 use Rattle.plcr_machine.specs.Parts.{owner_entries}
+use Rattle.plcr_machine.specs.declared.limits.TheConstants.{MOST_CHANGES}
 use Rattle.plcr_nodes.specs.Tokens.{OwnerState, PassState, NoteState}
 use Rattle.plcr_nodes.specs.Telling.{IsOwnerTold, IsPassTold, IsJoined}
 use Rattle.plcr_nodes.proofs.Known.{inside_same, live_same, loads_same, free_same}
@@ -82,7 +83,7 @@ making_told b new note task name load made k m =
       short = m.short;
       bytes = m.bytes;
       most = m.most;
-      fewer = subst (λ n. n < 4294967295) (sym (counts_same k.past h own)) m.fewer;
+      fewer = subst (λ n. n < MOST_CHANGES) (sym (counts_same k.past h own)) m.fewer;
       owes = owes_same k.past h own ∙ m.owes;
       ready = λ early. ready_told b.owner k.past k.names b.spare task name load made own (m.ready early);
     })

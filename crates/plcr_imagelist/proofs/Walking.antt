@@ -18,6 +18,7 @@ use Rattle.plcr_nodes.specs.Tokens.{PassState, SeesMore, IsEntered, IsLeft, IsFo
 use Rattle.plcr_nodes.proofs.Seeing.{own_of, grows_again}
 use Rattle.plcr_nodes.proofs.Known.{inside_same, reach_bound}
 use Rattle.plcr_nodes.proofs.Staying.{reach_stays}
+use Rattle.plcr_nodes.specs.declared.gate.TheConstants.{COUNT_UNIT}
 use Rattle.plcr_imagelist.specs.Keeping.{last_of}
 use Rattle.plcr_imagelist.specs.Holds.{walker_state, HoldState, images_on, before_enter, start_of, HasEnded, EndedAt, IsHolding, IsHeld, IsNext, IsReleased, IsOut}
 use Rattle.plcr_imagelist.proofs.Meeting.{before_enter-same, follow_rises, rises-snoc, few_met, images_on-snoc, among-snoc, follows_last, images_stay, lawful_whole, ended_on}
@@ -58,7 +59,7 @@ holding_stays old past names given met ended low g more h =
     }
 
 -- a pass that went in has a hold that has met nothing
-pub holding_entered : (old : PassState) (found : ℕ) (new : PassState) (low : ℕ) → IsEntered old found new → low ≡ found / 4294967296 → IsHolding new [] false low
+pub holding_entered : (old : PassState) (found : ℕ) (new : PassState) (low : ℕ) → IsEntered old found new → low ≡ found / COUNT_UNIT → IsHolding new [] false low
 holding_entered old found new low e is =
     let few = e.sees.legal.few_passes in
     let most = readers_most old.passes e.past in
@@ -94,7 +95,7 @@ ended_out old found new met b e k =
     subst (λ (s : PassState). HasEnded s.history (start_of (walker_state s)) b met) (sym e.now)
     (ended_on old.nodes old.passes old.number old.history h met met b legal grows (before_enter-same old.number old.history e.past e.sees.added) refl k)
 
-pub released_left : (old : PassState) (found : ℕ) (new : PassState) (met : List ℕ) (ended : Bool) (low high : ℕ) → IsLeft old found new → IsHolding old met ended low → high ≡ found / 4294967296
+pub released_left : (old : PassState) (found : ℕ) (new : PassState) (met : List ℕ) (ended : Bool) (low high : ℕ) → IsLeft old found new → IsHolding old met ended low → high ≡ found / COUNT_UNIT
     → IsReleased (hold_of old met ended) (walker_state new) low high
 released_left old found new met ended low high e h is =
     let few = e.sees.legal.few_passes in

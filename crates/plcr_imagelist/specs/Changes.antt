@@ -7,6 +7,7 @@ use Rattle.plcr_machine.specs.Lists.{live, loads, changes}
 use Rattle.plcr_machine.specs.Histories.{IsHistory}
 use Rattle.plcr_machine.specs.Nodes.{is_free}
 use Rattle.plcr_machine.specs.Passes.{readers}
+use Rattle.plcr_machine.specs.declared.limits.TheConstants.{MOST_CHANGES}
 use Rattle.plcr_nodes.specs.Names.{stored_elsewhere}
 use Rattle.plcr_nodes.specs.Seeing.{GoesOn}
 use Rattle.plcr_nodes.specs.Rule.{gate_of}
@@ -64,7 +65,7 @@ IsFreeIn s node = (0 < node) × (node ≤ s.nodes) × (is_free node s.history �
 
 -- as many changes were made as a list takes
 abbrev pub IsWorn : WriterState → Type 0
-IsWorn s = changes s.history ≡ 4294967295
+IsWorn s = changes s.history ≡ MOST_CHANGES
 
 -- a load that was begun, of which no word is stored yet
 abbrev pub begun_load : WriterState → ℕ → List ℕ → ℕ → ChangeState

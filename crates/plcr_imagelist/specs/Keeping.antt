@@ -7,6 +7,7 @@ use Rattle.plcr_machine.specs.Nodes.{is_free}
 use Rattle.plcr_machine.specs.Passes.{IsPaced}
 use Rattle.plcr_machine.specs.Histories.{IsHistory}
 use Rattle.plcr_nodes.specs.Tokens.{OwnerState}
+use Rattle.plcr_nodes.specs.declared.gate.TheConstants.{COUNT_UNIT}
 
 -- how often a number stands in a list
 abbrev pub times : ℕ → List ℕ → ℕ
@@ -58,7 +59,7 @@ without_first header (image ∷ images) = if image.header == header then images 
 
 -- how many passes are inside, by the gate's word
 abbrev pub readers_in : ℕ → ℕ
-readers_in word = word % 4294967296
+readers_in word = word % COUNT_UNIT
 
 -- no node is free
 abbrev pub NoneFree : ℕ → List Entry → Type 0

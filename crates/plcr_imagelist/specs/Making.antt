@@ -1,9 +1,11 @@
 -- What the writer and a change keep between two steps.
 use Rattle.std.specs.Prelude.{◌≡◌, ◌≢◌, ℕ, suc, ◌+◌, ◌<◌, ◌≤◌, false, List, ◌∷◌, length, slice_index_or, Some, nat_lt, ◌==◌, if◌then◌else◌}
 use Rattle.plcr_base.specs.Bytes.{IsBytes}
+use Rattle.plcr_base.specs.Limits.{IsImageName}
 use Rattle.plcr_machine.specs.Lists.{live, loads}
 use Rattle.plcr_machine.specs.Passes.{counts, owes_count, IsPaced}
 use Rattle.plcr_machine.specs.Histories.{IsHistory}
+use Rattle.plcr_machine.specs.declared.limits.TheConstants.{MOST_CHANGES}
 use Rattle.plcr_nodes.specs.declared.view.Store.{Store}
 use Rattle.plcr_nodes.specs.Names.{words_of, payload_word, stored, stored_elsewhere}
 use Rattle.plcr_nodes.specs.Plays.{store}
@@ -55,10 +57,10 @@ IsReady b (Unload at image) name load made = (at < length (live b.owner.history)
 pub record IsMaking (b : BooksState) (task : Task) (name : List ℕ) (load made : ℕ) : Type 0 where
   pub known : IsHistory b.owner.nodes b.owner.passes b.owner.history b.owner.names
   pub paced : IsPaced b.owner.history
-  pub short : length name ≤ 1024
+  pub short : IsImageName name
   pub bytes : IsBytes name
   pub most : made ≤ change_step (doing_of task name)
-  pub fewer : counts b.owner.history < 4294967295
+  pub fewer : counts b.owner.history < MOST_CHANGES
   pub owes : owes_count b.owner.history ≡ (made == change_step (doing_of task name))
   pub ready : made < change_step (doing_of task name) → IsReady b task name load made
 

@@ -4,6 +4,7 @@ ghost use Rattle.plcr_machine.specs.Lists.{live, loads, changes};
 ghost use Rattle.plcr_machine.specs.Passes.{counts, is_inside, owes_count};
 ghost use Rattle.plcr_machine.specs.Nodes.{is_free};
 ghost use Rattle.plcr_machine.specs.Links.{last_place};
+ghost use Rattle.plcr_machine.specs.declared.limits.TheConstants.{MOST_CHANGES};
 ghost use Rattle.plcr_nodes.specs.Names.{IsFilled, IsEnded, header_in};
 ghost use Rattle.plcr_nodes.specs.Plays.{store};
 ghost use Rattle.plcr_nodes.specs.Tokens.{IsSized, IsLinked, opened_owner};
@@ -108,7 +109,7 @@ impl Books {
         requires some { self.old.spare ≢ 0 }
         requires filled { IsFilled self.old.spare self.old.owner.filled × IsEnded self.old.spare self.old.owner.filled }
         requires header { header ≡ header_in self.old.spare self.old.owner.filled }
-        requires paced { (owes_count self.old.owner.history ≡ false) × (changes self.old.owner.history < 4294967295) }
+        requires paced { (owes_count self.old.owner.history ≡ false) × (changes self.old.owner.history < MOST_CHANGES) }
         ensures { IsLinked self.old.owner self.old.spare self.new.owner }
     {
         let tail = self.tail();
@@ -133,7 +134,7 @@ impl Books {
     pub(crate) fn unlink(&mut self, nodes: &Nodes, at: usize, image: Image)
         requires table { self.old.owner.table ≡ nodes.now }
         requires image { (at < length (live self.old.owner.history)) × (image ≡ slice_index_or (live self.old.owner.history) at image) }
-        requires paced { (owes_count self.old.owner.history ≡ false) × (changes self.old.owner.history < 4294967295) }
+        requires paced { (owes_count self.old.owner.history ≡ false) × (changes self.old.owner.history < MOST_CHANGES) }
         ensures { IsUnlinked self.old.owner image.node self.new.owner }
     {
         let before = self.place_before(at);
@@ -148,7 +149,7 @@ impl Books {
     pub(crate) fn count(&mut self, nodes: &Nodes)
         requires table { self.old.owner.table ≡ nodes.now }
         requires owes { owes_count self.old.owner.history ≡ true }
-        requires fewer { counts self.old.owner.history < 4294967295 }
+        requires fewer { counts self.old.owner.history < MOST_CHANGES }
         ensures { (found : ℕ) × IsCounted self.old.owner found self.new.owner }
     {
         let word = self.owner.count(nodes);
@@ -240,7 +241,7 @@ impl Books {
     /// How many changes were made.
     pub(crate) fn changes(&self) -> u32
         ensures count { result ≡ changes self.now.owner.history }
-        ensures most { result ≤ 4294967295 }
+        ensures most { result ≤ MOST_CHANGES }
     {
         self.changes
     }

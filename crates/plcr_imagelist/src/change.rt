@@ -1,5 +1,6 @@
 //! A change that was begun, and its steps. Between any two of them it may be kept as long as its owner likes.
 ghost use Rattle.std.specs.Prelude.{◌≡◌, ◌≢◌, ℕ, suc, ◌+◌, ◌<◌, ◌≤◌, ◌∷◌, false, true, length, slice_index_or};
+ghost use Rattle.plcr_base.specs.Limits.{IsImageName};
 ghost use Rattle.plcr_machine.specs.Passes.{IsPaced};
 ghost use Rattle.plcr_nodes.specs.Names.{words_of};
 ghost use Rattle.plcr_nodes.specs.Plays.{store};
@@ -37,6 +38,7 @@ pub struct Change {
 
 impl Model for Change {
     ghost use Rattle.std.specs.Prelude.{◌≤◌, vec_capacity};
+    ghost use Rattle.plcr_base.specs.declared.limits.TheConstants.{IMAGE_NAME_BYTES};
     ghost use Rattle.plcr_imagelist.specs.States.{ChangeState, writer_state};
 
     ghost Value = { ChangeState };
@@ -45,7 +47,7 @@ impl Model for Change {
 
     ghost view = { λ c. record { writer = writer_state c.books.owner; doing = doing_of c.task c.name.items; load = c.load; made = c.made; node = c.books.spare } };
 
-    ghost invariant = { λ c. IsMaking c.books c.task c.name.items c.load c.made × (1024 ≤ vec_capacity c.name) };
+    ghost invariant = { λ c. IsMaking c.books c.task c.name.items c.load c.made × (IMAGE_NAME_BYTES ≤ vec_capacity c.name) };
 }
 
 /// What is left after a step: the change, or the writer after the last one.
@@ -57,7 +59,7 @@ pub enum Progress {
 
 // The number of the step that makes the change itself.
 fn change_step(task: &Task, name: &[u8]) -> u32
-    requires { length name.now ≤ 1024 }
+    requires { IsImageName name.now }
     ensures { result ≡ change_step (doing_of task.now name.now) }
 {
     match task {
@@ -70,7 +72,7 @@ fn change_step(task: &Task, name: &[u8]) -> u32
 fn store_word(books: &mut Books, nodes: &Nodes, header: u64, name: &[u8], made: usize)
     requires table { books.old.owner.table ≡ nodes.now }
     requires some { books.old.spare ≢ 0 }
-    requires short { length name.now ≤ 1024 }
+    requires short { IsImageName name.now }
     requires early { made < 3 + words_of (length name.now) }
     ensures { books.new ≡ record books.old { owner = record books.old.owner { filled = store books.old.spare (word_stored name.now made) (value_stored header name.now made) ∷ books.old.owner.filled } } }
 {

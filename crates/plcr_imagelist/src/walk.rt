@@ -2,6 +2,8 @@
 ghost use Rattle.std.specs.Prelude.{◌≡◌, ◌*◌, ◌<◌, ◌≤◌, length, All};
 ghost use Rattle.plcr_base.specs.Bytes.{IsBytes};
 ghost use Rattle.plcr_base.specs.Numbers.{u64_in};
+ghost use Rattle.plcr_base.specs.Limits.{IsImageName};
+ghost use Rattle.plcr_machine.specs.declared.limits.TheConstants.{MOST_NODES};
 ghost use Rattle.plcr_macho.specs.Images.{listed_at};
 ghost use Rattle.plcr_imagelist.specs.Walk.{images_of, IsSameWalk};
 
@@ -27,8 +29,8 @@ impl Hold {
         ensures same_reference { (lent_hold result).ghost_name ≡ self.entry.ghost_name }
         ensures hold { (lent_hold result).now ≡ self.old }
         ensures list { walked_list result ≡ list.now }
-        ensures few { length (images_of self.old) ≤ 4096 }
-        ensures short { All (λ image. length image.name ≤ 1024) (images_of self.old) }
+        ensures few { length (images_of self.old) ≤ MOST_NODES }
+        ensures short { All (λ image. IsImageName image.name) (images_of self.old) }
     {
         // The hold has to be read here, so that its invariant is known where it is lent.
         let _ = &self.met;

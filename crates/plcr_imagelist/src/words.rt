@@ -1,12 +1,13 @@
 //! The words in which an image lies in its node.
 ghost use Rattle.std.specs.Prelude.{◌≡◌, ◌+◌, ◌*◌, ◌<◌, ◌≤◌, length};
+ghost use Rattle.plcr_base.specs.declared.limits.TheConstants.{IMAGE_NAME_BYTES};
 ghost use Rattle.plcr_nodes.specs.Names.{words_of, payload_word};
 
 use plcr_base::read_padded_u64;
 
 /// How many words a name of so many bytes takes.
 pub(crate) fn words_of(len: usize) -> usize
-    requires { len ≤ 1024 }
+    requires { len ≤ IMAGE_NAME_BYTES }
     ensures { result ≡ words_of len }
 {
     (len + 7) / 8

@@ -1,7 +1,10 @@
 //! The writer, which loads and unloads images.
 ghost use Rattle.std.specs.Prelude.{◌≡◌, ◌≢◌, ◌<◌, ◌≤◌, length, slice_index_or, vec_capacity, Some, Err, IfOk, IfErr};
+ghost use Rattle.plcr_base.specs.declared.limits.TheConstants.{IMAGE_NAME_BYTES};
+ghost use Rattle.plcr_base.specs.Limits.{IsImageName};
 ghost use Rattle.plcr_machine.specs.Lists.{live, changes};
 ghost use Rattle.plcr_machine.specs.Passes.{IsPaced};
+ghost use Rattle.plcr_machine.specs.declared.limits.TheConstants.{MOST_CHANGES};
 ghost use Rattle.plcr_nodes.specs.Tokens.{IsSized, opened_owner};
 ghost use Rattle.plcr_imagelist.specs.Keeping.{first_with, without_first};
 ghost use Rattle.plcr_imagelist.specs.States.{writer_state};
@@ -14,7 +17,8 @@ use crate::books::Books;
 use crate::change::{Change, Task};
 use crate::list::ImageList;
 use crate::refusals::{LoadRefused, UnloadRefused};
-use plcr_machine::Image;
+use plcr_base::IMAGE_NAME_BYTES;
+use plcr_machine::{Image, MOST_CHANGES};
 use plcr_nodes::Owner;
 use std::alloc::{AllocError, Global};
 use std::marker::Model;
@@ -29,6 +33,7 @@ pub struct Writer {
 
 impl Model for Writer {
     ghost use Rattle.std.specs.Prelude.{◌≤◌, vec_capacity};
+    ghost use Rattle.plcr_base.specs.declared.limits.TheConstants.{IMAGE_NAME_BYTES};
     ghost use Rattle.plcr_imagelist.specs.States.{WriterState, writer_state};
 
     ghost Value = { WriterState };
@@ -37,16 +42,16 @@ impl Model for Writer {
 
     ghost view = { λ w. writer_state w.books.owner };
 
-    ghost invariant = { λ w. IsAtRest (writer_state w.books.owner) × (1024 ≤ vec_capacity w.name) };
+    ghost invariant = { λ w. IsAtRest (writer_state w.books.owner) × (IMAGE_NAME_BYTES ≤ vec_capacity w.name) };
 }
 
 // A load in a free node.
 fn start_load(books: Books, kept: Vec<u8>, header: u64, name: &[u8]) -> Change
     requires rest { IsAtRest (writer_state books.owner) }
-    requires fresh { changes books.owner.history < 4294967295 }
+    requires fresh { changes books.owner.history < MOST_CHANGES }
     requires free { books.spare ≢ 0 }
-    requires short { length name.now ≤ 1024 }
-    requires room { 1024 ≤ vec_capacity kept }
+    requires short { IsImageName name.now }
+    requires room { IMAGE_NAME_BYTES ≤ vec_capacity kept }
     ensures { result ≡ begun_load (writer_state books.owner) header name.now books.spare }
 {
     let load = books.loads() + 1;
@@ -68,10 +73,10 @@ fn start_load(books: Books, kept: Vec<u8>, header: u64, name: &[u8]) -> Change
 // An unload of an image of the list.
 fn start_unload(books: Books, kept: Vec<u8>, at: usize, image: Image) -> Change
     requires rest { IsAtRest (writer_state books.owner) }
-    requires fresh { changes books.owner.history < 4294967295 }
+    requires fresh { changes books.owner.history < MOST_CHANGES }
     requires image { (at < length (live books.owner.history)) × (image ≡ slice_index_or (live books.owner.history) at image) }
     requires first { first_with image.header (live books.owner.history) ≡ Some image }
-    requires room { 1024 ≤ vec_capacity kept }
+    requires room { IMAGE_NAME_BYTES ≤ vec_capacity kept }
     ensures { result ≡ begun_unload (writer_state books.owner) image books.spare }
 {
     let mut kept = kept;
@@ -92,7 +97,7 @@ impl Writer {
         ensures { IfOk result (λ w. w ≡ writer_state owner) }
     {
         let books = Books::open(alloc, owner, nodes)?;
-        let name = Vec::with_capacity(alloc, 1024)?;
+        let name = Vec::with_capacity(alloc, IMAGE_NAME_BYTES)?;
         Ok(Writer { books, name })
     }
 
@@ -106,9 +111,9 @@ impl Writer {
         name: &[u8],
     ) -> Result<Change, (Writer, LoadRefused)>
         requires { self.table ≡ list.now }
-        ensures worn { IsWorn self → result ≡ Err (self, LoadRefused.Worn 4294967295) }
-        ensures long { ¬ IsWorn self → 1024 < length name.now → result ≡ Err (self, LoadRefused.NameTooLong (length name.now)) }
-        ensures begins { ¬ IsWorn self → length name.now ≤ 1024 → BeginsLoad self header name.now result }
+        ensures worn { IsWorn self → result ≡ Err (self, LoadRefused.Worn MOST_CHANGES) }
+        ensures long { ¬ IsWorn self → IMAGE_NAME_BYTES < length name.now → result ≡ Err (self, LoadRefused.NameTooLong (length name.now)) }
+        ensures begins { ¬ IsWorn self → IsImageName name.now → BeginsLoad self header name.now result }
         ensures open { IfOk result (IsOpen self.table) }
         ensures back { IfErr result (λ r. (r.0.table ≡ self.table) × IsAtRest r.0) }
         ensures paced { IfOk result (λ change. IsPaced change.writer.history) }
@@ -118,10 +123,10 @@ impl Writer {
             name: kept,
         } = self;
         let changes = books.changes();
-        if changes == u32::MAX {
+        if changes == MOST_CHANGES {
             return Err((Writer { books, name: kept }, LoadRefused::Worn { changes }));
         }
-        if name.len() > 1024 {
+        if name.len() > IMAGE_NAME_BYTES {
             return Err((
                 Writer { books, name: kept },
                 LoadRefused::NameTooLong { len: name.len() },
@@ -141,7 +146,7 @@ impl Writer {
         header: u64,
     ) -> Result<Change, (Writer, UnloadRefused)>
         requires { self.table ≡ list.now }
-        ensures worn { IsWorn self → result ≡ Err (self, UnloadRefused.Worn 4294967295) }
+        ensures worn { IsWorn self → result ≡ Err (self, UnloadRefused.Worn MOST_CHANGES) }
         ensures begins { ¬ IsWorn self → BeginsUnload self header (first_with header (live self.history)) result }
         ensures open { IfOk result (IsOpen self.table) }
         ensures back { IfErr result (λ r. (r.0.table ≡ self.table) × IsAtRest r.0) }
@@ -150,7 +155,7 @@ impl Writer {
         let _ = list;
         let Writer { books, name: kept } = self;
         let changes = books.changes();
-        if changes == u32::MAX {
+        if changes == MOST_CHANGES {
             return Err((
                 Writer { books, name: kept },
                 UnloadRefused::Worn { changes },
@@ -170,11 +175,11 @@ impl Writer {
         name: &[u8],
     ) -> (Writer, Result<u32, LoadRefused>)
         requires { self.table ≡ list.now }
-        ensures worn { IsWorn self → (result.0 ≡ self) × (result.1 ≡ Err (LoadRefused.Worn 4294967295)) }
-        ensures long { ¬ IsWorn self → 1024 < length name.now → (result.0 ≡ self) × (result.1 ≡ Err (LoadRefused.NameTooLong (length name.now))) }
+        ensures worn { IsWorn self → (result.0 ≡ self) × (result.1 ≡ Err (LoadRefused.Worn MOST_CHANGES)) }
+        ensures long { ¬ IsWorn self → IMAGE_NAME_BYTES < length name.now → (result.0 ≡ self) × (result.1 ≡ Err (LoadRefused.NameTooLong (length name.now))) }
         ensures list { result.0.table ≡ self.table }
         ensures rest { IsAtRest result.0 }
-        ensures loads { ¬ IsWorn self → length name.now ≤ 1024 → LoadsOrRefuses self header name.now result.0 result.1 }
+        ensures loads { ¬ IsWorn self → IsImageName name.now → LoadsOrRefuses self header name.now result.0 result.1 }
     {
         match self.begin_load(list, header, name) {
             Ok(change) => {
@@ -188,7 +193,7 @@ impl Writer {
     /// Unloads the first image with the header: makes all steps. Gives the number of its load.
     pub fn unload(self, list: &ImageList, header: u64) -> (Writer, Result<u32, UnloadRefused>)
         requires { self.table ≡ list.now }
-        ensures worn { IsWorn self → (result.0 ≡ self) × (result.1 ≡ Err (UnloadRefused.Worn 4294967295)) }
+        ensures worn { IsWorn self → (result.0 ≡ self) × (result.1 ≡ Err (UnloadRefused.Worn MOST_CHANGES)) }
         ensures list { result.0.table ≡ self.table }
         ensures rest { IsAtRest result.0 }
         ensures unloads { ¬ IsWorn self → UnloadsOrRefuses self (first_with header (live self.history)) result.0 result.1 }

@@ -3,7 +3,7 @@ use Rattle.std.proofs.Common.{◌≡◌, ℕ, suc, ◌+◌, ◌%◌, ◌^◌, �
 use Rattle.std.proofs.lemmas.Bool.{false_from_ne_true}
 use mathlib.Core.Option.{some, none}
 use lib.ListN.{get_elem?}
-use Rattle.atomic_table.specs.Table.{Me, keeps, stepped, step, Step, Allows}
+use Rattle.atomic_table.specs.Table.{keeps, stepped, step, Step, Allows}
 use Rattle.atomic_table.specs.Seated.{TableId}
 use Rattle.plcr_machine.specs.declared.entry.Entry.{Entry}
 use Rattle.plcr_machine.specs.declared.entry.Entry.TheVariants.{Enter, Leave, Load, Unload, Count, Look}
@@ -11,12 +11,13 @@ use Rattle.plcr_machine.specs.Histories.{MayFollow}
 use Rattle.plcr_machine.specs.Nodes.{is_new, is_removed, is_cleared, is_free}
 use Rattle.plcr_machine.specs.Passes.{counts, readers}
 use Rattle.plcr_machine.specs.Parts.{own_entries, owner_entries}
+use Rattle.plcr_machine.specs.declared.limits.TheConstants.{MOST_CHANGES}
 use Rattle.plcr_machine.proofs.Cases.{not_both}
 use Rattle.plcr_machine.proofs.Freedom.{freed}
 use Rattle.plcr_machine.proofs.Insiders.{readers_most}
 use Rattle.plcr_nodes.specs.declared.view.View.{View}
 use Rattle.plcr_nodes.specs.Rule.{base, gate_of, Truth, Stands, Fits, Holds}
-use Rattle.plcr_nodes.specs.Plays.{TakesIn, view_at}
+use Rattle.plcr_nodes.specs.Plays.{Mine, TakesIn, view_at}
 use Rattle.plcr_nodes.specs.Counting.{counted, looked, IsCounted, IsLooked}
 use Rattle.plcr_nodes.specs.Tokens.{owner_state, IsOwner}
 use Rattle.plcr_nodes.proofs.Known.{free_same}
@@ -24,9 +25,7 @@ use Rattle.plcr_nodes.proofs.Owning.{sees}
 use Rattle.plcr_nodes.proofs.Fitting.{St, there, moved, taken, sees_all}
 use Rattle.plcr_nodes.proofs.GateSteps.{SameList, stands_gate}
 use Rattle.plcr_nodes.proofs.StoreSteps.{owned_else}
-
-abbrev Mine : Type 0
-Mine = Me Unit View
+use Rattle.plcr_nodes.specs.declared.gate.TheConstants.{COUNT_UNIT}
 
 -- the number of counts is told by the owner's entries
 counts-owner : (h : List Entry) → counts (owner_entries h) ≡ counts h
@@ -66,7 +65,7 @@ look_of k h = record {
 
 module _ (nodes passes slots id : ℕ) (me : Mine) (lives : me.0.spent ≡ false) (owns : me.0.owns ≡ true) where
   owner_holds : (s : St) (r : Holds nodes passes s) → get_elem? s.views id ≡ some me.0 → (e : Entry) (x : ℕ) (c : List (ℕ × Unit)) → IsOnGate e r.history → MayFollow nodes passes r.history e
-      → x ≡ gate_of passes (e ∷ r.history) → counts (e ∷ r.history) < 4294967296
+      → x ≡ gate_of passes (e ∷ r.history) → counts (e ∷ r.history) ≤ MOST_CHANGES
       → Holds nodes passes (stepped s 0 x id c (record (view_at me.0 (e ∷ r.history) r.names) { given = [] }) keeps)
   owner_holds s r at e x c on may gate few =
       let v : View = me.0 in
@@ -98,7 +97,7 @@ module _ (nodes passes slots id : ℕ) (me : Mine) (lives : me.0.spent ≡ false
         holder = λ q b held. (b, held);
       })
 
-  pub counting : counts me.0.history < 4294967295 → Allows (Holds nodes passes) slots id me 0 (λ n. (n + 4294967296) % 2 ^ 64) (counted (step slots 0 4294967296 0 none) me)
+  pub counting : counts me.0.history < MOST_CHANGES → Allows (Holds nodes passes) slots id me 0 (λ n. (n + COUNT_UNIT) % 2 ^ 64) (counted (step slots 0 COUNT_UNIT 0 none) me)
   counting fewer s r _ at _ =
       let v : View = me.0 in
       let f : Fits nodes passes (there s r) id v = r.seats id v at lives in
@@ -107,7 +106,7 @@ module _ (nodes passes slots id : ℕ) (me : Mine) (lives : me.0.spent ≡ false
       let same : counts h ≡ counts v.history = counts_same h v.history (f.sees.added.owner owns) in
       let k : ℕ = readers passes h in
       let most : k ≤ passes = readers_most passes h in let small = st.sizes.1 in let g = st.gate in
-      let x : ℕ = (get_or s.words 0 0 + 4294967296) % 2 ^ 64 in
+      let x : ℕ = (get_or s.words 0 0 + COUNT_UNIT) % 2 ^ 64 in
       let word : x ≡ gate_of passes (Count k ∷ h) = omega arith in
       let size : passes ≡ v.passes = sym f.sizes.1 in (
         record (view_at v (Count k ∷ h) r.names) { given = [] },

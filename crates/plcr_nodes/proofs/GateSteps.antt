@@ -2,7 +2,7 @@
 use Rattle.std.proofs.Common.{◌≡◌, ◌≢◌, ⊎_elim, inl, inr, ℕ, suc, ◌+◌, ◌-◌, ◌%◌, ◌^◌, ◌<◌, ◌≤◌, List, [], ◌∷◌, true, false, refl, sym, ap, ◌∙◌, subst, arith, length, length-set, get_or, set, get_or-set_same, get_or-set_other, ne_eqb}
 use mathlib.Core.Option.{some, none}
 use lib.ListN.{get_elem?}
-use Rattle.atomic_table.specs.Table.{Me, keeps, stepped, step, Allows}
+use Rattle.atomic_table.specs.Table.{keeps, stepped, step, Allows}
 use Rattle.plcr_machine.specs.declared.entry.Entry.{Entry}
 use Rattle.plcr_machine.specs.declared.entry.Entry.TheVariants.{Enter, Leave}
 use Rattle.plcr_machine.specs.Histories.{MayFollow}
@@ -10,11 +10,12 @@ use Rattle.plcr_machine.specs.Lists.{live, loads, loaded, name_of}
 use Rattle.plcr_machine.specs.Nodes.{is_free}
 use Rattle.plcr_machine.specs.Passes.{is_inside, counts, readers}
 use Rattle.plcr_machine.specs.Parts.{own_entries, owner_entries}
+use Rattle.plcr_machine.specs.declared.limits.TheConstants.{MOST_CHANGES}
 use Rattle.plcr_nodes.specs.declared.view.View.{View}
 use Rattle.plcr_nodes.specs.Entries.{among}
 use Rattle.plcr_nodes.specs.Names.{words_of, payload_word}
 use Rattle.plcr_nodes.specs.Rule.{base, gate_of, IsHeld, number_of, Truth, Stands, Fits, Holds}
-use Rattle.plcr_nodes.specs.Plays.{view_at, entered, left}
+use Rattle.plcr_nodes.specs.Plays.{Mine, view_at, entered, left}
 use Rattle.plcr_machine.proofs.Cases.{not_both}
 use Rattle.plcr_nodes.proofs.Known.{inside_same, free_same}
 use Rattle.plcr_nodes.proofs.Fitting.{St, there, moved, taken, sees_all}
@@ -34,7 +35,7 @@ busy_held e h s n held = ⊎_elim (λ z. inl z) (λ b. inr (s.busy n b)) held
 module _ (nodes passes : ℕ) where
   -- the words show the longer history, where the gate does
   pub stands_gate : (t : Truth) (e : Entry) (x : ℕ) → Stands nodes passes t → MayFollow nodes passes t.history e → SameList e t.history
-      → x ≡ gate_of passes (e ∷ t.history) → counts (e ∷ t.history) < 4294967296 → ((p : ℕ) → t.numbered ≤ p → own_entries p (e ∷ t.history) ≡ [])
+      → x ≡ gate_of passes (e ∷ t.history) → counts (e ∷ t.history) ≤ MOST_CHANGES → ((p : ℕ) → t.numbered ≤ p → own_entries p (e ∷ t.history) ≡ [])
       → Stands nodes passes (record t { words = set t.words 0 x; history = e ∷ t.history })
   stands_gate t e x s may same gate few unused = record {
     sizes = s.sizes;
@@ -91,7 +92,7 @@ module _ (nodes passes : ℕ) (s : St) (r : Holds nodes passes s) (id : ℕ) (v 
       let f : Fits nodes passes t id v = r.seats id v at lives in
       let st : Stands nodes passes t = r.stands in
       let t' : Truth = record t { words = set t.words 0 x; history = e ∷ t.history } in
-      let st' : Stands nodes passes t' = stands_gate nodes passes t e x st may of.same gate (subst (λ n. n < 4294967296) (sym of.counts) st.few)
+      let st' : Stands nodes passes t' = stands_gate nodes passes t e x st may of.same gate (subst (λ n. n ≤ MOST_CHANGES) (sym of.counts) st.few)
       (λ q above. of.others q (λ z. let b = (f.holds p mine).0 in omega arith) ∙ st.unused q above) in
       let w : View = record (view_at v (e ∷ r.history) r.names) { given = [] } in
       moved nodes passes s r id 0 x c w (e ∷ r.history) r.names r.numbered r.holder st'
@@ -115,9 +116,6 @@ module _ (nodes passes : ℕ) (s : St) (r : Holds nodes passes s) (id : ℕ) (v 
         owner = λ _. (of.owner, refl, λ n k some_node _. get_or-set_other s.words 0 (base n + k) x 0 (λ z. omega arith));
         holder = λ q b held. (b, held);
       })
-
-abbrev Mine : Type 0
-Mine = Me Unit View
 
 module _ (nodes passes slots id : ℕ) (me : Mine) (lives : me.0.spent ≡ false) (mine : among (number_of me.0) me.0.numbers ≡ true) where
   pub enters : is_inside (number_of me.0) me.0.history ≡ false

@@ -53,7 +53,7 @@ own_step : (p : ℕ) (e : Entry) (past : List Entry) → own_entries p (e ∷ pa
 own_step p e past s = inside_same p (e ∷ past) past s
 
 -- entries that were added to those that are known, and none of which is the pass's own: neither is any of the older ones
-own_apart : (p : ℕ) (e : Entry) (added past : List Entry) → own_entries p (e ∷ added ++ past) ≡ own_entries p past
+pub own_apart : (p : ℕ) (e : Entry) (added past : List Entry) → own_entries p (e ∷ added ++ past) ≡ own_entries p past
     → (own_entries p (e ∷ added ++ past) ≡ own_entries p (added ++ past)) × (own_entries p (added ++ past) ≡ own_entries p past)
 own_apart p e added past s =
     ⊎_elim (λ t. (t, sym t ∙ s)) (λ t. let m = own_longer p added past in let z = ap length s in absurd (omega arith)) (own_cons p e (added ++ past))

@@ -2,7 +2,7 @@
 use Rattle.std.proofs.Common.{◌≡◌, ◌≢◌, ⊎_elim, inl, inr, ℕ, zero, suc, ◌+◌, ◌*◌, ◌<◌, ◌≤◌, List, [], ◌∷◌, true, false, refl, sym, ap, ◌∙◌, subst, arith, length, length-set, get_or, set, get_or-set_same, get_or-set_other, ne_eqb, eq-eqb, Some}
 use Rattle.std.proofs.lemmas.Bool.{cases_eq, eqb-false}
 use mathlib.Core.Option.{none}
-use Rattle.atomic_table.specs.Table.{Me, keeps, step, Allows}
+use Rattle.atomic_table.specs.Table.{keeps, step, Allows}
 use Rattle.plcr_base.specs.Numbers.{u64_in}
 use Rattle.plcr_machine.specs.declared.image.Image.{Image}
 use Rattle.plcr_machine.specs.declared.entry.Entry.{Entry}
@@ -17,7 +17,7 @@ use Rattle.plcr_nodes.specs.declared.view.View.{View}
 use Rattle.plcr_nodes.specs.declared.view.Store.{Store}
 use Rattle.plcr_nodes.specs.Names.{stored, words_of, payload_word, header_in, name_in, IsFilled, IsEnded}
 use Rattle.plcr_nodes.specs.Rule.{base, image_word, image_words, IsHeld, Truth, Stands, Fits, Holds}
-use Rattle.plcr_nodes.specs.Plays.{linked, linked_view}
+use Rattle.plcr_nodes.specs.Plays.{Mine, linked, linked_view}
 use Rattle.plcr_nodes.proofs.Spelling.{name_bytes}
 use Rattle.plcr_nodes.proofs.Known.{free_same, live_same, loaded_most}
 use Rattle.plcr_nodes.proofs.NamesKept.{name-older, name-new}
@@ -25,9 +25,6 @@ use Rattle.plcr_nodes.proofs.Fitting.{truth, there, moved, taken, sees_all}
 use Rattle.plcr_nodes.proofs.StoreSteps.{owned_else, stored_other}
 use Rattle.plcr_machine.proofs.Leads.{link-load, link-loaded}
 use Rattle.plcr_machine.proofs.Followers.{last_place-other}
-
-abbrev Mine : Type 0
-Mine = Me Unit View
 
 -- what a filled node's words are, when each stored word is there
 filled_word : (n : ℕ) (ss : List Store) (word : ℕ → ℕ) → IsFilled n ss → ((k x : ℕ) → k < 131 → stored n k ss ≡ Some x → word k ≡ x)

@@ -4,7 +4,7 @@ use Rattle.std.proofs.lemmas.Bool.{or_cases}
 use Rattle.std.proofs.lemmas.List.{set-get_or}
 use mathlib.Core.Option.{some, none}
 use lib.ListN.{get_elem?}
-use Rattle.atomic_table.specs.Table.{Me, keeps, stepped, step, Allows}
+use Rattle.atomic_table.specs.Table.{keeps, stepped, step, Allows}
 use Rattle.atomic_table.proofs.Lists.{at_set}
 use Rattle.plcr_machine.specs.declared.image.Image.{Image}
 use Rattle.plcr_machine.specs.declared.entry.Entry.{Entry}
@@ -18,7 +18,7 @@ use Rattle.plcr_nodes.specs.declared.view.View.{View}
 use Rattle.plcr_nodes.specs.Entries.{among}
 use Rattle.plcr_nodes.specs.Names.{words_of}
 use Rattle.plcr_nodes.specs.Rule.{base, name_on, image_word, image_words, first_of, number_of, Stands, Fits, Holds}
-use Rattle.plcr_nodes.specs.Plays.{view_at, followed, loaded_word}
+use Rattle.plcr_nodes.specs.Plays.{Mine, view_at, followed, loaded_word}
 use Rattle.plcr_nodes.proofs.Known.{inside_same, free_same, reach_grows, reach_bound, legal_older, link_bound, loaded_grows, loaded_most}
 use Rattle.plcr_nodes.proofs.NamesKept.{name-older}
 use Rattle.plcr_nodes.proofs.Fitting.{St, there, taken, sees_all}
@@ -69,9 +69,6 @@ pub name_grows : (nodes passes : ℕ) (p n : ℕ) (added past : List Entry) (new
 name_grows nodes passes p n added past new names l s r e =
     let m = loaded_most nodes passes n past (legal_older nodes passes added past l) in
     ap (λ (x : Image). name_of x.load (new ++ names)) (loaded_grows nodes passes p n added past l s r) ∙ name-older (loaded n past).load new names (omega arith)
-
-abbrev Mine : Type 0
-Mine = Me Unit View
 
 module _ (nodes passes slots id : ℕ) (me : Mine) (lives : me.0.spent ≡ false) (mine : among (number_of me.0) me.0.numbers ≡ true) where
   -- what was given may still be reached

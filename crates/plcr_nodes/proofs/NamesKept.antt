@@ -5,7 +5,8 @@ use Rattle.plcr_machine.specs.declared.entry.Entry.{Entry}
 use Rattle.plcr_machine.specs.Lists.{name_of, loaded}
 use Rattle.plcr_nodes.specs.Rule.{name_on, image_words}
 use Rattle.plcr_base.specs.Bytes.{IsBytes}
-use Rattle.plcr_nodes.specs.Names.{IsShort, AreNames}
+use Rattle.plcr_base.specs.Limits.{IsImageName}
+use Rattle.plcr_nodes.specs.Names.{AreNames}
 use Rattle.plcr_nodes.proofs.Spelling.{no_bytes}
 
 -- the newest name is that of the newest load
@@ -17,9 +18,9 @@ name-older i [] names h = refl
 name-older i (x ∷ added) names h =
     rw (ne_eqb i (suc (length (added ++ names))) (λ e. omega (arith, length-append added names))) (name-older i added names h)
 
-pub name_short : (i : ℕ) (names : List (List ℕ)) → AreNames names → IsShort (name_of i names)
+pub name_short : (i : ℕ) (names : List (List ℕ)) → AreNames names → IsImageName (name_of i names)
 name_short i [] s = omega arith
-name_short i (x ∷ xs) s = cond_both (eqb i (suc (length xs))) x (name_of i xs) IsShort (λ _. s.0) (λ _. name_short i xs s.2)
+name_short i (x ∷ xs) s = cond_both (eqb i (suc (length xs))) x (name_of i xs) IsImageName (λ _. s.0) (λ _. name_short i xs s.2)
 
 pub bytes_named : (i : ℕ) (names : List (List ℕ)) → AreNames names → IsBytes (name_of i names)
 bytes_named i [] s = no_bytes
@@ -27,4 +28,4 @@ bytes_named i (x ∷ xs) s = cond_both (eqb i (suc (length xs))) x (name_of i xs
 
 -- an image has at most 130 payload words
 pub image_most : (n : ℕ) (h : List Entry) (names : List (List ℕ)) → AreNames names → image_words n h names ≤ 130
-image_most n h names s = let b : length (name_on n h names) ≤ 1024 = name_short (loaded n h).load names s in omega arith
+image_most n h names s = let b : IsImageName (name_on n h names) = name_short (loaded n h).load names s in omega arith

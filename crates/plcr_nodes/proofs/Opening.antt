@@ -4,21 +4,19 @@ use Rattle.std.proofs.lemmas.Bool.{or_cases}
 use Rattle.std.proofs.lemmas.List.{length-replicate}
 use mathlib.Core.Option.{some, none, some-injective, some-ne-none}
 use lib.ListN.{get_elem?}
-use Rattle.atomic_table.specs.Table.{Me, keeps, step, opening, Allows, Splits}
+use Rattle.atomic_table.specs.Table.{keeps, step, opening, Allows, Splits}
 use Rattle.atomic_table.proofs.Lists.{at_set}
 use Rattle.plcr_machine.specs.Passes.{readers}
 use Rattle.plcr_machine.specs.Parts.{own_entries}
+use Rattle.plcr_machine.specs.declared.limits.TheConstants.{MOST_NODES, MOST_PASSES}
 use Rattle.plcr_machine.proofs.Cases.{not_both, eqb_same}
 use Rattle.plcr_nodes.specs.declared.view.View.{View}
 use Rattle.plcr_nodes.specs.declared.view.Heard.{Heard}
 use Rattle.plcr_nodes.specs.Entries.{among}
 use Rattle.plcr_nodes.specs.Rule.{base, first_of, Truth, Stands, Fits, Holds, first_view}
-use Rattle.plcr_nodes.specs.Plays.{numbered, giving, given_view}
+use Rattle.plcr_nodes.specs.Plays.{Mine, numbered, giving, given_view}
 use Rattle.plcr_nodes.proofs.Known.{no_own}
 use Rattle.plcr_nodes.proofs.Fitting.{truth, there, stands_held, still_fits, moved, sees_all}
-
-abbrev Mine : Type 0
-Mine = Me Unit View
 
 zero_word : (n k : ℕ) → ◌≡◌ {A = ℕ} (get_or (replicate n 0) k 0) 0
 zero_word zero k = refl
@@ -34,7 +32,7 @@ only_first x y zero e = (refl, some-injective x y e)
 only_first x y (suc j) e = cc
 
 -- the rule holds at the start
-pub opens : (nodes passes : ℕ) (ws : List ℕ) → nodes ≤ 4096 → passes ≤ 1024 → ws ≡ replicate (base (nodes + 1)) 0 → Holds nodes passes (opening ws [] (first_view nodes passes))
+pub opens : (nodes passes : ℕ) (ws : List ℕ) → nodes ≤ MOST_NODES → passes ≤ MOST_PASSES → ws ≡ replicate (base (nodes + 1)) 0 → Holds nodes passes (opening ws [] (first_view nodes passes))
 opens nodes passes ws few_nodes few_passes is =
     let words : (k : ℕ) → get_or ws k 0 ≡ 0 = λ k. ap (λ (l : List ℕ). get_or l k 0) is ∙ zero_word (base (nodes + 1)) k in
     let t : Truth = truth ws [] [] 0 0 (λ p. 0) in

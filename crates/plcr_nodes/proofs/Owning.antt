@@ -1,7 +1,7 @@
 -- What the owner knows after a step, from what the step told its seat.
 use Rattle.std.proofs.Common.{◌≡◌, ⊎_elim, ℕ, suc, ◌+◌, ◌<◌, ◌≤◌, List, ◌∷◌, true, false, eqb, refl, sym, ap, ◌∙◌, subst, arith, eqb-true}
 use mathlib.Core.Option.{none}
-use Rattle.atomic_table.specs.Table.{Me, Step, step, Allows}
+use Rattle.atomic_table.specs.Table.{Step, step, Allows}
 use Rattle.atomic_table.specs.Seated.{TableId}
 use Rattle.plcr_machine.specs.declared.entry.Entry.{Entry}
 use Rattle.plcr_machine.specs.Histories.{IsLegal, IsHistory}
@@ -14,15 +14,12 @@ use Rattle.plcr_machine.proofs.Followers.{last_place-other}
 use Rattle.plcr_nodes.specs.declared.view.View.{View}
 use Rattle.plcr_nodes.specs.Names.{header_in, IsFilled, IsEnded}
 use Rattle.plcr_nodes.specs.Rule.{base, Holds}
-use Rattle.plcr_nodes.specs.Plays.{TakesIn, store, filled, linked, linked_view}
+use Rattle.plcr_nodes.specs.Plays.{Mine, TakesIn, store, filled, linked, linked_view}
 use Rattle.plcr_nodes.specs.Tokens.{owner_state, IsOwner, OwnerSeesMore, IsLinked}
 use Rattle.plcr_nodes.proofs.Spelling.{name_bytes}
 use Rattle.plcr_nodes.proofs.Known.{free_same}
 use Rattle.plcr_nodes.proofs.StoreSteps.{stored_new, stored_other, fills}
 use Rattle.plcr_nodes.proofs.LinkStep.{free_else, links}
-
-abbrev Mine : Type 0
-Mine = Me Unit View
 
 -- the last place of the list is a place of the table
 pub last_bound : (nodes passes : ℕ) (h : List Entry) → IsLegal nodes passes h → last_place 0 (live h) ≤ nodes

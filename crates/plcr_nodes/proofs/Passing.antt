@@ -1,7 +1,7 @@
 -- What a pass knows after a step, from what the step told its seat.
 use Rattle.std.proofs.Common.{◌≡◌, ◌⊎◌, ⊎_elim, inl, inr, ℕ, zero, suc, ◌+◌, ◌<◌, ◌≤◌, List, [], ◌∷◌, true, false, eqb, refl, sym, ◌∙◌, subst, arith, eqb-true}
 use Rattle.std.proofs.lemmas.Bool.{or_cases}
-use Rattle.atomic_table.specs.Table.{Me, Step}
+use Rattle.atomic_table.specs.Table.{Step}
 use Rattle.atomic_table.specs.Seated.{TableId}
 use Rattle.plcr_machine.specs.declared.entry.Entry.{Entry}
 use Rattle.plcr_machine.specs.declared.entry.Entry.TheVariants.{Enter, Leave}
@@ -11,13 +11,10 @@ use Rattle.plcr_machine.proofs.Cases.{not_both, eqb_same}
 use Rattle.plcr_nodes.specs.declared.view.View.{View}
 use Rattle.plcr_nodes.specs.Entries.{among}
 use Rattle.plcr_nodes.specs.Rule.{base, image_word, number_of}
-use Rattle.plcr_nodes.specs.Plays.{TakesIn, view_at, entered, left, followed, loaded_word}
+use Rattle.plcr_nodes.specs.Plays.{Mine, TakesIn, view_at, entered, left, followed, loaded_word}
 use Rattle.plcr_nodes.specs.Tokens.{pass_state, IsPass, SeesMore, IsEntered, IsLeft, IsFollowed, IsRead}
 use Rattle.plcr_nodes.proofs.Known.{inside_same, reach_bound}
 use Rattle.plcr_nodes.proofs.Staying.{reach_stays, word_stays}
-
-abbrev Mine : Type 0
-Mine = Me Unit View
 
 module _ (z : TableId) (m : Mine) (g : IsPass z m) where
   -- the seat has its number

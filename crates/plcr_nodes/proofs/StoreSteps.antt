@@ -3,7 +3,7 @@ use Rattle.std.proofs.Common.{◌≡◌, ◌≢◌, ◌⊎◌, ⊎_elim, inl, in
 use Rattle.std.proofs.lemmas.Bool.{eqb-false, and_parts}
 use mathlib.Core.Option.{some, none}
 use lib.ListN.{get_elem?}
-use Rattle.atomic_table.specs.Table.{Me, keeps, step, Allows}
+use Rattle.atomic_table.specs.Table.{keeps, step, Allows}
 use Rattle.plcr_machine.specs.declared.entry.Entry.{Entry}
 use Rattle.plcr_machine.specs.Nodes.{is_free}
 use Rattle.plcr_machine.proofs.Cases.{not_both, by_cases}
@@ -11,12 +11,9 @@ use Rattle.plcr_nodes.specs.declared.view.View.{View}
 use Rattle.plcr_nodes.specs.declared.view.Store.{Store}
 use Rattle.plcr_nodes.specs.Names.{stored, stored_elsewhere}
 use Rattle.plcr_nodes.specs.Rule.{base, Truth, Stands, Fits, Holds}
-use Rattle.plcr_nodes.specs.Plays.{store, filled}
+use Rattle.plcr_nodes.specs.Plays.{Mine, store, filled}
 use Rattle.plcr_nodes.proofs.Known.{free_same}
 use Rattle.plcr_nodes.proofs.Fitting.{St, truth, there, moved}
-
-abbrev Mine : Type 0
-Mine = Me Unit View
 
 -- the last of several stores of a word counts
 pub stored_new : (n k x m j y : ℕ) (ss : List Store) → stored m j (store n k x ∷ ss) ≡ Some y → ((n ≡ m) × (k ≡ j) × (x ≡ y)) ⊎ ((eqb n m && eqb k j ≡ false) × (stored m j ss ≡ Some y))

@@ -3,21 +3,18 @@ use Rattle.std.proofs.Common.{◌≡◌, ⊎_elim, ◌⊎◌, inl, inr, ℕ, zer
 use Rattle.std.proofs.lemmas.Bool.{or_cases, or_left, or_right}
 use mathlib.Core.Option.{some, none, some-injective, some-ne-none}
 use lib.ListN.{get_elem?}
-use Rattle.atomic_table.specs.Table.{Me, keeps, step, Allows, Splits, Joins}
+use Rattle.atomic_table.specs.Table.{keeps, step, Allows, Splits, Joins}
 use Rattle.atomic_table.proofs.Lists.{at_set}
 use Rattle.plcr_machine.proofs.Cases.{not_both, by_cases}
 use Rattle.plcr_nodes.specs.declared.view.View.{View}
 use Rattle.plcr_nodes.specs.declared.view.Heard.{Heard}
 use Rattle.plcr_nodes.specs.Entries.{among}
 use Rattle.plcr_nodes.specs.Rule.{number_of, Truth, Fits, Hears, Holds}
-use Rattle.plcr_nodes.specs.Plays.{view_at}
+use Rattle.plcr_nodes.specs.Plays.{Mine, view_at}
 use Rattle.plcr_nodes.specs.Telling.{noted_view, heard_of, hearing_view, spent_view, gained, TakesAllOver, learned, gathered}
 use Rattle.plcr_nodes.proofs.Fitting.{St, truth, there, stands_held, still_fits, taken}
 use Rattle.plcr_nodes.proofs.LoadSteps.{loads_as, load_holds, given_reach}
 use Rattle.plcr_nodes.proofs.Opening.{at_snoc_place}
-
-abbrev Mine : Type 0
-Mine = Me Unit View
 
 only_one : {A : Type 0} (x y : A) (k : ℕ) → get_elem? (x ∷ []) k ≡ some y → x ≡ y
 only_one x y zero e = some-injective x y e

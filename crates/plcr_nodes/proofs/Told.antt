@@ -1,12 +1,12 @@
 -- What a token knows after a telling or a join, from what the load told its seat.
 use Rattle.std.proofs.Common.{◌≡◌, ℕ, List, [], ◌∷◌, ◌++◌, false, refl, sym, ap, ◌∙◌, subst}
-use Rattle.atomic_table.specs.Table.{Me, Step}
+use Rattle.atomic_table.specs.Table.{Step}
 use Rattle.atomic_table.specs.Seated.{TableId}
 use Rattle.plcr_machine.specs.declared.entry.Entry.{Entry}
 use Rattle.plcr_nodes.specs.declared.view.View.{View}
 use Rattle.plcr_nodes.specs.Seeing.{AddsOthers}
 use Rattle.plcr_nodes.specs.Rule.{number_of}
-use Rattle.plcr_nodes.specs.Plays.{TakesIn, view_at}
+use Rattle.plcr_nodes.specs.Plays.{Mine, TakesIn, view_at}
 use Rattle.plcr_nodes.specs.Tokens.{pass_state, owner_state, IsPass}
 use Rattle.plcr_nodes.specs.Unlinking.{IsOwning}
 use Rattle.plcr_nodes.specs.Telling.{heard_of, hearing_view, learned, gathered, IsGathered, note_state, IsPassTold, IsOwnerTold, IsJoined}
@@ -15,9 +15,6 @@ use Rattle.plcr_nodes.proofs.Noting.{knows_same}
 use Rattle.plcr_nodes.proofs.Owning.{sees}
 use Rattle.plcr_nodes.proofs.Passing.{still_reached, seen_after}
 use Rattle.plcr_nodes.proofs.Passing as passing
-
-abbrev Mine : Type 0
-Mine = Me Unit View
 
 pub gathered_of : (m : Mine) (w : View) (st : Step Unit) (found : ℕ) (m' : Mine) → gathered st (hearing_view m.0 w, m.1) found m' → IsGathered m w m'
 gathered_of m w st found m' told = record {

@@ -2,7 +2,7 @@
 use Rattle.std.proofs.Common.{◌≡◌, ◌≢◌, ⊎_elim, inl, inr, ℕ, ◌+◌, ◌<◌, ◌≤◌, List, [], ◌∷◌, true, false, ◌||◌, eqb, refl, sym, ap, ◌∙◌, subst, arith, length-set, get_or, set, get_or-set_same, get_or-set_other, ne_eqb, eqb-true}
 use Rattle.std.proofs.lemmas.Bool.{cases_eq, or_cases, or_right}
 use mathlib.Core.Option.{none}
-use Rattle.atomic_table.specs.Table.{Me, keeps, stepped, step, Step, Allows}
+use Rattle.atomic_table.specs.Table.{keeps, stepped, step, Step, Allows}
 use Rattle.atomic_table.specs.Seated.{TableId}
 use Rattle.plcr_machine.specs.declared.image.Image.{Image}
 use Rattle.plcr_machine.specs.declared.entry.Entry.{Entry}
@@ -17,16 +17,13 @@ use Rattle.plcr_machine.proofs.Followers.{after_listed}
 use Rattle.plcr_machine.proofs.Leads.{link_here, link_over, link_else}
 use Rattle.plcr_nodes.specs.declared.view.View.{View}
 use Rattle.plcr_nodes.specs.Rule.{base, IsHeld, Truth, Stands, Fits, Holds}
-use Rattle.plcr_nodes.specs.Plays.{TakesIn, view_at}
+use Rattle.plcr_nodes.specs.Plays.{Mine, TakesIn, view_at}
 use Rattle.plcr_nodes.specs.Tokens.{owner_state, IsOwner}
 use Rattle.plcr_nodes.specs.Unlinking.{Follows, unlinked, IsUnlinked}
 use Rattle.plcr_nodes.proofs.Known.{free_same, live_same}
 use Rattle.plcr_nodes.proofs.Owning.{sees}
 use Rattle.plcr_nodes.proofs.Fitting.{truth, there, moved, taken, sees_all}
 use Rattle.plcr_nodes.proofs.StoreSteps.{owned_else}
-
-abbrev Mine : Type 0
-Mine = Me Unit View
 
 -- what follows a place is in the list
 pub follower_listed : (before node : ℕ) (h : List Entry) → Follows before node h → has node (live h) ≡ true

@@ -1,17 +1,13 @@
 -- What the owner is told as it counts a change or looks at the gate: how many passes are inside.
 use Rattle.std.specs.Prelude.{◌≡◌, ℕ, List, [], ◌∷◌}
-use Rattle.atomic_table.specs.Table.{Step, Me}
+use Rattle.atomic_table.specs.Table.{Step}
 use Rattle.plcr_machine.specs.declared.entry.Entry.{Entry}
 use Rattle.plcr_machine.specs.declared.entry.Entry.TheVariants.{Count, Look}
 use Rattle.plcr_machine.specs.Histories.{IsHistory}
 use Rattle.plcr_machine.specs.Passes.{readers}
-use Rattle.plcr_nodes.specs.declared.view.View.{View}
 use Rattle.plcr_nodes.specs.Rule.{gate_of}
-use Rattle.plcr_nodes.specs.Plays.{TakesIn, view_at}
+use Rattle.plcr_nodes.specs.Plays.{Mine, TakesIn, view_at}
 use Rattle.plcr_nodes.specs.Tokens.{OwnerState, OwnerSeesMore}
-
-abbrev Mine : Type 0
-Mine = Me Unit View
 
 -- a change was counted
 abbrev pub counted : Step Unit → Mine → ℕ → Mine → Type 0

@@ -1,18 +1,15 @@
 -- How an image lies in the words of its node: the header, the length of its name, and the name in words of 8 bytes, the lowest byte first and zero past the end.
-use Rattle.std.specs.Prelude.{◌≡◌, ℕ, zero, suc, ◌+◌, ◌*◌, ◌/◌, ◌<◌, ◌≤◌, cond, ◌&&◌, ◌==◌, List, [], ◌∷◌, ◌++◌, length, take, Option, Some, None}
+use Rattle.std.specs.Prelude.{◌≡◌, ℕ, zero, suc, ◌+◌, ◌*◌, ◌/◌, ◌<◌, cond, ◌&&◌, ◌==◌, List, [], ◌∷◌, ◌++◌, length, take, Option, Some, None}
 use Rattle.byteorder.specs.Endian.{little_bytes}
 use Rattle.plcr_base.specs.Bytes.{IsBytes}
+use Rattle.plcr_base.specs.Limits.{IsImageName}
 use Rattle.plcr_base.specs.Numbers.{u64_in}
 use Rattle.plcr_nodes.specs.declared.view.Store.{Store}
 
--- a name has at most 1,024 bytes
-abbrev pub IsShort : List ℕ → Type 0
-IsShort name = length name ≤ 1024
-
--- short lists of bytes
+-- names of images
 abbrev pub AreNames : List (List ℕ) → Type 0
 AreNames [] = Unit {0}
-AreNames (name ∷ names) = IsShort name × IsBytes name × AreNames names
+AreNames (name ∷ names) = IsImageName name × IsBytes name × AreNames names
 
 -- the number of words that the bytes take
 abbrev pub words_of : ℕ → ℕ
@@ -55,10 +52,10 @@ header_in n ss = stored_or n 1 ss
 abbrev pub name_in : ℕ → List Store → List ℕ
 name_in n ss = take (stored_or n 2 ss) (stored_bytes n 2 (words_of (stored_or n 2 ss)) ss)
 
--- The node is filled: its stores are the words of one image, whose name has at most 1,024 bytes
+-- The node is filled: its stores are the words of one image, whose name is within its limit
 pub record IsFilled (n : ℕ) (ss : List Store) : Type 0 where
   pub header : stored n 1 ss ≡ Some (header_in n ss)
-  pub short : IsShort (name_in n ss)
+  pub short : IsImageName (name_in n ss)
   pub len : stored n 2 ss ≡ Some (length (name_in n ss))
   pub name : (k : ℕ) → k < words_of (length (name_in n ss)) → stored n (k + 3) ss ≡ Some (u64_in (name_in n ss) (8 * k))
 

@@ -20,7 +20,8 @@ TakesIn v past names = GoesOn v.nodes v.passes v.owns v.numbers v.history v.name
 abbrev pub view_at : View → List Entry → List (List ℕ) → View
 view_at v h names = record v { history = h; names = names; heard = [] }
 
-abbrev Mine : Type 0
+-- what a step sees of the seat that makes it
+abbrev pub Mine : Type 0
 Mine = Me Unit View
 
 abbrev pub entered : Step Unit → Mine → ℕ → Mine → Type 0

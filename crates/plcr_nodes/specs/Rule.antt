@@ -11,11 +11,13 @@ use Rattle.plcr_machine.specs.Nodes.{is_free}
 use Rattle.plcr_machine.specs.Links.{link_of}
 use Rattle.plcr_machine.specs.Holds.{may_reach}
 use Rattle.plcr_machine.specs.Parts.{own_entries}
+use Rattle.plcr_machine.specs.declared.limits.TheConstants.{MOST_NODES, MOST_PASSES, MOST_CHANGES}
 use Rattle.plcr_nodes.specs.declared.view.View.{View}
 use Rattle.plcr_nodes.specs.declared.view.Heard.{Heard}
 use Rattle.plcr_nodes.specs.Entries.{among, WentOn}
 use Rattle.plcr_nodes.specs.Seeing.{AddsOthers}
 use Rattle.plcr_nodes.specs.Names.{payload_word, words_of, stored, AreNames}
+use Rattle.plcr_nodes.specs.declared.gate.TheConstants.{COUNT_UNIT}
 
 -- Word 0 is the gate and word 1 counts the pass numbers. From `base n` on node n has its link and 130 payload words; node 0 is the head, which has a link alone
 abbrev pub base : ℕ → ℕ
@@ -23,7 +25,7 @@ base n = 2 + 131 * n
 
 -- the gate's word: the counts above, the readers below
 abbrev pub gate_of : ℕ → List Entry → ℕ
-gate_of passes h = counts h * 4294967296 + readers passes h
+gate_of passes h = counts h * COUNT_UNIT + readers passes h
 
 -- the name of the last image that was loaded on the node
 abbrev pub name_on : ℕ → List Entry → List (List ℕ) → List ℕ
@@ -52,12 +54,12 @@ IsHeld n h = (n ≡ 0) ⊎ (is_free n h ≡ false)
 
 -- the words show the history
 pub record Stands (nodes passes : ℕ) (t : Truth) : Type 0 where
-  pub sizes : (nodes ≤ 4096) × (passes ≤ 1024)
+  pub sizes : (nodes ≤ MOST_NODES) × (passes ≤ MOST_PASSES)
   pub wide : length t.words ≡ base (nodes + 1)
   pub legal : IsLegal nodes passes t.history
   pub named : length t.names ≡ loads t.history
   pub short : AreNames t.names
-  pub few : counts t.history < 4294967296
+  pub few : counts t.history ≤ MOST_CHANGES
   pub gate : slice_index t.words 0 ≡ gate_of passes t.history
   pub number : slice_index t.words 1 ≡ t.numbered
   pub enough : t.numbered ≤ passes

@@ -2,7 +2,7 @@
 use Rattle.std.specs.Prelude.{◌≡◌, ℕ, true, false, List, [], ◌∷◌, ◌++◌}
 use mathlib.Core.Option.{some}
 use lib.ListN.{get_elem?}
-use Rattle.atomic_table.specs.Table.{Step, Me}
+use Rattle.atomic_table.specs.Table.{Step}
 use Rattle.atomic_table.specs.Seated.{TableId}
 use Rattle.plcr_machine.specs.declared.entry.Entry.{Entry}
 use Rattle.plcr_machine.specs.Lists.{Grows}
@@ -10,11 +10,8 @@ use Rattle.plcr_nodes.specs.declared.view.View.{View}
 use Rattle.plcr_nodes.specs.declared.view.Heard.{Heard}
 use Rattle.plcr_nodes.specs.Entries.{WentOn}
 use Rattle.plcr_nodes.specs.Seeing.{AddsOthers}
-use Rattle.plcr_nodes.specs.Plays.{TakesIn, view_at}
+use Rattle.plcr_nodes.specs.Plays.{Mine, TakesIn, view_at}
 use Rattle.plcr_nodes.specs.Tokens.{PassState, OwnerState, NoteState, SeesMore, OwnerSeesMore}
-
-abbrev Mine : Type 0
-Mine = Me Unit View
 
 -- a note: a copy of what was seen, without rights
 abbrev pub noted_view : View → View

@@ -10,6 +10,7 @@ use Rattle.plcr_machine.specs.Nodes.{is_free}
 use Rattle.plcr_machine.specs.Passes.{is_inside}
 use Rattle.plcr_machine.specs.Links.{link_of}
 use Rattle.plcr_machine.specs.Holds.{may_reach}
+use Rattle.plcr_machine.specs.declared.limits.TheConstants.{MOST_NODES, MOST_PASSES}
 use Rattle.plcr_nodes.specs.declared.view.View.{View}
 use Rattle.plcr_nodes.specs.declared.view.Store.{Store}
 use Rattle.plcr_nodes.specs.Entries.{among}
@@ -125,7 +126,7 @@ pub record IsLinked (old : OwnerState) (node : ℕ) (new : OwnerState) : Type 0 
 
 -- the sizes that a table may have
 abbrev pub IsSized : ℕ → ℕ → Type 0
-IsSized nodes passes = ((0 < nodes) × (nodes ≤ 4096)) × ((0 < passes) × (passes ≤ 1024))
+IsSized nodes passes = ((0 < nodes) × (nodes ≤ MOST_NODES)) × ((0 < passes) × (passes ≤ MOST_PASSES))
 
 -- a pass of a table that was just opened
 abbrev pub opened_pass : TableId → ℕ → ℕ → ℕ → PassState

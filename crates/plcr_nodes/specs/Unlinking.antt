@@ -1,18 +1,14 @@
 -- What the owner is told as it takes an image out of the list.
 use Rattle.std.specs.Prelude.{◌≡◌, ◌≢◌, ℕ, ◌+◌, List, [], ◌∷◌, length, slice_index}
-use Rattle.atomic_table.specs.Table.{Step, Me}
+use Rattle.atomic_table.specs.Table.{Step}
 use Rattle.atomic_table.specs.Seated.{TableId}
 use Rattle.plcr_machine.specs.declared.entry.Entry.{Entry}
 use Rattle.plcr_machine.specs.declared.entry.Entry.TheVariants.{Unload}
 use Rattle.plcr_machine.specs.Histories.{IsHistory}
 use Rattle.plcr_machine.specs.Links.{link_of, IsPlace}
-use Rattle.plcr_nodes.specs.declared.view.View.{View}
 use Rattle.plcr_nodes.specs.Rule.{base}
-use Rattle.plcr_nodes.specs.Plays.{TakesIn, view_at}
+use Rattle.plcr_nodes.specs.Plays.{Mine, TakesIn, view_at}
 use Rattle.plcr_nodes.specs.Tokens.{OwnerState, OwnerSeesMore, IsOwner}
-
-abbrev pub Mine : Type 0
-Mine = Me Unit View
 
 -- the node that follows a place of the list
 pub record Follows (before node : ℕ) (history : List Entry) : Type 0 where

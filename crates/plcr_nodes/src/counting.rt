@@ -1,8 +1,10 @@
 //! The owner counts its changes at the gate, and looks at it.
 ghost use Rattle.std.specs.Prelude.{◌≡◌, ◌<◌};
 ghost use Rattle.plcr_machine.specs.Passes.{counts};
+ghost use Rattle.plcr_machine.specs.declared.limits.TheConstants.{MOST_CHANGES};
 ghost use Rattle.plcr_nodes.specs.Counting.{counted, looked, IsCounted, IsLooked};
 
+use crate::gate::COUNT_UNIT;
 use crate::nodes::Nodes;
 use crate::owner::Owner;
 use crate::view::View;
@@ -21,17 +23,17 @@ impl Play<(), View> for Looking {
 }
 
 impl Owner {
-    /// Counts a change: adds 2^32 to the gate, and gives the word before. Where no pass was inside, each removed node is
+    /// Counts a change: adds a unit to the gate, and gives the word before. Where no pass was inside, each removed node is
     /// free from then on.
     pub fn count(&mut self, nodes: &Nodes) -> u64
         requires table { self.old.table ≡ nodes.now }
-        requires fewer { counts self.old.history < 4294967295 }
+        requires fewer { counts self.old.history < MOST_CHANGES }
         ensures entry { IsCounted self.old result self.new }
     {
         nodes
             .table
             .shared
-            .fetch_add::<Counting>(&mut self.seat, 0, 4294967296)
+            .fetch_add::<Counting>(&mut self.seat, 0, COUNT_UNIT)
     }
 
     /// Looks at the gate, and gives the word. Where no pass was inside, each removed node is free from then on.

@@ -3,6 +3,7 @@
 #![tactic(auto)]
 
 mod counting;
+mod gate;
 mod laws;
 mod nodes;
 mod owner;
@@ -16,6 +17,7 @@ mod tests;
 mod unlinking;
 mod view;
 
+pub use gate::COUNT_UNIT;
 pub use laws::{owners_know_the_list, passes_keep_their_reach};
 pub use nodes::{Nodes, NodesError};
 pub use owner::Owner;

@@ -8,6 +8,7 @@ use crate::pass::NodePass;
 use crate::plays::{Giving, Numbering};
 use crate::view::{OneHistory, Sizes, View};
 use atomic_table::{Seat, Table};
+use plcr_machine::{MOST_NODES, MOST_PASSES};
 use std::alloc::{AllocError, Global};
 use std::marker::Model;
 
@@ -66,7 +67,7 @@ impl Nodes {
         ensures bad { ¬ IsSized nodes passes → IsErrOf result (NodesError.BadSize nodes passes) }
         ensures memory { IsSized nodes passes → IfErr result (λ e. e ≡ NodesError.Memory) }
     {
-        if nodes == 0 || nodes > 4096 || passes == 0 || passes > 1024 {
+        if nodes == 0 || nodes > MOST_NODES || passes == 0 || passes > MOST_PASSES {
             return Err(NodesError::BadSize { nodes, passes });
         }
         let (table, mut seat) = Nodes::make(alloc, nodes, passes)?;

@@ -3,6 +3,7 @@ ghost use Rattle.std.specs.Prelude.{◌≡◌, ℕ, ◌+◌, ◌<◌, ◌≤◌,
 ghost use Rattle.plcr_machine.specs.Lists.{live, loads};
 ghost use Rattle.plcr_machine.specs.Links.{last_place};
 ghost use Rattle.plcr_machine.specs.Nodes.{is_free};
+ghost use Rattle.plcr_machine.specs.declared.limits.TheConstants.{MOST_CHANGES};
 ghost use Rattle.plcr_nodes.specs.Names.{IsFilled, IsEnded};
 ghost use Rattle.plcr_nodes.specs.Plays.{store};
 ghost use Rattle.plcr_nodes.specs.Tokens.{IsLinked};
@@ -76,7 +77,7 @@ impl Owner {
         requires tail { tail ≡ last_place 0 (live self.old.history) }
         requires filled { (0 < node) × IsFilled node self.old.filled }
         requires ended { IsEnded node self.old.filled }
-        requires few { loads self.old.history < 4294967295 }
+        requires few { loads self.old.history < MOST_CHANGES }
         ensures entry { IsLinked self.old node self.new }
     {
         nodes

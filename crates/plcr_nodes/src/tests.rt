@@ -8,6 +8,7 @@ ghost use Rattle.plcr_machine.specs.Lists.{live, loads};
 ghost use Rattle.plcr_machine.specs.Links.{last_place};
 ghost use Rattle.plcr_machine.specs.Nodes.{is_free};
 ghost use Rattle.plcr_machine.specs.Passes.{is_inside};
+ghost use Rattle.plcr_machine.specs.declared.limits.TheConstants.{MOST_CHANGES};
 
 use crate::{NodePass, Nodes, NodesError, Owner};
 use std::test::Fail;
@@ -20,7 +21,7 @@ fn put(owner: &mut Owner, nodes: &Nodes, tail: u32, node: u32, header: u64)
     requires node { (0 < node) × (node ≤ owner.old.nodes) }
     requires free { is_free node owner.old.history ≡ true }
     requires tail { tail ≡ last_place 0 (live owner.old.history) }
-    requires few { loads owner.old.history < 4294967295 }
+    requires few { loads owner.old.history < MOST_CHANGES }
     ensures table { (owner.new.table ≡ owner.old.table) × (owner.new.nodes ≡ owner.old.nodes) }
     ensures tail { node ≡ last_place 0 (live owner.new.history) }
     ensures free { (m : ℕ) → m ≢ node → is_free m owner.old.history ≡ true → is_free m owner.new.history ≡ true }

@@ -2,7 +2,8 @@ use Rattle.std.proofs.Common.{◌≡◌, ◌∙◌, ℕ, zero, suc, ◌+◌, ◌
 use Rattle.plcr_base.specs.Bytes.{IsBytes}
 use Rattle.plcr_base.specs.Numbers.{u64_in}
 use Rattle.plcr_nodes.specs.declared.view.Store.{Store}
-use Rattle.plcr_nodes.specs.Names.{IsShort, IsFilled, words_of, stored, value_or, name_in}
+use Rattle.plcr_base.specs.Limits.{IsImageName}
+use Rattle.plcr_nodes.specs.Names.{IsFilled, words_of, stored, value_or, name_in}
 use Rattle.plcr_nodes.specs.Plays.{store}
 use Rattle.plcr_nodes.specs.Tokens.{OwnerState}
 use Rattle.plcr_nodes.proofs.Spelling.{spelled}
@@ -39,7 +40,7 @@ named header ss = spelled 1 letters (stores header ss) letters_are_bytes refl (�
 is_filled : (header : ℕ) (ss : List Store) → IsFilled 1 (stores header ss)
 is_filled header ss = record {
   header = refl;
-  short = subst IsShort (sym (named header ss)) (omega arith);
+  short = subst IsImageName (sym (named header ss)) (omega arith);
   len = ap (λ (name : List ℕ). Some (length name)) (sym (named header ss));
   name = subst (λ (name : List ℕ). (k : ℕ) → k < words_of (length name) → stored 1 (k + 3) (stores header ss) ≡ Some (u64_in name (8 * k))) (sym (named header ss)) (λ k below. words header ss k (omega arith));
 }

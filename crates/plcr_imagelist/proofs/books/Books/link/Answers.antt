@@ -1,6 +1,7 @@
 use Rattle.std.proofs.Common.{◌≡◌, ◌≢◌, ◌<◌, false, sym, ap, ◌∙◌, subst, arith, ◌++◌, ◌∷◌, []}
 use Rattle.plcr_machine.specs.Lists.{changes}
 use Rattle.plcr_machine.specs.Passes.{owes_count}
+use Rattle.plcr_machine.specs.declared.limits.TheConstants.{MOST_CHANGES}
 use Rattle.plcr_nodes.specs.Names.{header_in}
 use Rattle.plcr_nodes.specs.Tokens.{OwnerState}
 use Rattle.plcr_imagelist.specs.Keeping.{BooksState, last_of}
@@ -11,12 +12,12 @@ use Rattle.plcr_imagelist.proofs.books.Books.link.Goals as goal
 
 pub link-requires-clause-few : goal.link-requires-clause-few
 link-requires-clause-few c =
-    let few = subst (λ (s : BooksState). changes s.owner.history < 4294967295) (sym c.self.view_is) c.requires.paced.1 in
+    let few = subst (λ (s : BooksState). changes s.owner.history < MOST_CHANGES) (sym c.self.view_is) c.requires.paced.1 in
     let most = loads_most c.self.inside.owner.history in omega arith
 
 pub overflow_add-self-2 : goal.overflow_add-self-2
 overflow_add-self-2 c =
-    let few = subst (λ (s : BooksState). changes s.owner.history < 4294967295) (sym c.self.view_is) c.requires.paced.1 in
+    let few = subst (λ (s : BooksState). changes s.owner.history < MOST_CHANGES) (sym c.self.view_is) c.requires.paced.1 in
     let most = loads_most c.self.inside.owner.history in
     let loads = c.self.invariant.0.loads_are in omega arith
 

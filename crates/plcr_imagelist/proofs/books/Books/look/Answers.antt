@@ -1,5 +1,6 @@
 use Rattle.std.proofs.Common.{◌%◌, ap, arith}
 use Rattle.plcr_nodes.specs.Tokens.{OwnerState}
+use Rattle.plcr_nodes.specs.declared.gate.TheConstants.{COUNT_UNIT}
 use Rattle.plcr_imagelist.proofs.Kept.{agrees_looked, all_listed}
 use Rattle.plcr_imagelist.proofs.books.Books.look.Goals as goal
 
@@ -16,6 +17,6 @@ invariant_of-self c =
 pub returns-clause-free : goal.returns-clause-free
 returns-clause-free c = λ z last.
     let b = c.self.inside in
-    all_listed c.look-word.new.self (c.look-word.result % 4294967296) b.free.items b.removed.items c.settle.new.free.items c.settle.new.removed.items b.images.items b.changes b.loads
+    all_listed c.look-word.new.self (c.look-word.result % COUNT_UNIT) b.free.items b.removed.items c.settle.new.free.items c.settle.new.removed.items b.images.items b.changes b.loads
     (agrees_looked b.owner c.look-word.result c.look-word.new.self b.free.items b.removed.items c.settle.new.free.items c.settle.new.removed.items b.images.items b.changes b.loads
     c.look-word.ensures.entry c.settle.ensures.settles c.self.invariant.0) c.settle.ensures.settles z last
