@@ -8,7 +8,7 @@ use Rattle.plcr_core.specs.declared.fault.CoreFault.{CoreFault}
 use Rattle.plcr_core.specs.declared.fault.CoreFault.TheVariants as cores
 use Rattle.plcr_core.specs.declared.read.Core.{Core}
 use Rattle.plcr_core.specs.Cores.{Parts, parts_in}
-use Rattle.plcr_core.specs.Answers.{IsAnswer}
+use Rattle.plcr_core.specs.Reading.{IsAnswer}
 use Rattle.plcr_script.specs.Scripts.{ScriptValue}
 use Rattle.plcr_command.specs.declared.jobs.Job.{Job}
 use Rattle.plcr_command.specs.declared.jobs.Modes.{Modes}

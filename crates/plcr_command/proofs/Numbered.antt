@@ -2,7 +2,7 @@
 use Rattle.std.proofs.Common.{◌≡◌, ℕ, zero, suc, ◌+◌, List, [], ◌∷◌, ◌++◌, ◌≤◌, Bor, Some, Result, Ok, Err, length, map, take, drop, take-append-drop, add-one, refl, sym, ap, ◌∙◌}
 use Rattle.std.specs.Prelude.{slice_get}
 use Rattle.std.proofs.lemmas.List.{drop_all, map-append}
-use Rattle.plcr_script.specs.declared.reading.Mode.{Mode}
+use Rattle.plcr_script.specs.declared.modes.Mode.{Mode}
 use Rattle.plcr_script.specs.Reading.{script_in}
 use Rattle.plcr_script.specs.Scripts.{ScriptValue}
 use Rattle.plcr_io.specs.Desk.{Told}
@@ -73,13 +73,13 @@ drop_at {A = A} (y ∷ ys) (suc i) x is =
     rw add-one (rw add-one at e)
 
 -- the next script is read
-pub reads_on : (mode later : Mode) (before : List ScriptValue) (contents : List (List ℕ)) (i : ℕ) (bytes : List ℕ) (script : ScriptValue) → slice_get contents i ≡ Some bytes → script_in bytes ≡ Ok script
+pub reads_on : (mode later : Mode) (before : List ScriptValue) (contents : List (List ℕ)) (i : ℕ) (bytes : List ℕ) (script : ScriptValue) → slice_get contents i ≡ Some bytes → script_in mode before bytes ≡ Ok script
     → scripts_from mode later before (drop i contents) ≡ scripts_from later later (before ++ script ∷ []) (drop (i + 1) contents)
 unfolding scripts_from
 reads_on mode later before contents i bytes script is read = rw (drop_at contents i bytes is, read) refl
 
 -- the next script is refused
-pub stops_at : (mode later : Mode) (before : List ScriptValue) (contents : List (List ℕ)) (i : ℕ) (bytes : List ℕ) (refused : RefusedScript) → slice_get contents i ≡ Some bytes → numbered (length before + 1) (script_in bytes) ≡ Err refused
+pub stops_at : (mode later : Mode) (before : List ScriptValue) (contents : List (List ℕ)) (i : ℕ) (bytes : List ℕ) (refused : RefusedScript) → slice_get contents i ≡ Some bytes → numbered (length before + 1) (script_in mode before bytes) ≡ Err refused
     → scripts_from mode later before (drop i contents) ≡ Err refused
 unfolding scripts_from
 stops_at mode later before contents i bytes refused is read = rw (drop_at contents i bytes is, read) refl

@@ -6,8 +6,8 @@ use Rattle.plcr_core.specs.declared.fault.CoreFault.{CoreFault}
 use Rattle.plcr_core.specs.declared.fault.CoreFault.TheVariants as cores
 use Rattle.plcr_core.specs.declared.read.Core.{Core}
 use Rattle.plcr_core.specs.Cores.{AreThreads, parts_in}
-use Rattle.plcr_core.specs.Answers.{IsAnswer}
-use Rattle.plcr_script.specs.declared.reading.Mode.{Mode}
+use Rattle.plcr_core.specs.Reading.{IsAnswer}
+use Rattle.plcr_script.specs.declared.modes.Mode.{Mode}
 use Rattle.plcr_script.specs.Lawful.{IsLawful}
 use Rattle.plcr_script.specs.Reading.{script_in}
 use Rattle.plcr_script.specs.Refusals.{Refusal as Line}
@@ -49,7 +49,7 @@ numbered number (Err refusal) = Err (record { script = number; line = refusal.li
 -- what the bytes of scripts mean, behind these: all the scripts, or the first that is refused. The first of them is read in the one mode, the others in the other
 unfoldable pub scripts_from : Mode → Mode → List ScriptValue → List (List ℕ) → Result (List ScriptValue) RefusedScript
 scripts_from mode later before [] = Ok before
-scripts_from mode later before (bytes ∷ others) = numbered (length before + 1) (script_in bytes) >>= λ script. scripts_from later later (before ++ script ∷ []) others
+scripts_from mode later before (bytes ∷ others) = numbered (length before + 1) (script_in mode before bytes) >>= λ script. scripts_from later later (before ++ script ∷ []) others
 
 abbrev pub scripts_in : Modes → List (List ℕ) → Result (List ScriptValue) RefusedScript
 scripts_in modes contents = scripts_from modes.first modes.later [] contents

@@ -1,3 +1,3 @@
--- What only the crate's own functions speak of.
+-- Definitions that only private functions' contracts cite.
 pub mod Jobs
 pub mod Saving

@@ -165,11 +165,11 @@ fn script_of<'a>(
     requires few { length before.now < MOST_SCRIPTS }
     requires short { length bytes.now < 2 ^ 32 }
     ensures read { MatchResult result
-        (λ script. script_in bytes.now ≡ Ok script)
+        (λ script. script_in mode before.now bytes.now ≡ Ok script)
         (ScriptMisread (length before.now + 1) mode before.now bytes.now) }
     ensures lawful { IfOk result IsLawful }
 {
-    match read_script(alloc, bytes, mode, &[]) {
+    match read_script(alloc, bytes, mode, before) {
         Ok(script) => Ok(script),
         Err(ScriptFault::Memory) => Err(Refusal::OutOfMemory),
         Err(ScriptFault::Refused { line, kind }) => Err(Refusal::ScriptRefused {

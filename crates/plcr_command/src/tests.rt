@@ -57,8 +57,10 @@ fn reads_scripts_in_their_order(rt: HostRuntime) -> Result<(), Fail> {
 #[test]
 fn names_the_first_refused_script(rt: HostRuntime) -> Result<(), Fail> {
     let alloc = rt.alloc();
-    let cases: [(&[u8], &[u8], &str); 2] = [
+    let cases: [(&[u8], &[u8], &str); 3] = [
         (b"# one\n", b"# two\nunload\n", "script 2 2 3\n"),
+        // the first script writes the file
+        (b"report 0 a\n", b"report 0 a\n", "script 2 1 6\n"),
         (b"jump 1\n", b"unload\n", "script 1 1 1\n"),
     ];
     for (first, second, line) in cases {

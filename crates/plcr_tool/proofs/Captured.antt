@@ -1,5 +1,5 @@
 -- The images of a process can be handed in for a report: what stands of them in its memory has the width of its field.
-use Rattle.std.proofs.Common.{◌≡◌, ℕ, ◌+◌, ◌*◌, ◌^◌, ◌<◌, ◌≤◌, ◌==◌, Bool, true, false, cond, List, [], ◌∷◌, length, drop, codes, Option, Some, None, Result, Ok, Err, refl, subst, nat_lt, arith, lit<, lit≤, length-drop}
+use Rattle.std.proofs.Common.{◌≡◌, ℕ, ◌+◌, ◌*◌, ◌^◌, ◌<◌, ◌≤◌, ◌==◌, Bool, true, false, cond, List, [], ◌∷◌, length, drop, Option, Some, None, Result, Ok, Err, refl, subst, nat_lt, arith, lit<, lit≤, length-drop}
 use Rattle.std.specs.Prelude.{IfSome, not, option_map, ok_or, if◌then◌else◌}
 use Rattle.std.specs.List.{AllByRecursion, find}
 use Rattle.std.proofs.lemmas.List.{length-map, length-take-le}
@@ -9,20 +9,23 @@ use Rattle.plcr_base.specs.Chains.{◌>>=◌}
 use Rattle.plcr_base.proofs.Chained.{bind_ok, if_ok, ok_or_ok}
 use Rattle.plcr_regs.specs.declared.arch.Arch.{Arch}
 use Rattle.plcr_regs.specs.declared.registers.Registers.{Registers}
-use Rattle.plcr_commands.specs.declared.trouble.Trouble.{Trouble}
-use Rattle.plcr_commands.specs.declared.trouble.Trouble.TheVariants.{Bad}
-use Rattle.plcr_commands.specs.Commands.{Command, AreLaid, IsLaid, commands_at}
-use Rattle.plcr_commands.proofs.Lists.{lists_lie}
+use Rattle.plcr_loader.specs.declared.trouble.Trouble.{Trouble}
+use Rattle.plcr_loader.specs.declared.trouble.Trouble.TheVariants.{Bad}
+use Rattle.plcr_loader.specs.declared.constants.TheConstants.{MH_MAGIC_64, SEG_TEXT}
+use Rattle.plcr_loader.specs.declared.mach_header_64.TheConstants.{LENGTH, MAGIC, CPUTYPE, NCMDS, SIZEOFCMDS}
+use Rattle.plcr_loader.specs.declared.segment_command_64.TheConstants.{NSECTS}
+use Rattle.plcr_loader.specs.declared.uuid_command.TheConstants.{UUID}
+use Rattle.plcr_loader.specs.Commands.{Command, AreLaid, IsLaid, commands_at, faulted, is_segment, is_symtab, is_uuid}
+use Rattle.plcr_loader.specs.Fields.{number, bytes_of}
+use Rattle.plcr_loader.proofs.Lists.{lists_lie}
 use Rattle.plcr_base.specs.Bytes.{IsBytes}
 use Rattle.plcr_memory.specs.Regions.{Contents, bytes_at}
 use Rattle.plcr_macho.specs.declared.image.Image as macho
 use Rattle.plcr_macho.specs.declared.image.ImageFault.{ImageFault}
 use Rattle.plcr_macho.specs.declared.image.ImageFault.TheVariants.{Unreadable, NotMachO, OtherCpu, NoText}
-use Rattle.plcr_macho.specs.Fields as fields
-use Rattle.plcr_macho.specs.Fields.{number, bytes_of}
 use Rattle.plcr_macho.specs.Images.{Listed}
 use Rattle.plcr_macho.specs.Loading as loading
-use Rattle.plcr_macho.specs.Loading.{cpu_of, head_at, commands_in, faulted, image_at, image_trouble, is_segment, is_symtab, is_uuid, is_segment_named, least_size}
+use Rattle.plcr_macho.specs.Loading.{cpu_of, fault_of, head_at, commands_in, image_at, image_trouble, is_segment_named, least_size}
 use Rattle.plcr_macho.specs.Sources.{plus, memory_bytes}
 use Rattle.plcr_macho.proofs.Reading.{memory_is_plain}
 use Rattle.plcr_report.specs.Spelling.{spelling_of}
@@ -36,8 +39,8 @@ use Rattle.plcr_tool.proofs.Written.{written_again}
 
 -- a load command of bytes, as long as its kind asks for
 record IsSound (c : Command) : Type 0 where
-  piece : IsPiece c.size c.bytes
-  least : least_size c ≤ c.size
+  piece : IsPiece c.cmdsize c.bytes
+  least : least_size c ≤ c.cmdsize
 
 untroubled : (size least index : ℕ) → cond (nat_lt size least) (Some (Bad index)) None ≡ None → least ≤ size
 untroubled size least index h = grind (arith, nat_tests)
@@ -45,15 +48,15 @@ untroubled size least index h = grind (arith, nat_tests)
 sound_there : (m : Contents) (start end index at : ℕ) (c : Command) → IsBytes m.file → IsLaid (memory_bytes m start) image_trouble end index at c → IsSound c
 unfolding memory_bytes
 sound_there m start end index at c bytes laid = record {
-  piece = piece_there m (plus start at) c.size c.bytes bytes laid.there;
-  least = untroubled c.size (least_size c) index laid.passes;
+  piece = piece_there m (plus start at) c.cmdsize c.bytes bytes laid.there;
+  least = untroubled c.cmdsize (least_size c) index laid.passes;
 }
 
 all_sound : (m : Contents) (start end index at : ℕ) (cs : List Command) → IsBytes m.file → AreLaid (memory_bytes m start) image_trouble end index at cs → AllByRecursion IsSound cs
 all_sound m start end index at [] bytes laid = tt
-all_sound m start end index at (c ∷ cs) bytes laid = (sound_there m start end index at c bytes laid.0, all_sound m start end (index + 1) (at + c.size) cs bytes laid.1)
+all_sound m start end index at (c ∷ cs) bytes laid = (sound_there m start end index at c bytes laid.0, all_sound m start end (index + 1) (at + c.cmdsize) cs bytes laid.1)
 
-unfaulted : {A : Type 0} (start : ℕ) (r : Result A Trouble) (x : A) → faulted start r ≡ Ok x → r ≡ Ok x
+unfaulted : {A : Type 0} (start : ℕ) (r : Result A Trouble) (x : A) → faulted (fault_of start) r ≡ Ok x → r ≡ Ok x
 unfaulted start (Ok y) x h = cc
 unfaulted start (Err t) x h = cc
 
@@ -61,9 +64,9 @@ unfaulted start (Err t) x h = cc
 commands_sound : (m : Contents) (header : ℕ) (head : List ℕ) (cs : List Command) → IsBytes m.file → commands_in m header head ≡ Ok cs → AllByRecursion IsSound cs
 unfolding commands_in
 commands_sound m header head cs bytes h =
-    let start = plus header 32 in
-    let size = number fields.sizeofcmds head in
-    let count = number fields.ncmds head in
+    let start = plus header LENGTH in
+    let size = number SIZEOFCMDS head in
+    let count = number NCMDS head in
     let all = unfaulted start (commands_at (memory_bytes m start) image_trouble size count 0 0) cs h in
     all_sound m start size 0 0 cs bytes (lists_lie (memory_bytes m start) (memory_is_plain m start) image_trouble size count 0 0 cs all).1
 
@@ -71,15 +74,15 @@ commands_sound m header head cs bytes h =
 head_there : (m : Contents) (arch : Arch) (header : ℕ) (head : List ℕ) → IsBytes m.file → head_at m arch header ≡ Ok head → IsBytes head
 unfolding head_at
 head_there m arch header head bytes h =
-    let a = bind_ok (ok_or (bytes_at m header 32) (Unreadable header)) (λ head.
-    if not (number fields.magic head == 0xfeedfacf) then Err (NotMachO (number fields.magic head)) else
-    if not (number fields.cputype head == cpu_of arch) then Err (OtherCpu (number fields.cputype head)) else
+    let a = bind_ok (ok_or (bytes_at m header LENGTH) (Unreadable header)) (λ head.
+    if not (number MAGIC head == MH_MAGIC_64) then Err (NotMachO (number MAGIC head)) else
+    if not (number CPUTYPE head == cpu_of arch) then Err (OtherCpu (number CPUTYPE head)) else
     Ok head) head h in
-    let b = if_ok (not (number fields.magic a.0 == 0xfeedfacf)) (NotMachO (number fields.magic a.0))
-    (if not (number fields.cputype a.0 == cpu_of arch) then Err (OtherCpu (number fields.cputype a.0)) else Ok a.0) head a.2 in
-    let c = if_ok (not (number fields.cputype a.0 == cpu_of arch)) (OtherCpu (number fields.cputype a.0)) (Ok a.0) head b.1 in
+    let b = if_ok (not (number MAGIC a.0 == MH_MAGIC_64)) (NotMachO (number MAGIC a.0))
+    (if not (number CPUTYPE a.0 == cpu_of arch) then Err (OtherCpu (number CPUTYPE a.0)) else Ok a.0) head a.2 in
+    let c = if_ok (not (number CPUTYPE a.0 == cpu_of arch)) (OtherCpu (number CPUTYPE a.0)) (Ok a.0) head b.1 in
     let same : a.0 ≡ head = cc in
-    let piece = piece_there m header 32 a.0 bytes (ok_or_ok (bytes_at m header 32) (Unreadable header) a.0 a.1) in
+    let piece = piece_there m header LENGTH a.0 bytes (ok_or_ok (bytes_at m header LENGTH) (Unreadable header) a.0 a.1) in
     subst IsBytes same piece.bytes
 
 -- the first element that passes a test
@@ -103,13 +106,13 @@ room_of_uuid false true u n h = lit≤ tt
 room_of_uuid false false true n h = lit≤ tt
 room_of_uuid false false false n h = cc
 
-uuid_length : (c : Command) → IsSound c × (is_uuid c ≡ true) → length (bytes_of fields.uuid c.bytes) ≡ 16
+uuid_length : (c : Command) → IsSound c × (is_uuid c ≡ true) → length (bytes_of UUID c.bytes) ≡ 16
 unfolding bytes_of
 uuid_length c h =
-    let room = room_of_uuid (is_segment c) (is_symtab c) (is_uuid c) (80 * number fields.nsects c.bytes) h.1 in
+    let room = room_of_uuid (is_segment c) (is_symtab c) (is_uuid c) (80 * number NSECTS c.bytes) h.1 in
     let sound = h.0 in
-    let most : least_size c ≤ c.size = sound.least in
-    let long : length c.bytes ≡ c.size = sound.piece.length in
+    let most : least_size c ≤ c.cmdsize = sound.least in
+    let long : length c.bytes ≡ c.cmdsize = sound.piece.length in
     let rest = length-drop 8 c.bytes in
     length-take-le 16 (drop 8 c.bytes) (omega (arith, room, most, long, rest))
 
@@ -125,7 +128,7 @@ made_wide header head cs text bytes all sound = record {
   size = eight_small 32 text.bytes sound.piece.bytes;
   cpu = four_small 4 head bytes;
   subtype = four_small 8 head bytes;
-  uuid = mapped (λ c. IsSound c × (is_uuid c ≡ true)) (λ bytes. length bytes ≡ 16) (λ c. bytes_of fields.uuid c.bytes) (find is_uuid cs) uuid_length (found IsSound is_uuid cs all);
+  uuid = mapped (λ c. IsSound c × (is_uuid c ≡ true)) (λ bytes. length bytes ≡ 16) (λ c. bytes_of UUID c.bytes) (find is_uuid cs) uuid_length (found IsSound is_uuid cs all);
 }
 
 -- the image at a header
@@ -134,11 +137,11 @@ unfolding image_at loading.image_of
 image_wide m arch header image bytes h =
     let a = bind_ok (head_at m arch header) (λ head. commands_in m header head >>= λ cs. loading.image_of header head cs) image h in
     let b = bind_ok (commands_in m header a.0) (λ cs. loading.image_of header a.0 cs) image a.2 in
-    let text = bind_ok (ok_or (find (is_segment_named (codes "__TEXT")) b.0) NoText) (λ text. Ok (loading.image_with header a.0 b.0 text)) image b.2 in
+    let text = bind_ok (ok_or (find (is_segment_named SEG_TEXT) b.0) NoText) (λ text. Ok (loading.image_with header a.0 b.0 text)) image b.2 in
     let all = commands_sound m header a.0 b.0 bytes b.1 in
-    let there = ok_or_ok (find (is_segment_named (codes "__TEXT")) b.0) NoText text.0 text.1 in
+    let there = ok_or_ok (find (is_segment_named SEG_TEXT) b.0) NoText text.0 text.1 in
     let same : loading.image_with header a.0 b.0 text.0 ≡ image = cc in
-    subst IsWide same (made_wide header a.0 b.0 text.0 (head_there m arch header a.0 bytes a.1) all (found_is IsSound (is_segment_named (codes "__TEXT")) b.0 text.0 there all))
+    subst IsWide same (made_wide header a.0 b.0 text.0 (head_there m arch header a.0 bytes a.1) all (found_is IsSound (is_segment_named SEG_TEXT) b.0 text.0 there all))
 
 -- what is written of a listed image
 handed_with : (listed : Listed) (r : Result macho.Image ImageFault) → listed.header < 2 ^ 64 → length listed.name ≤ 1024 → ((image : macho.Image) → r ≡ Ok image → IsWide image) → IsHandedImage (image_with listed r)

@@ -5,7 +5,7 @@ use Rattle.std.proofs.lemmas.List.{get_or-drop}
 use Rattle.plcr_base.specs.Bytes.{IsBytes}
 use Rattle.plcr_memory.specs.declared.region.Region.{Region}
 use Rattle.plcr_memory.specs.Regions.{Contents, covers, byte_in, byte_among, byte_at, bytes_at}
-use Rattle.plcr_macho.specs.Fields.{number}
+use Rattle.plcr_loader.specs.Fields.{number}
 use Rattle.plcr_macho.proofs.Reading.{cons_known_some}
 
 -- so many bytes
@@ -58,15 +58,15 @@ of_eight : (a b c d e f g h : ℕ) → a < 256 → b < 256 → c < 256 → d < 2
 of_eight a b c d e f g h la lb lc ld le lf lg lh = omega arith
 
 -- the number in a field of 4 bytes
-pub four_small : (place : ℕ) (xs : List ℕ) → IsBytes xs → number (record { place = place; width = 4 }) xs < 2 ^ 32
+pub four_small : (at : ℕ) (xs : List ℕ) → IsBytes xs → number (record { at = at; size = 4 }) xs < 2 ^ 32
 unfolding number
-four_small place xs bytes =
-    let b = dropped_bytes place xs bytes in
+four_small at xs bytes =
+    let b = dropped_bytes at xs bytes in
     of_four _ _ _ _ (b 0) (b 1) (b 2) (b 3)
 
 -- the number in a field of 8 bytes
-pub eight_small : (place : ℕ) (xs : List ℕ) → IsBytes xs → number (record { place = place; width = 8 }) xs < 2 ^ 64
+pub eight_small : (at : ℕ) (xs : List ℕ) → IsBytes xs → number (record { at = at; size = 8 }) xs < 2 ^ 64
 unfolding number
-eight_small place xs bytes =
-    let b = dropped_bytes place xs bytes in
+eight_small at xs bytes =
+    let b = dropped_bytes at xs bytes in
     of_eight _ _ _ _ _ _ _ _ (b 0) (b 1) (b 2) (b 3) (b 4) (b 5) (b 6) (b 7)

@@ -1,4 +1,4 @@
--- What only the program's own functions speak of.
+-- Definitions that only private functions' contracts cite.
 pub mod Changing
 pub mod List
 pub mod Report

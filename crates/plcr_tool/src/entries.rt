@@ -3,8 +3,7 @@ ghost use Rattle.std.specs.Prelude.{◌≡◌, map};
 ghost use Rattle.std.proofs.Common.{refl, ◌∙◌};
 ghost use Rattle.plcr_tool.specs.inner.List.{listed_by};
 
-use plcr_macho::{Images, ListImages, PlainImage};
-use std::slice;
+use plcr_macho::{Images, PlainImage};
 
 /// An image of the list, with the number of its load.
 #[derive(Drop)]
@@ -33,13 +32,11 @@ impl Images for Entries<'_> {
     }
 
     fn name_len(&mut self, i: usize) -> usize {
-        let image: &PlainImage = &self.entries[i].image;
-        ListImages::new(slice::from_ref(image)).name_len(0)
+        self.entries[i].image.name_len()
     }
 
     fn name_word(&mut self, i: usize, j: usize) -> u64 {
-        let image: &PlainImage = &self.entries[i].image;
-        ListImages::new(slice::from_ref(image)).name_word(0, j)
+        self.entries[i].image.name_word(j)
     }
 
     ghost follows_itself = { λ x. refl };

@@ -3,6 +3,7 @@ use Rattle.std.proofs.lemmas.List.Elements.{All-push}
 use Rattle.std.proofs.lemmas.Option.{slice_get_read}
 use Rattle.std.proofs.lemmas.Result.{err_from_is_err_and}
 use Rattle.plcr_script.specs.Lawful.{IsLawful}
+use Rattle.plcr_script.specs.Reading.{script_in}
 use Rattle.plcr_script.specs.Scripts.{ScriptValue}
 use Rattle.plcr_command.specs.inner.Jobs.{ScriptMisread}
 use Rattle.plcr_command.proofs.Numbered.{misread_at, reads_all, reads_on}
@@ -19,8 +20,10 @@ returns-in_err-script-clause-read c =
 pub loop-bytes-preserved : goal.loop-bytes-preserved
 loop-bytes-preserved c =
     let there = slice_get_read c.args.contents.now (length c.args.contents.now) c.loop-bytes.bytes-index c.bytes-item.result refl c.loop-bytes-test.true c.bytes-item.is in
+    let P : List ScriptValue → Type 0 = λ before. script_in c.loop-bytes.mode before c.bytes-item.result ≡ Ok c.in_ok-script.script in
+    let read = subst P c.as_slice.ensures.value (rw c.as_slice-in-loop-bytes.ensures at c.in_ok-script.ensures.read) in
     record {
-      read = rw c.in_ok-push.ensures.items (sym (reads_on c.loop-bytes.mode c.args.modes.later c.loop-bytes.scripts.items c.args.contents.now c.loop-bytes.bytes-index c.bytes-item.result c.in_ok-script.script there (rw c.as_slice-in-loop-bytes.ensures at c.in_ok-script.ensures.read)) ∙ c.loop-bytes.invariant.read);
+      read = rw c.in_ok-push.ensures.items (sym (reads_on c.loop-bytes.mode c.args.modes.later c.loop-bytes.scripts.items c.args.contents.now c.loop-bytes.bytes-index c.bytes-item.result c.in_ok-script.script there read) ∙ c.loop-bytes.invariant.read);
       count = omega (arith, c.loop-bytes.invariant.count, c.in_ok-push.ensures.len);
       lawful = rw c.in_ok-push.ensures.items (All-push IsLawful c.loop-bytes.scripts.items c.in_ok-script.script c.loop-bytes.invariant.lawful c.in_ok-script.ensures.lawful);
     }
