@@ -154,7 +154,7 @@ fn stops_at_a_line(rt: HostRuntime) -> Result<(), Fail> {
         Vec::new(alloc),
         Vec::new(alloc),
     )?;
-    let mut lines = MemOut::new(alloc, 512, 16, vec![in alloc; 2]?)?;
+    let mut lines = MemOut::new(alloc, 9, 16, Vec::new(alloc))?;
     let status = report_command(alloc, "c", "s", &mut desk, &mut lines);
     assert_eq!(rt; status, 5);
     assert_eq!(rt; lines.bytes(), b"1 report ".as_slice());
