@@ -1,5 +1,6 @@
 //! Loads and unloads alone: the list has all images but one that it has room for, and the oldest is unloaded.
 ghost use Rattle.std.specs.Prelude.{◌≡◌, ◌≤◌, ◌*◌};
+ghost use Rattle.plcr_race.specs.Counting.{MakesChanges};
 
 use crate::list::{fill, load, open, unload};
 use plcr_imagelist::{ImageList, Writer};
@@ -9,9 +10,10 @@ use std::rt::Clock;
 use std::time::Instant;
 
 // Loads an image and unloads the oldest, so often, and gives how many changes weren't refused.
-fn change(list: &ImageList, writer: Writer, images: u32, rounds: u32) -> u64
+fn change(list: &ImageList, writer: Writer, images: u32, rounds: u32) -> (Writer, u64)
     requires { writer.table ≡ list.now }
-    ensures { result ≤ 2 * rounds }
+    ensures counts { MakesChanges writer result.1 result.0 }
+    ensures most { result.1 ≤ 2 * rounds }
 {
     let mut writer = writer;
     let mut made = 0u64;
@@ -22,7 +24,7 @@ fn change(list: &ImageList, writer: Writer, images: u32, rounds: u32) -> u64
         writer = next;
         made += u64::from(loaded) + u64::from(unloaded);
     }
-    made
+    (writer, made)
 }
 
 /// Prints how many loads and then how many changes were made, each with its nanoseconds.
@@ -38,7 +40,7 @@ pub fn race<R: Clock + Alloc<A = Global> + Print>(
     let filling = start.elapsed(rt)?.as_nanos();
     println!(rt; "{filled} loads {filling} ns")?;
     let start = Instant::now(rt)?;
-    let made = change(&list, writer, images, rounds);
+    let (_, made) = change(&list, writer, images, rounds);
     let changing = start.elapsed(rt)?.as_nanos();
     println!(rt; "{made} changes {changing} ns")
 }

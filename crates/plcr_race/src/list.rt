@@ -1,6 +1,7 @@
 //! The list that is raced, and its changes. The image with the number n of its load has the header n.
 ghost use Rattle.std.specs.Prelude.{◌≡◌, ◌≤◌, All, IfOk};
 ghost use Rattle.plcr_imagelist.specs.Holds.{WalkerState};
+ghost use Rattle.plcr_race.specs.Counting.{MakesChanges, MakesLoads, one_if};
 
 use plcr_imagelist::{ImageList, OpenError, Pass, Writer};
 use std::alloc::Global;
@@ -24,7 +25,8 @@ pub fn open(alloc: Global, nodes: u32, passes: u32) -> io::Result<(ImageList, Wr
 /// Loads the image with a header, and says whether that wasn't refused.
 pub fn load(list: &ImageList, writer: Writer, header: u64) -> (Writer, bool)
     requires { writer.table ≡ list.now }
-    ensures { result.0.table ≡ list.now }
+    ensures list { result.0.table ≡ list.now }
+    ensures counts { MakesLoads writer (one_if result.1) result.0 }
 {
     let (writer, loaded) = writer.load(list, header, NAME);
     (writer, loaded.is_ok())
@@ -33,7 +35,8 @@ pub fn load(list: &ImageList, writer: Writer, header: u64) -> (Writer, bool)
 /// Unloads the image with a header, and says whether that wasn't refused.
 pub fn unload(list: &ImageList, writer: Writer, header: u64) -> (Writer, bool)
     requires { writer.table ≡ list.now }
-    ensures { result.0.table ≡ list.now }
+    ensures list { result.0.table ≡ list.now }
+    ensures counts { MakesChanges writer (one_if result.1) result.0 }
 {
     let (writer, unloaded) = writer.unload(list, header);
     (writer, unloaded.is_ok())
@@ -43,7 +46,8 @@ pub fn unload(list: &ImageList, writer: Writer, header: u64) -> (Writer, bool)
 pub fn fill(list: &ImageList, writer: Writer, images: u32) -> (Writer, u32)
     requires { writer.table ≡ list.now }
     ensures list { result.0.table ≡ list.now }
-    ensures made { result.1 ≤ images }
+    ensures counts { MakesLoads writer result.1 result.0 }
+    ensures most { result.1 ≤ images }
 {
     let mut writer = writer;
     let mut made = 0;

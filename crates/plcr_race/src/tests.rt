@@ -3,7 +3,8 @@ ghost use Rattle.std.specs.Prelude.{◌≡◌, ◌<◌, ◌≤◌, ◌^◌, leng
 ghost use Rattle.plcr_macho.specs.Images.{Listed, listed_at};
 ghost use Rattle.plcr_imagelist.specs.Walk.{images_of, IsSameWalk};
 
-use crate::list::{fill, open};
+use crate::list::{fill, load, open, unload};
+use crate::walks::walk;
 use plcr_imagelist::{Hold, ImageList, Pass, Window};
 use plcr_macho::Images;
 use std::test::Fail;
@@ -59,5 +60,26 @@ fn a_hold_lends_what_it_met(rt: HostRuntime) -> Result<(), Fail> {
     let (lent, met, window) = visit(&list, pass);
     assert_eq!(rt; (lent, met), (Some(1), Some(1)));
     assert_eq!(rt; window, Window { low: 3, high: 3 });
+    Ok(())
+}
+
+#[test]
+fn what_is_not_refused_counts(rt: HostRuntime) -> Result<(), Fail> {
+    let (list, writer, mut passes) = open(rt.alloc(), 4, 1)?;
+    let Some(pass) = passes.pop() else {
+        panic!(rt; "no pass")
+    };
+    let (writer, made) = fill(&list, writer, 5);
+    assert_eq!(rt; made, 4);
+    let (pass, met) = walk(&list, pass, 3);
+    assert_eq!(rt; met, 12);
+    let (writer, loaded) = load(&list, writer, 6);
+    assert!(rt; !loaded);
+    let (writer, unloaded) = unload(&list, writer, 1);
+    assert!(rt; unloaded);
+    let (_, unloaded) = unload(&list, writer, 1);
+    assert!(rt; !unloaded);
+    let (_, met) = walk(&list, pass, 2);
+    assert_eq!(rt; met, 6);
     Ok(())
 }
