@@ -3,3 +3,4 @@ pub mod Files
 pub mod Framed
 pub mod Lists
 pub mod Results
+pub mod Structures

@@ -1,3 +1,4 @@
 pub mod Commands
 pub mod Fields
 pub mod Sources
+pub mod Structures

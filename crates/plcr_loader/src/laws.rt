@@ -2,6 +2,7 @@ ghost use Rattle.std.specs.Prelude.{◌≡◌, ℕ, List, length, Ok, Err};
 ghost use Rattle.plcr_loader.specs.declared.trouble.Trouble.{Trouble};
 ghost use Rattle.plcr_loader.specs.Commands.{Bytes, Command, Test, AreLaid, IsPlain, IsFirstTrouble, commands_at};
 ghost use Rattle.plcr_loader.specs.Sources.{file_bytes};
+ghost use Rattle.plcr_loader.specs.Structures.{OfLoader, OfMachine, OfNlist, OfLoadCommand, OfMachHeader64, OfSegmentCommand64, OfSection64, OfSymtabCommand, OfUuidCommand, OfThreadGroup, OfNlist64};
 
 /// What the list of load commands is: the commands that lie one after the other from a place on, each beginning with
 /// which it is and with its own size, all before the end of the list and with all their bytes there.
@@ -21,4 +22,21 @@ pub fn commands_lie()
 
     // The bytes of a file are such a source.
     ensures file { (file : List ℕ) → IsPlain (file_bytes file) }
+{}
+
+/// Each constant of the crate is the number that Apple's headers state for it: <mach-o/loader.h>, <mach-o/nlist.h> and
+/// <mach/machine.h>.
+#[tactic(auto, using(crate::proofs::Structures::of_loader, crate::proofs::Structures::of_machine, crate::proofs::Structures::of_nlist, crate::proofs::Structures::of_load_command, crate::proofs::Structures::of_mach_header_64, crate::proofs::Structures::of_segment_command_64, crate::proofs::Structures::of_section_64, crate::proofs::Structures::of_symtab_command, crate::proofs::Structures::of_uuid_command, crate::proofs::Structures::of_thread_group, crate::proofs::Structures::of_nlist_64))]
+pub fn structures_stand()
+    ensures loader { OfLoader }
+    ensures machine { OfMachine }
+    ensures nlist { OfNlist }
+    ensures load_command { OfLoadCommand }
+    ensures mach_header_64 { OfMachHeader64 }
+    ensures segment_command_64 { OfSegmentCommand64 }
+    ensures section_64 { OfSection64 }
+    ensures symtab_command { OfSymtabCommand }
+    ensures uuid_command { OfUuidCommand }
+    ensures thread_group { OfThreadGroup }
+    ensures nlist_64 { OfNlist64 }
 {}

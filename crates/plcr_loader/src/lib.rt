@@ -25,7 +25,7 @@ pub use constants::{
 pub use field::Field;
 pub use file::FileBytes;
 pub use frame::frame_at;
-pub use laws::commands_lie;
+pub use laws::{commands_lie, structures_stand};
 pub use load_command::LoadCommand;
 pub use source::Source;
 pub use trouble::Trouble;

@@ -1,8 +1,8 @@
 use crate::{
     Field, FileBytes, LoadCommand, N_SECT, N_STAB, N_TYPE, SEG_LINKEDIT, SEG_TEXT, Source, Trouble,
     commands_lie, frame_at, load_command, mach_header_64 as header, nlist_64 as row,
-    section_64 as section, segment_command_64 as segment, symtab_command as symtab,
-    thread_group as group, uuid_command as uuid,
+    section_64 as section, segment_command_64 as segment, structures_stand,
+    symtab_command as symtab, thread_group as group, uuid_command as uuid,
 };
 use std::test::*;
 
@@ -41,6 +41,7 @@ fn frames(rt: HostRuntime) {
     let short = FileBytes(&[5, 0, 0, 0, 7, 0, 0, 0]);
     assert_eq!(rt; frame(&short, 8, 0), bad);
     commands_lie();
+    structures_stand();
 }
 
 // How many bytes the fields fill that stand without a gap.
