@@ -181,3 +181,141 @@ impl<R: Files> Desk for HostDesk<R> {
         let _ = fs::remove_file(&self.files, part.as_str());
     }
 }
+
+#[cfg(test)]
+mod tests {
+    use super::*;
+    use std::alloc::Allocator;
+    use std::cell::Cell;
+    use std::fs::{Metadata, OpenOptions};
+    use std::io::{Seek, SeekFrom};
+    use std::test::*;
+
+    fn unsupported<T>() -> io::Result<T> {
+        Err(ErrorKind::Unsupported.into())
+    }
+
+    // A file that takes no byte.
+    #[derive(Drop)]
+    struct FullFile;
+
+    impl Read for FullFile {
+        fn read(&mut self, _into: &mut [u8]) -> io::Result<usize> {
+            Ok(0)
+        }
+    }
+
+    impl Write for FullFile {
+        fn write(&mut self, _piece: &[u8]) -> io::Result<usize> {
+            Err(ErrorKind::StorageFull.into())
+        }
+
+        fn flush(&mut self) -> io::Result<()> {
+            Ok(())
+        }
+    }
+
+    impl Seek for FullFile {
+        fn seek(&mut self, _to: SeekFrom) -> io::Result<u64> {
+            unsupported()
+        }
+    }
+
+    impl OpenFile for FullFile {
+        fn metadata(&self) -> io::Result<Metadata> {
+            unsupported()
+        }
+
+        fn set_len(&self, _size: u64) -> io::Result<()> {
+            unsupported()
+        }
+
+        fn sync_all(&self) -> io::Result<()> {
+            unsupported()
+        }
+
+        fn sync_data(&self) -> io::Result<()> {
+            unsupported()
+        }
+    }
+
+    // A full disk: files are made there, renamed and removed, and take no byte. It counts what is renamed and removed.
+    #[derive(Drop)]
+    struct FullDisk<'a> {
+        renamed: &'a Cell<u32>,
+        removed: &'a Cell<u32>,
+    }
+
+    impl Files for FullDisk<'_> {
+        type File = FullFile;
+
+        type Dir = FullFile;
+
+        fn open_file(&self, _how: &OpenOptions, _path: &str) -> io::Result<FullFile> {
+            Ok(FullFile)
+        }
+
+        fn rename(&self, _from: &str, _to: &str) -> io::Result<()> {
+            self.renamed.set(self.renamed.get().saturating_add(1));
+            Ok(())
+        }
+
+        fn remove_file(&self, path: &str) -> io::Result<()> {
+            if path == "report.part" {
+                self.removed.set(self.removed.get().saturating_add(1));
+            }
+            Ok(())
+        }
+
+        fn open_dir(&self, _path: &str) -> io::Result<FullFile> {
+            unsupported()
+        }
+
+        fn metadata(&self, _path: &str) -> io::Result<Metadata> {
+            unsupported()
+        }
+
+        fn symlink_metadata(&self, _path: &str) -> io::Result<Metadata> {
+            unsupported()
+        }
+
+        fn copy(&self, _from: &str, _to: &str) -> io::Result<u64> {
+            unsupported()
+        }
+
+        fn create_dir(&self, _path: &str) -> io::Result<()> {
+            unsupported()
+        }
+
+        fn remove_dir(&self, _path: &str) -> io::Result<()> {
+            unsupported()
+        }
+
+        fn remove_dir_all<B: Allocator>(&self, _alloc: B, _path: &str) -> io::Result<()> {
+            unsupported()
+        }
+    }
+
+    // What an output gathered is passed on as it is kept, and a full disk shows then.
+    #[test]
+    fn a_full_disk_shows_as_an_output_is_kept(rt: HostRuntime) -> Result<(), Fail> {
+        let (renamed, removed) = (Cell::new(0), Cell::new(0));
+        let mut desk = HostDesk::new(FullDisk {
+            renamed: &renamed,
+            removed: &removed,
+        });
+        let mut out = desk.make("report")?;
+        assert_eq!(rt; out.put(b"text"), Ok(4));
+        assert_eq!(rt; out.out.sink.faults(), 0);
+        assert_eq!(rt; desk.keep("report", out), Err(MakeFailed));
+        assert_eq!(rt; desk.out_faults, 1);
+        assert_eq!(rt; (renamed.get(), removed.get()), (0, 1));
+
+        // Nothing was put to the next, so nothing is passed on.
+        let out = desk.make("report")?;
+        assert_eq!(rt; desk.keep("report", out), Ok(()));
+        assert_eq!(rt; desk.out_faults, 1);
+        assert_eq!(rt; (renamed.get(), removed.get()), (1, 1));
+        Ok(())
+    }
+}

@@ -1,5 +1,5 @@
 -- What a writer's answers come to where a write that is interrupted is tried again. Of each write this knows what
--- std's contract says of it.
+-- std's contract says of it. That a write was made at all no clause says, since an answer may come from none: tests show it.
 use Rattle.std.specs.Prelude.{◌≡◌, ℕ, zero, suc, ◌+◌, ◌-◌, ◌^◌, List, Option, None, Some, Result, Ok, Err}
 use Rattle.std.specs.Io.{WritesAtMost}
 use Rattle.std.specs.Io.KnownBytes.{WriteAppends}
