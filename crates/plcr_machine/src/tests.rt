@@ -1,6 +1,6 @@
 use crate::Entry::{Count, Enter, Leave, Load, Look, Unload};
 use crate::plain::{counts, images, is_free, is_legal, is_listed, loads, readers};
-use crate::{Entry, Image};
+use crate::{Entry, Image, MOST_CHANGES, MOST_NODES, MOST_PASSES};
 use std::process::Abort;
 
 // On a table of three nodes and one pass: A and B are loaded, the pass goes in, both are unloaded, C is loaded, a look
@@ -168,4 +168,11 @@ fn refused_histories(rt: HostRuntime) {
     for history in refused {
         assert!(rt; !is_legal(history, 2, 1));
     }
+}
+
+#[test]
+fn limits_are_these_numbers(rt: HostRuntime) {
+    assert_eq!(rt; MOST_CHANGES, 4_294_967_295);
+    assert_eq!(rt; MOST_NODES, 4096);
+    assert_eq!(rt; MOST_PASSES, 1024);
 }
