@@ -1,9 +1,10 @@
 -- What running a script comes to, statement by statement.
-use Rattle.std.specs.Prelude.{ℕ, ◌*◌, ◌^◌, Bool, List, [], ◌∷◌, ◌++◌, Option, Some, None, ◌==◌, length, nat_le, nat_lt, map, flat_map, if◌then◌else◌}
+use Rattle.std.specs.Prelude.{ℕ, ◌*◌, Bool, List, [], ◌∷◌, ◌++◌, Option, Some, None, ◌==◌, length, nat_le, nat_lt, map, flat_map, if◌then◌else◌}
 use Rattle.std.specs.Option.{option_map}
 use Rattle.plcr_base.specs.declared.limits.TheConstants.{IMAGE_NAME_BYTES}
 use Rattle.plcr_machine.specs.declared.limits.TheConstants.{MOST_CHANGES}
 use Rattle.plcr_macho.specs.Images.{Listed}
+use Rattle.plcr_script.specs.declared.limits.TheConstants.{COUNT_UNIT}
 use Rattle.plcr_script.specs.declared.statements.Statement.{Statement}
 use Rattle.plcr_script.specs.declared.statements.Statement.TheVariants.{Load, Unload, Report}
 use Rattle.plcr_script.specs.declared.statements.NumberedStatement.{NumberedStatement}
@@ -50,7 +51,7 @@ worn changes = where_so (nat_le MOST_CHANGES (length changes)) (outcomes.Worn (l
 
 -- a list that has an image on each of its nodes; nothing is held back, and each change was counted
 abbrev pub full : ℕ → List Change → Option Outcome
-full nodes changes = where_so (length (list_after changes) == nodes) (outcomes.Full nodes 0 (length changes * 2 ^ 32))
+full nodes changes = where_so (length (list_after changes) == nodes) (outcomes.Full nodes 0 (length changes * COUNT_UNIT))
 
 -- a load of an image, on a list of this many nodes, by the fault at its header
 abbrev pub load_turn : Option ℕ → ℕ → List Change → Listed → Turn

@@ -23,10 +23,9 @@ mod worked;
 
 pub use faults::ScriptFault;
 pub use laws::scripts_are_read_line_by_line;
-pub use limits::{DEFAULT_NODES, DEFAULT_PASSES};
+pub use limits::{COUNT_UNIT, DEFAULT_NODES, DEFAULT_PASSES};
 pub use modes::Mode;
 pub use outcomes::{Outcome, write_outcome};
-pub use plcr_io::{add_bytes, add_decimal, put_parts};
 pub use process::Process;
 pub use reading::read_script;
 pub use scripts::Script;
