@@ -14,7 +14,7 @@ use Rattle.plcr_command.specs.declared.jobs.Job.{Job}
 use Rattle.plcr_command.specs.declared.jobs.Modes.{Modes}
 use Rattle.plcr_command.specs.declared.refusals.Refusal.{Refusal}
 use Rattle.plcr_command.specs.declared.refusals.Refusal.TheVariants.{CannotRead, TooLong, CoreRefused, ScriptRefused, ReportRefused, OutOfMemory}
-use Rattle.plcr_command.specs.Jobs.{IsCore, IsJob, JobMisread, HasNoCore, HasNoScript, RefusedScript, scripts_in}
+use Rattle.plcr_command.specs.Jobs.{IsJob, JobMisread, HasNoCore, HasNoScript, scripts_in}
 use Rattle.plcr_command.specs.Complete.{ComesExactly}
 use Rattle.plcr_command.proofs.Offered.{Found, Value, None, Wants}
 

@@ -1,5 +1,5 @@
 -- Files that are kept and lines that are printed, one after the other.
-use Rattle.std.proofs.Common.{inl, inr, ◌≡◌, ℕ, ◌⊎◌, List, [], ◌∷◌, ◌++◌, Option, map, refl, sym, ap, subst, ◌∙◌, append-nil, append_assoc, arith}
+use Rattle.std.proofs.Common.{inl, inr, ◌≡◌, ℕ, List, [], ◌∷◌, ◌++◌, Option, refl, sym, ap, subst, ◌∙◌, append-nil, arith}
 use Rattle.std.specs.Io.KnownBytes.{append_known}
 use Rattle.std.proofs.lemmas.List.{map-append}
 use Rattle.plcr_base.specs.Causes.{Rose}
@@ -11,7 +11,8 @@ use Rattle.plcr_io.specs.Desk.{Told}
 use Rattle.plcr_command.specs.Seen.{Seen, seen}
 use Rattle.plcr_command.specs.Taking.{MadeNothing}
 use Rattle.plcr_command.specs.Saving.{DropsFront}
-use Rattle.plcr_command.specs.Endings.{HasKept, CannotWrite, CannotPrint, GoesOn, names_of}
+use Rattle.plcr_command.specs.Endings.{HasKept, CannotWrite, CannotPrint, kept_names}
+use Rattle.plcr_command.specs.inner.Endings.{GoesOn}
 use Rattle.plcr_command.specs.Lines.{cannot_write}
 
 -- nothing was done
@@ -42,8 +43,8 @@ goes_twice old mid new a b = record {
 }
 
 -- the names of files and of more
-names_twice : (first second : List (List ℕ × List ℕ)) (old mid new : Option (List (List ℕ))) → Gains old mid (names_of first) → Gains mid new (names_of second) → Gains old new (names_of (first ++ second))
-names_twice first second old mid new a b = rw (map-append (λ (file : List ℕ × List ℕ). file.0) first second) (gains_twice old mid new (names_of first) (names_of second) a b)
+names_twice : (first second : List (List ℕ × List ℕ)) (old mid new : Option (List (List ℕ))) → Gains old mid (kept_names first) → Gains mid new (kept_names second) → Gains old new (kept_names (first ++ second))
+names_twice first second old mid new a b = rw (map-append (λ (file : List ℕ × List ℕ). file.0) first second) (gains_twice old mid new (kept_names first) (kept_names second) a b)
 
 -- files and lines, and then more
 pub kept_twice : (first second : List (List ℕ × List ℕ)) (text more : List ℕ) (old mid new : Seen) → HasKept first text old mid → HasKept second more mid new → HasKept (first ++ second) (text ++ more) old new
@@ -76,8 +77,8 @@ printed_after text said files old mid new done goes (inr cut) =
 pub unwritten_after : (files : List (List ℕ × List ℕ)) (text name bytes : List ℕ) (old mid new : Seen) → HasKept files text old mid → GoesOn old mid → CannotWrite [] [] name bytes mid new → CannotWrite files text name bytes old new
 unwritten_after files text name bytes old mid new done goes stop = record {
   outcome = elim stop.outcome [
-    | inl none ↦ inl (and_nothing _ _ _ (names_of files) done.made none.0, gains_twice _ _ _ [] [] done.dropped none.1)
-    | inr one ↦ inr (gains_twice _ _ _ (names_of files) (name ∷ []) done.made one.0, fronts bytes old mid new done.dropped one.1)
+    | inl none ↦ inl (and_nothing _ _ _ (kept_names files) done.made none.0, gains_twice _ _ _ [] [] done.dropped none.1)
+    | inr one ↦ inr (gains_twice _ _ _ (kept_names files) (name ∷ []) done.made one.0, fronts bytes old mid new done.dropped one.1)
   ];
   kept = and_nothing _ _ _ files done.kept stop.kept;
   lines = printed_after text (cannot_write name) files old mid new done goes stop.lines;

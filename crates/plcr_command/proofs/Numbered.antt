@@ -1,5 +1,5 @@
 -- Scripts one after the other: which files they are, and what is read of them.
-use Rattle.std.proofs.Common.{◌≡◌, ℕ, zero, suc, ◌+◌, List, [], ◌∷◌, ◌++◌, ◌≤◌, Bor, Some, Result, Ok, Err, length, map, take, drop, take-append-drop, add-one, refl, sym, ap, ◌∙◌}
+use Rattle.std.proofs.Common.{◌≡◌, ℕ, zero, suc, ◌+◌, List, [], ◌∷◌, ◌++◌, ◌≤◌, Bor, Some, Ok, Err, length, map, take, drop, take-append-drop, add-one, refl, sym, ap, ◌∙◌}
 use Rattle.std.specs.Prelude.{slice_get}
 use Rattle.std.proofs.lemmas.List.{drop_all, map-append}
 use Rattle.plcr_script.specs.declared.modes.Mode.{Mode}

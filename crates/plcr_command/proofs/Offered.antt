@@ -1,6 +1,5 @@
 -- What a command answers where the desk tells its files.
 use Rattle.std.proofs.Common.{inl, inr, ◌⊎◌, ◌<◌, ◌≤◌, ◌≡◌, ℕ, length, List, [], ◌∷◌, ◌++◌, Option, Some, refl, sym, ap, subst, ◌∙◌, arith}
-use Rattle.plcr_base.specs.Causes.{Rose}
 use Rattle.plcr_base.specs.Told.{IfTold, Prints}
 use Rattle.plcr_io.specs.Desk.{Told}
 use Rattle.plcr_command.specs.declared.endings.Ending.{Ending}

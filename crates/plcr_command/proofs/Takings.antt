@@ -10,7 +10,8 @@ use Rattle.plcr_io.specs.Desk.{Told, Takes}
 use Rattle.plcr_io.specs.declared.desks.TakeFault.{TakeFault}
 use Rattle.plcr_io.specs.declared.desks.TakeFault.TheVariants.{Failed, TooLong, Memory}
 use Rattle.plcr_command.specs.Files.{File, named, names_of}
-use Rattle.plcr_command.specs.Taking.{AreTaken, MadeNothing, TookAll, TookBefore, TookSome, Untaken, refusal_of}
+use Rattle.plcr_command.specs.Taking.{AreTaken, MadeNothing, TookAll, TookBefore, TookSome, Untaken}
+use Rattle.plcr_command.specs.inner.Taking.{refusal_of}
 use Rattle.plcr_command.specs.declared.files.FileWord.{FileWord}
 use Rattle.plcr_command.specs.declared.refusals.Refusal.{Refusal}
 use Rattle.plcr_command.specs.declared.refusals.Refusal.TheVariants.{CannotRead, CoreRefused, ScriptRefused, ReportRefused, OutOfMemory}

@@ -11,7 +11,7 @@ use Rattle.plcr_command.specs.Seen.{Seen}
 use Rattle.plcr_command.specs.Files.{File}
 use Rattle.plcr_command.specs.Taking.{MadeNothing}
 use Rattle.plcr_command.specs.Refusals.{IsRead, Refuses}
-use Rattle.plcr_command.specs.Saving.{DropsFront, TookNothing}
+use Rattle.plcr_command.specs.Saving.{DropsFront}
 use Rattle.plcr_command.specs.Lines.{refusal_line, cannot_write}
 
 -- the status of each ending
@@ -27,12 +27,12 @@ status_of (Refused (ReportRefused fault)) = 6
 status_of (Refused OutOfMemory) = 7
 
 -- the names of files that are kept
-abbrev pub names_of : List (List ℕ × List ℕ) → List (List ℕ)
-names_of files = map (λ file. file.0) files
+abbrev pub kept_names : List (List ℕ × List ℕ) → List (List ℕ)
+kept_names files = map (λ file. file.0) files
 
 -- each of these files was made and kept with its bytes, in order, none was given up, and this text was printed
 pub record HasKept (files : List (List ℕ × List ℕ)) (text : List ℕ) (old new : Seen) : Type 0 where
-  pub made : Gains old.desk.made new.desk.made (names_of files)
+  pub made : Gains old.desk.made new.desk.made (kept_names files)
   pub kept : Gains old.desk.kept new.desk.kept files
   pub dropped : Gains old.desk.dropped new.desk.dropped []
   pub lines : new.lines ≡ append_known old.lines text
@@ -40,24 +40,19 @@ pub record HasKept (files : List (List ℕ × List ℕ)) (text : List ℕ) (old 
 -- these files were kept and this text was printed, and then this file wasn't kept; a line says so behind the text
 pub record CannotWrite (files : List (List ℕ × List ℕ)) (text name bytes : List ℕ) (old new : Seen) : Type 0 where
   -- its output wasn't made, or it was made, and then at most a front of its bytes was given up
-  pub outcome : (Gains old.desk.made new.desk.made (names_of files) × Gains old.desk.dropped new.desk.dropped [])
-      ⊎ (Gains old.desk.made new.desk.made (names_of files ++ name ∷ []) × DropsFront bytes old.desk new.desk)
+  pub outcome : (Gains old.desk.made new.desk.made (kept_names files) × Gains old.desk.dropped new.desk.dropped [])
+      ⊎ (Gains old.desk.made new.desk.made (kept_names files ++ name ∷ []) × DropsFront bytes old.desk new.desk)
   pub kept : Gains old.desk.kept new.desk.kept files
   pub lines : Prints (append_known old.lines text) new.lines (cannot_write name) old.line_faults new.line_faults
   pub cause : Rose old.desk.out_faults new.desk.out_faults
 
 -- these files were kept and this text was printed, and then the sink of the lines didn't take this line whole
 pub record CannotPrint (files : List (List ℕ × List ℕ)) (text line : List ℕ) (old new : Seen) : Type 0 where
-  pub made : Gains old.desk.made new.desk.made (names_of files)
+  pub made : Gains old.desk.made new.desk.made (kept_names files)
   pub kept : Gains old.desk.kept new.desk.kept files
   pub dropped : Gains old.desk.dropped new.desk.dropped []
   pub lines : AppendsProperFront (append_known old.lines text) new.lines line
   pub cause : Rose old.line_faults new.line_faults
-
--- no file was taken, and the count of faults of the lines doesn't fall
-pub record GoesOn (old new : Seen) : Type 0 where
-  pub desk : TookNothing old.desk new.desk
-  pub line_faults : old.line_faults ≤ new.line_faults
 
 -- a refusal, before anything was made; the line that says so
 pub record IsRefused (Misread : List (List ℕ) → Refusal → Type 0) (files : List File) (refusal : Refusal) (old new : Seen) : Type 0 where

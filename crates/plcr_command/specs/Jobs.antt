@@ -59,12 +59,6 @@ abbrev pub IsJob : Modes → List (List ℕ) → Job → Type 0
 IsJob modes [] job = ⊥
 IsJob modes (core_bytes ∷ contents) job = IsCore core_bytes job.core × (scripts_in modes contents ≡ Ok job.scripts)
 
--- what the bytes of a core are refused for; want of memory has no cause
-abbrev pub CoreMisread : List ℕ → Refusal → Type 0
-CoreMisread bytes (CoreRefused fault) = IsNoCore bytes fault
-CoreMisread bytes OutOfMemory = Unit {0}
-CoreMisread bytes refusal = ⊥
-
 -- what the bytes of scripts are refused for
 abbrev pub ScriptsMisread : Modes → List (List ℕ) → Refusal → Type 0
 ScriptsMisread modes contents (ScriptRefused script line kind) = scripts_in modes contents ≡ Err (record { script = script; line = line; kind = kind })

@@ -3,9 +3,6 @@ use Rattle.std.specs.Prelude.{◌≡◌, ◌<◌, ◌≤◌, ℕ, List, [], ◌�
 use Rattle.plcr_base.specs.Causes.{Rose}
 use Rattle.plcr_base.specs.Told.{IfTold, Gains}
 use Rattle.plcr_io.specs.Desk.{Told}
-use Rattle.plcr_io.specs.declared.desks.TakeFault.{TakeFault}
-use Rattle.plcr_io.specs.declared.desks.TakeFault.TheVariants as takes
-use Rattle.plcr_command.specs.declared.files.FileWord.{FileWord}
 use Rattle.plcr_command.specs.declared.refusals.Refusal.{Refusal}
 use Rattle.plcr_command.specs.declared.refusals.Refusal.TheVariants.{CannotRead, TooLong, OutOfMemory}
 use Rattle.plcr_command.specs.Files.{File, named, names_of}
@@ -51,12 +48,6 @@ pub record TookSome (files : List File) (old new : Told) : Type 0 where
   pub others : List File
   pub parts : files ≡ some ++ others
   pub taken : Gains old.taken new.taken (names_of some)
-
--- what a fault of a take says of the command
-abbrev pub refusal_of : FileWord → TakeFault → Refusal
-refusal_of word takes.Failed = CannotRead word
-refusal_of word (takes.TooLong limit) = TooLong word
-refusal_of word takes.Memory = OutOfMemory
 
 -- not all of these files were taken, for this
 abbrev pub Untaken : List File → Told → Told → Refusal → Type 0

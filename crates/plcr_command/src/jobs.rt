@@ -6,8 +6,8 @@ ghost use Rattle.plcr_script.specs.Reading.{script_in};
 ghost use Rattle.plcr_command.specs.Files as spec;
 ghost use Rattle.plcr_command.specs.Taking.{MadeNothing, TookAll, Untaken};
 ghost use Rattle.plcr_command.specs.Refusals.{IsRead, Refuses};
-ghost use Rattle.plcr_command.specs.Jobs.{CoreMisread, IsCore, IsJob, IsLawfulJob, JobMisread, ScriptsMisread, job_files, scripts_in, texts};
-ghost use Rattle.plcr_command.specs.inner.Jobs.{ScriptMisread};
+ghost use Rattle.plcr_command.specs.Jobs.{IsCore, IsJob, IsLawfulJob, JobMisread, ScriptsMisread, job_files, scripts_in, texts};
+ghost use Rattle.plcr_command.specs.inner.Jobs.{CoreMisread, ScriptMisread};
 
 use crate::files::{core_file, script_file};
 use crate::limits::MOST_SCRIPTS;

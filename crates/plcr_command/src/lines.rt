@@ -8,6 +8,12 @@ use arrayvec::ArrayVec;
 use plcr_io::{Sink, add_bytes, add_decimal, put_parts};
 use std::alloc::{AllocError, Global};
 
+// Room for a space, a limit and the end of the line: a number of 64 bits has at most 20 digits.
+const LIMIT_ROOM: usize = 32;
+
+// Room for the numbers of a script, a line and a kind, with the spaces between them.
+const PLACE_ROOM: usize = 64;
+
 /// Prints a line in three parts. Where the sink fails, the line ends there.
 pub fn print_line<L: Sink>(lines: &mut L, head: &[u8], middle: &[u8], tail: &[u8])
     ensures printed { Prints (L.written lines.old) (L.written lines.new) (head.now ++ middle.now ++ tail.now) (L.faults lines.old) (L.faults lines.new) }
@@ -63,7 +69,7 @@ pub fn refuse<'a, L: Sink>(alloc: Global, refusal: Refusal<'a>, lines: &mut L) -
 }
 
 /// A limit, behind a space, and the end of the line.
-fn limit_text(limit: u64) -> ArrayVec<u8, 32>
+fn limit_text(limit: u64) -> ArrayVec<u8, LIMIT_ROOM>
     ensures { result.items ≡ codes " " ++ decimal limit ++ codes "\n" }
 {
     let mut text = ArrayVec::new();
@@ -74,7 +80,7 @@ fn limit_text(limit: u64) -> ArrayVec<u8, 32>
 }
 
 /// The numbers of a script, of a line and of a kind.
-fn place_text(script: u32, line: u32, kind: u8) -> ArrayVec<u8, 64>
+fn place_text(script: u32, line: u32, kind: u8) -> ArrayVec<u8, PLACE_ROOM>
     ensures { result.items ≡ decimal script ++ codes " " ++ decimal line ++ codes " " ++ decimal kind }
 {
     let mut text = ArrayVec::new();

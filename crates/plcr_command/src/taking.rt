@@ -1,7 +1,8 @@
 //! Taking the files that a command reads, one after the other.
 ghost use Rattle.std.specs.Prelude.{◌≡◌, [], ◌∷◌, MatchResult};
 ghost use Rattle.plcr_command.specs.Files.{named};
-ghost use Rattle.plcr_command.specs.Taking.{MadeNothing, TookAll, Untaken, refusal_of};
+ghost use Rattle.plcr_command.specs.Taking.{MadeNothing, TookAll, Untaken};
+ghost use Rattle.plcr_command.specs.inner.Taking.{refusal_of};
 
 use crate::files::FileWord;
 use crate::refusals::Refusal;

@@ -1,4 +1,7 @@
-use crate::{Modes, Refusal, Unsaved, read_job, refuse, save_bytes};
+use crate::{
+    CORE_LIMIT, MOST_SCRIPTS, Modes, REPORT_LIMIT, Refusal, SCRIPT_LIMIT, Unsaved, core_file,
+    read_job, refuse, report_file, save_bytes, script_file,
+};
 use plcr_io::{MemDesk, MemFile, MemOut};
 use plcr_script::Mode;
 use std::alloc::{AllocError, Global};
@@ -96,4 +99,16 @@ fn keeps_bytes_whole_or_not_at_all(rt: HostRuntime) -> Result<(), Fail> {
         );
     }
     Ok(())
+}
+
+// 1 GiB, 16 MiB and 64 MiB.
+#[test]
+fn limits_are_these_numbers(rt: HostRuntime) {
+    assert_eq!(rt; CORE_LIMIT, 1_073_741_824);
+    assert_eq!(rt; SCRIPT_LIMIT, 16_777_216);
+    assert_eq!(rt; REPORT_LIMIT, 67_108_864);
+    assert_eq!(rt; MOST_SCRIPTS, 64);
+    assert_eq!(rt; core_file("c").limit, 1_073_741_824);
+    assert_eq!(rt; script_file("s").limit, 16_777_216);
+    assert_eq!(rt; report_file("r").limit, 67_108_864);
 }
