@@ -1,1 +1,2 @@
 pub mod WholeStates
+pub mod Wide

@@ -1,8 +1,10 @@
-//! Thread states of x86-64 and arm64: their registers, by name and by place.
+//! Thread states of x86-64 and arm64: their registers, by name, by place and by number, and the frames of a thread.
 #![tactic(auto)]
 
 mod arch;
 mod flavors;
+mod form;
+mod frame;
 mod limits;
 mod names;
 mod places;
@@ -10,6 +12,7 @@ mod registers;
 mod states;
 
 pub use arch::Arch;
+pub use frame::{Frame, Step};
 pub use limits::MOST_REGISTERS;
 pub use names::{count, name};
 pub use places::{dwarf_place, fp_place, lr_place, pc_place, sp_place};

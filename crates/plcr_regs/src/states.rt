@@ -3,14 +3,11 @@ ghost use Rattle.plcr_regs.specs.Names.{register_count};
 ghost use Rattle.plcr_regs.specs.States.{IsWhole, registers_in, state_in, value_in};
 
 use crate::arch::Arch;
-use crate::flavors::{x86_THREAD_STATE64, x86_THREAD_STATE64_COUNT};
+use crate::form::{HEADER, plain_form, wrapping_form};
 use crate::limits::MOST_REGISTERS;
 use crate::names::count;
 use crate::registers::Registers;
 use plcr_base::{read_u32, read_u64};
-
-// The bytes of a state of x86-64.
-const STATE64_BYTES: usize = 4 * x86_THREAD_STATE64_COUNT;
 
 /// The place of cpsr, the one register of 4 bytes.
 const CPSR: usize = 33;
@@ -41,15 +38,21 @@ fn registers(arch: Arch, bytes: &[u8]) -> Registers
 }
 
 /// The registers of a thread state as a core file holds it: `flavor` and the state's bytes. None
-/// exactly where flavor and length are no accepted form. Shapes: mach/i386/thread_status.h.
+/// exactly where flavor and length are no accepted form: the flavor of the architecture's registers, or the one that
+/// wraps it. Shapes: mach/i386/thread_status.h, mach/arm/thread_status.h.
 #[tactic(auto, unfolding(crate::specs::States::state_in), using(crate::proofs::WholeStates::whole_registers))]
 pub fn read_state(arch: Arch, flavor: u32, bytes: &[u8]) -> Option<Registers>
     ensures state { result ≡ state_in arch flavor bytes.now }
     // In each state all registers of the architecture are known.
     ensures whole { IfSome result (IsWhole arch) }
 {
-    match (arch, flavor, bytes.len()) {
-        (Arch::X86_64, x86_THREAD_STATE64, STATE64_BYTES) => Some(registers(arch, bytes)),
-        _ => None,
+    let plain = plain_form(arch);
+    if plain.has(flavor, bytes) {
+        return Some(registers(arch, bytes));
     }
+    if wrapping_form(arch).has(flavor, bytes) && plain.begins(bytes) {
+        let (_, state) = bytes.split_at(HEADER);
+        return Some(registers(arch, state));
+    }
+    None
 }
