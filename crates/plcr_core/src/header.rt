@@ -3,7 +3,7 @@ ghost use Rattle.plcr_core.specs.Heads.{arch_of, header_in};
 
 use crate::fault::CoreFault;
 use plcr_loader::mach_header_64::{CPUTYPE, FILETYPE, LENGTH, MAGIC, NCMDS, SIZEOFCMDS};
-use plcr_loader::{CPU_TYPE_X86_64, MH_CORE, MH_MAGIC_64};
+use plcr_loader::{CPU_TYPE_ARM64, CPU_TYPE_X86_64, MH_CORE, MH_MAGIC_64};
 use plcr_regs::Arch;
 
 /// What the header of a core says: how many load commands it has, and the place where they end.
@@ -19,6 +19,7 @@ fn known_arch(cpu: u32) -> Option<Arch>
 {
     match cpu {
         CPU_TYPE_X86_64 => Some(Arch::X86_64),
+        CPU_TYPE_ARM64 => Some(Arch::Arm64),
         _ => None,
     }
 }

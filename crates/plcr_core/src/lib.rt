@@ -1,4 +1,4 @@
-//! Mach-O core files of x86-64: the memory of the process and the states of its threads.
+//! Mach-O core files of x86-64 and arm64: the memory of the process and the states of its threads.
 #![tactic(auto)]
 
 mod command;

@@ -7,6 +7,8 @@ const MAGIC: u32 = 0xfeed_facf;
 
 const X86_64: u32 = 0x0100_0007;
 
+const ARM64: u32 = 0x0100_000c;
+
 // Appends 4-byte words.
 fn add_words(file: &mut Vec<u8>, words: &[u32]) -> Result<(), AllocError> {
     for word in words {
@@ -288,5 +290,99 @@ fn threads_are_the_first_accepted_groups(rt: HostRuntime) -> Result<(), Fail> {
     );
     let many = Err(CoreFault::TooManyThreads { count: 4097 });
     assert_eq!(rt; first_of(alloc, threads_file(alloc, 4097)?), many);
+    Ok(())
+}
+
+// Appends so many 8-byte numbers, all 0 but some by their places.
+fn add_numbers(file: &mut Vec<u8>, count: usize, known: &[(usize, u64)]) -> Result<(), AllocError> {
+    for i in 0..count {
+        let number = match known.iter().find(|k| k.0 == i) {
+            Some((_, number)) => *number,
+            None => 0,
+        };
+        file.extend_from_slice(&number.to_le_bytes())?;
+    }
+    Ok(())
+}
+
+// A core of that processor with one thread command of so many bytes: these words, and then so many numbers.
+fn state_file(
+    alloc: Global,
+    cputype: u32,
+    size: u32,
+    words: &[u32],
+    count: usize,
+    known: &[(usize, u64)],
+) -> Result<Vec<u8>, AllocError> {
+    let mut file = words_file(alloc, cputype, 1, size, &[4, size])?;
+    add_words(&mut file, words)?;
+    add_numbers(&mut file, count, known)?;
+    Ok(file)
+}
+
+// fp 0x7100, sp 0x7000, pc 0x100000f50, and cpsr 0x60000000 with a pad word of no meaning.
+const ARM64_KNOWN: [(usize, u64); 4] = [
+    (29, 0x7100),
+    (31, 0x7000),
+    (32, 0x1_0000_0f50),
+    (33, 0xffff_ffff_6000_0000),
+];
+
+#[test]
+fn an_arm64_core_has_its_thread(rt: HostRuntime) -> Result<(), Fail> {
+    let alloc = rt.alloc();
+    let mut file = words_file(alloc, ARM64, 2, 360, &[])?;
+    add_segment(&mut file, [0x7000, 0x1000, 0, 0])?;
+    add_words(&mut file, &[4, 288, 6, 68])?;
+    add_numbers(&mut file, 34, &ARM64_KNOWN)?;
+    assert_eq!(rt; file.len(), 392);
+    let core = read_core(alloc, file).ok().ok_or("the bytes are a core")?;
+    assert!(rt; core.arch == Arch::Arm64);
+    assert_eq!(rt; core.memory.read_u64(0x7ff8), Some(0));
+    let mut value = [Some(0); 34];
+    value[29] = Some(0x7100);
+    value[31] = Some(0x7000);
+    value[32] = Some(0x1_0000_0f50);
+    value[33] = Some(0x6000_0000);
+    let state = Registers {
+        arch: Arch::Arm64,
+        value,
+    };
+    assert!(rt; core.threads.as_slice() == [state].as_slice());
+    let wrapped = state_file(alloc, ARM64, 296, &[1, 70, 6, 68], 34, &ARM64_KNOWN)?;
+    let core = read_core(alloc, wrapped)
+        .ok()
+        .ok_or("the bytes are a core")?;
+    assert!(rt; core.threads.as_slice() == [state].as_slice());
+    Ok(())
+}
+
+// The rip of a thread in a wrapped state, and cores whose states are those of another processor or width.
+#[test]
+fn states_go_by_the_processor(rt: HostRuntime) -> Result<(), Fail> {
+    let alloc = rt.alloc();
+    let known = [(16, 7)];
+    let wrapped = state_file(alloc, X86_64, 192, &[7, 44, 4, 42], 21, &known)?;
+    assert_eq!(rt; first_of(alloc, wrapped), Ok((1, Some(7))));
+    // A state of 32-bit registers, whose flavor is 1 on both, and states of the other processor.
+    let none = [
+        (X86_64, 192, [7, 44, 1, 42].as_slice(), 21),
+        (X86_64, 192, [7, 44, 4, 41].as_slice(), 21),
+        (X86_64, 288, [6, 68].as_slice(), 34),
+        (X86_64, 296, [1, 70, 6, 68].as_slice(), 34),
+        (ARM64, 296, [1, 70, 1, 68].as_slice(), 34),
+        (ARM64, 184, [4, 42].as_slice(), 21),
+        (ARM64, 192, [7, 44, 4, 42].as_slice(), 21),
+    ];
+    for (cputype, size, words, count) in none {
+        let file = state_file(alloc, cputype, size, words, count, &known)?;
+        assert_eq!(rt; fault_in(alloc, file), Some(CoreFault::NoThread));
+    }
+    // ARM of 32 bits
+    let other = words_file(alloc, 12, 0, 0, &[])?;
+    assert_eq!(rt;
+        fault_in(alloc, other),
+        Some(CoreFault::OtherCpu { cpu: 12 })
+    );
     Ok(())
 }
