@@ -1,0 +1,11 @@
+//! The frame of a caller by the frame pointer that a function saved.
+#![tactic(auto)]
+
+mod bad;
+mod saved;
+
+pub use bad::{DOES_NOT_RISE, NO_FRAME_POINTER, NOT_MAPPED};
+pub use saved::step;
+
+#[cfg(test)]
+mod tests;
