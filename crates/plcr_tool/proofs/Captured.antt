@@ -19,6 +19,7 @@ use Rattle.plcr_loader.specs.Commands.{Command, AreLaid, IsLaid, commands_at, fa
 use Rattle.plcr_loader.specs.Fields.{number, bytes_of}
 use Rattle.plcr_loader.proofs.Lists.{lists_lie}
 use Rattle.plcr_base.specs.Bytes.{IsBytes}
+use Rattle.plcr_base.specs.Limits.{IsImageName}
 use Rattle.plcr_memory.specs.Regions.{Contents, bytes_at}
 use Rattle.plcr_macho.specs.declared.image.Image as macho
 use Rattle.plcr_macho.specs.declared.image.ImageFault.{ImageFault}
@@ -144,7 +145,7 @@ image_wide m arch header image bytes h =
     subst IsWide same (made_wide header a.0 b.0 text.0 (head_there m arch header a.0 bytes a.1) all (found_is IsSound (is_segment_named SEG_TEXT) b.0 text.0 there all))
 
 -- what is written of a listed image
-handed_with : (listed : Listed) (r : Result macho.Image ImageFault) → listed.header < 2 ^ 64 → length listed.name ≤ 1024 → ((image : macho.Image) → r ≡ Ok image → IsWide image) → IsHandedImage (image_with listed r)
+handed_with : (listed : Listed) (r : Result macho.Image ImageFault) → listed.header < 2 ^ 64 → IsImageName listed.name → ((image : macho.Image) → r ≡ Ok image → IsWide image) → IsHandedImage (image_with listed r)
 handed_with listed (Ok image) addressed short wide =
     let w = wide image refl in
     record {
@@ -164,7 +165,7 @@ handed_with listed (Err fault) addressed short wide = record {
 
 images_handed : (m : Contents) (arch : Arch) (listed : List Listed) → IsBytes m.file → AreHandedListed listed → AreHandedImages (images_of m arch listed)
 images_handed m arch listed bytes handed =
-    let one = λ (l : Listed) (addressed : l.header < 2 ^ 64) (short : length l.name ≤ 1024).
+    let one = λ (l : Listed) (addressed : l.header < 2 ^ 64) (short : IsImageName l.name).
     handed_with l (image_at m arch l.header) addressed short (λ image there. image_wide m arch l.header image bytes there) in
     record {
       each = recursion_from_All IsHandedImage (images_of m arch listed)

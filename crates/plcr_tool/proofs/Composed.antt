@@ -5,7 +5,8 @@ use Rattle.std.proofs.Math.Seq.{take-length}
 use Rattle.std.proofs.lemmas.Grind.{flat_map-append}
 use Rattle.plcr_script.specs.Runs.{NumberedTurn, kept_by, log_of}
 use Rattle.plcr_command.specs.Seen.{Seen}
-use Rattle.plcr_command.specs.Endings.{HasKept, CannotPrint, GoesOn}
+use Rattle.plcr_command.specs.Endings.{HasKept, CannotPrint}
+use Rattle.plcr_command.specs.inner.Endings.{GoesOn}
 use Rattle.plcr_command.proofs.Kept.{kept_none, kept_twice, goes_none, goes_twice, unwritten_after, unprinted_after}
 use Rattle.plcr_command.proofs.Numbered.{parts_at, take_next}
 use Rattle.plcr_tool.specs.Report.{IsDone, IsStopped, CannotKeep, CannotLog, line_of}

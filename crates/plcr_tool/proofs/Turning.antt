@@ -13,6 +13,7 @@ use Rattle.plcr_script.specs.Changes.{Change, Loads, Unloads, place_of, first_wi
 use Rattle.plcr_script.specs.Runs.{Turn, load_turn, unload_turn, unloaded}
 use Rattle.plcr_machine.specs.declared.limits.TheConstants.{MOST_CHANGES}
 use Rattle.plcr_base.specs.declared.limits.TheConstants.{IMAGE_NAME_BYTES}
+use Rattle.plcr_script.specs.declared.limits.TheConstants.{COUNT_UNIT}
 use Rattle.plcr_tool.specs.inner.Changing.{IsAfter, Comes}
 use Rattle.plcr_tool.specs.inner.List.{ListValue, list_value, with_load, with_unload}
 
@@ -55,7 +56,7 @@ load_long list nodes cs image after worn long =
     rw (is, long) (record { is = refl; kept = refl; after = same_list list nodes cs after })
 
 -- a load on a full list
-pub load_full : (list : ListValue) (nodes : ℕ) (cs : List Change) (image : Listed) → IsAfter list nodes cs → nat_le MOST_CHANGES list.changes ≡ false → nat_lt IMAGE_NAME_BYTES (length image.name) ≡ false → (length list.images == list.nodes) ≡ true → Comes (load_turn None nodes cs image) nodes cs (Full list.nodes 0 (list.changes * 2 ^ 32)) list
+pub load_full : (list : ListValue) (nodes : ℕ) (cs : List Change) (image : Listed) → IsAfter list nodes cs → nat_le MOST_CHANGES list.changes ≡ false → nat_lt IMAGE_NAME_BYTES (length image.name) ≡ false → (length list.images == list.nodes) ≡ true → Comes (load_turn None nodes cs image) nodes cs (Full list.nodes 0 (list.changes * COUNT_UNIT)) list
 load_full list nodes cs image after worn long full =
     let is : nat_le MOST_CHANGES (length cs) ≡ false = rw after.counted at worn in
     let all : (length (list_after cs) == nodes) ≡ true = rw (after.images, after.sized) at full in

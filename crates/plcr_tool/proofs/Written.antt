@@ -8,6 +8,7 @@ use Rattle.std.proofs.lemmas.List.{length-map}
 use Rattle.std.proofs.lemmas.Bool.{and_parts, leb-true}
 use Rattle.std.proofs.lemmas.Int.{fits_signed_from_abs}
 use Rattle.std.proofs.Math.Nat.{suc-mul}
+use Rattle.plcr_base.specs.declared.limits.TheConstants.{IMAGE_NAME_BYTES}
 use Rattle.plcr_wire.specs.Message.{Number, Bytes, Field, field_spelling, number_field, bytes_field, spelling}
 use Rattle.plcr_regs.specs.declared.arch.Arch.{Arch}
 use Rattle.plcr_regs.specs.declared.arch.Arch.TheVariants.{X86_64, Arm64}
@@ -151,7 +152,7 @@ image_len image handed =
     let uuid = some_weaker (λ bytes. length bytes ≡ 16) (λ bytes. length bytes ≤ 16) (λ bytes same. omega (arith, same)) image.uuid handed.uuid in
     let code = some_weaker TypedProcessor (λ p. length (spelling (processor_message p)) ≤ 60) (λ p typed. (processor_len p typed).short) image.code_type handed.code_type in
     with_number 1 image.base_address _ 1180 (lit< tt) handed.base_address (with_number 2 image.size _ 1160 (lit< tt) handed.size
-    (with_bytes 3 image.name 1024 _ 116 (lit< tt) handed.name (lit< tt)
+    (with_bytes 3 image.name IMAGE_NAME_BYTES _ 116 (lit< tt) handed.name (lit< tt)
     (with_maybe 4 (λ bytes. bytes) image.uuid 16 _ 80 (lit< tt) (lit< tt) uuid
     (with_maybe 5 (λ p. spelling (processor_message p)) image.code_type 60 [] 0 (lit< tt) (lit< tt) code no_field))))
 

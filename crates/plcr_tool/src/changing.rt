@@ -6,7 +6,7 @@ ghost use Rattle.plcr_tool.specs.inner.Changing.{IsAfter, Comes};
 
 use crate::list::ImageList;
 use plcr_base::IMAGE_NAME_BYTES;
-use plcr_script::{Outcome, Process};
+use plcr_script::{COUNT_UNIT, Outcome, Process};
 
 /// Loads an image, unless that is refused.
 pub(crate) fn load<P: Process>(
@@ -33,7 +33,7 @@ pub(crate) fn load<P: Process>(
         return Outcome::Full {
             live: list.nodes(),
             held: 0,
-            seen: u64::from(list.changes()) * (1 << 32),
+            seen: u64::from(list.changes()) * COUNT_UNIT,
         };
     }
     Outcome::Loaded {

@@ -4,7 +4,8 @@ ghost use Rattle.plcr_command.specs.Seen.{seen};
 ghost use Rattle.plcr_command.specs.Taking.{MadeNothing};
 ghost use Rattle.plcr_command.specs.Refusals.{IsRead, Refuses};
 ghost use Rattle.plcr_command.specs.Jobs.{IsJob, JobMisread};
-ghost use Rattle.plcr_command.specs.Endings.{Goes, GoesOn};
+ghost use Rattle.plcr_command.specs.Endings.{Goes};
+ghost use Rattle.plcr_command.specs.inner.Endings.{GoesOn};
 ghost use Rattle.plcr_tool.specs.Report.{ReportDoes, Reports, report_files};
 ghost use Rattle.plcr_tool.specs.inner.Report.{IsRunnable, RunEnds};
 

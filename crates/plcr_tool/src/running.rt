@@ -3,7 +3,7 @@ ghost use Rattle.std.specs.Prelude.{◌≡◌, [], OnOk, OnErr};
 ghost use Rattle.plcr_script.specs.Lawful.{IsLawful};
 ghost use Rattle.plcr_script.specs.Runs.{meanings, run_of};
 ghost use Rattle.plcr_command.specs.Seen.{seen};
-ghost use Rattle.plcr_command.specs.Endings.{GoesOn};
+ghost use Rattle.plcr_command.specs.inner.Endings.{GoesOn};
 ghost use Rattle.plcr_tool.specs.Report.{IsDone, IsStopped};
 ghost use Rattle.plcr_tool.specs.inner.List.{list_value};
 

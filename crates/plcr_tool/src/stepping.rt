@@ -7,7 +7,7 @@ ghost use Rattle.plcr_script.specs.Changes.{Change};
 ghost use Rattle.plcr_script.specs.Runs.{meanings, turn_of};
 ghost use Rattle.plcr_script.specs.Log.{log_line};
 ghost use Rattle.plcr_command.specs.Seen.{seen};
-ghost use Rattle.plcr_command.specs.Endings.{GoesOn};
+ghost use Rattle.plcr_command.specs.inner.Endings.{GoesOn};
 ghost use Rattle.plcr_tool.specs.inner.Changing.{IsAfter};
 ghost use Rattle.plcr_tool.specs.inner.List.{listed};
 ghost use Rattle.plcr_tool.specs.inner.Stepping.{StepEnds, TurnEnds, report_line};
