@@ -12,14 +12,14 @@ use Rattle.plcr_macho.specs.Containing.{first_over, over}
 abbrev pub FirstFrom : Contents → Arch → ℕ → List Listed → ℕ → Type 0
 FirstFrom m arch address images i = first_over m arch address i (drop i images) ≡ first_over m arch address 0 images
 
-drop_here : (images : List Listed) (i : ℕ) → i < length images → drop i images ≡ listed_at images i ∷ drop (i + 1) images
+pub drop_here : (images : List Listed) (i : ℕ) → i < length images → drop i images ≡ listed_at images i ∷ drop (i + 1) images
 drop_here [] i h = absurd (omega arith)
 drop_here (l ∷ ls) zero h = refl
 drop_here (l ∷ ls) (suc i) h =
     let e : suc (i + 1) ≡ suc i + 1 = omega arith in
     drop_here ls i (omega (arith, h)) ∙ ap (λ (n : ℕ). listed_at ls i ∷ drop n (l ∷ ls)) e
 
-drop_past : (images : List Listed) (i : ℕ) → length images ≤ i → drop i images ≡ []
+pub drop_past : (images : List Listed) (i : ℕ) → length images ≤ i → drop i images ≡ []
 drop_past [] zero h = refl
 drop_past [] (suc i) h = refl
 drop_past (l ∷ ls) zero h = absurd (omega arith)

@@ -9,3 +9,9 @@ pub mod Reading
 pub mod Sectioned
 pub mod Segments
 pub mod Held
+pub mod Ordered
+pub mod Least
+pub mod Agreeing
+pub mod Indexing
+pub mod Reached
+pub mod Searched

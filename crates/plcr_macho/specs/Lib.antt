@@ -1,6 +1,9 @@
 pub mod Containing
 pub mod Images
+pub mod Index
 pub mod Laws
 pub mod Loading
+pub mod Plain
 pub mod Sources
+pub mod Spots
 pub mod inner

@@ -1,3 +1,4 @@
+use crate::Spot;
 use plcr_memory::{Memory, MemoryFault, Region, are_backed};
 use std::alloc::{AllocError, Global};
 
@@ -16,6 +17,13 @@ pub const LINKEDIT: &[u8; 16] = b"__LINKEDIT\0\0\0\0\0\0";
 pub const UNWIND_INFO: &[u8; 16] = b"__unwind_info\0\0\0";
 
 pub const EH_FRAME: &[u8; 16] = b"__eh_frame\0\0\0\0\0\0";
+
+pub const NO_SPOT: Spot = Spot {
+    start: 0,
+    size: 0,
+    reach: 0,
+    position: 0,
+};
 
 pub fn add_words(file: &mut Vec<u8>, words: &[u32]) -> Result<(), AllocError> {
     for word in words {

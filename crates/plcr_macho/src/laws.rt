@@ -1,4 +1,4 @@
-ghost use Rattle.std.specs.Prelude.{◌≡◌, ◌<◌, ℕ, List, Ok, Err, Some, None, length};
+ghost use Rattle.std.specs.Prelude.{◌≡◌, ◌<◌, ℕ, List, Ok, Err, Some, None, length, option_map};
 ghost use Rattle.plcr_loader.specs.Commands.{IsPlain};
 ghost use Rattle.plcr_memory.specs.Regions.{Contents};
 ghost use Rattle.plcr_regs.specs.declared.arch.Arch.{Arch};
@@ -8,6 +8,7 @@ ghost use Rattle.plcr_macho.specs.Loading.{image_at};
 ghost use Rattle.plcr_macho.specs.declared.image.ImageFault.{ImageFault};
 ghost use Rattle.plcr_macho.specs.Images.{Listed, listed_at};
 ghost use Rattle.plcr_macho.specs.Containing.{first_over};
+ghost use Rattle.plcr_macho.specs.Index.{index_of, located};
 ghost use Rattle.plcr_macho.specs.Laws.{IsFirstFault, IsLaidOut, HasAddress, IsFirstOver};
 
 /// What an image in memory is: its header, then the commands that lie one after the other behind it, and what these say.
@@ -42,4 +43,10 @@ pub fn images_hold()
     ensures none { (memory : Contents) (arch : Arch) (address : ℕ) (images : List Listed) →
         first_over memory arch address 0 images ≡ None → (k : ℕ) → k < length images →
         (image : Image) → ¬ HasAddress memory arch address (listed_at images k).header image }
+{}
+
+/// What an index tells: the place of the first image of the list that can be read and has the address in its `__TEXT`.
+pub fn indexes_tell()
+    ensures { (memory : Contents) (arch : Arch) (address : ℕ) (images : List Listed) →
+        located (Some (index_of memory arch images)) address ≡ option_map (λ found. found.0) (first_over memory arch address 0 images) }
 {}

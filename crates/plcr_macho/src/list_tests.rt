@@ -63,19 +63,23 @@ fn overlapping(rt: HostRuntime) -> Result<(), Fail> {
         (A0 + 0x6000, None, None),
         (u64::MAX, None, None),
     ];
+    let mut room = [NO_SPOT; 4];
     for (address, rises, falls) in cases {
         assert_eq!(rt;
-            first_at(&mut ListImages::new(&rising), &memory, address),
+            first_at(&mut ListImages::new(&rising, &mut room), &memory, address),
             rises,
             "{address}"
         );
         assert_eq!(rt;
-            first_at(&mut ListImages::new(&falling), &memory, address),
+            first_at(&mut ListImages::new(&falling, &mut room), &memory, address),
             falls,
             "{address}"
         );
     }
-    assert_eq!(rt; first_at(&mut ListImages::new(&[]), &memory, A0), None);
+    assert_eq!(rt;
+        first_at(&mut ListImages::new(&[], &mut room), &memory, A0),
+        None
+    );
     images_hold();
     Ok(())
 }
@@ -93,6 +97,10 @@ fn header_and_name<I: Images>(images: &mut I) -> (usize, u64, usize, u64, u64) {
 #[test]
 fn listed(rt: HostRuntime) {
     let images = [plain(1, b""), plain(0x7000, b"/usr/libc")];
+    let mut room = [NO_SPOT; 2];
     let want = (2, 0x7000, 9, 0x6269_6c2f_7273_752f, 0x63);
-    assert_eq!(rt; header_and_name(&mut ListImages::new(&images)), want);
+    assert_eq!(rt;
+        header_and_name(&mut ListImages::new(&images, &mut room)),
+        want
+    );
 }

@@ -32,6 +32,7 @@ pub fn containing<I: Images>(
 ) -> Option<(usize, Image)>
     ensures first { result ≡ first_over memory.now arch address 0 (I.images images.old) }
     ensures same { I.images images.new ≡ I.images images.old }
+    ensures index { I.extents images.new ≡ I.extents images.old }
     ensures follows { I.follows images.old images.new }
 {
     for index in 0..images.count() {
