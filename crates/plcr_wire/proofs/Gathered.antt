@@ -1,12 +1,12 @@
 -- How a pen over a borrowed sink gathers bytes, passes them on, ends and is cut short.
 use Rattle.std.proofs.Common.{◌≡◌, ℕ, ◌<◌, ◌≤◌, Bool, true, false, List, [], ◌∷◌, ◌++◌, length, Option, refl, sym, ap, subst, ◌∙◌, append_assoc, append-nil, length-append, arith}
-use Rattle.std.proofs.Common.{inl, inr}
+use Rattle.std.proofs.Common.{◌⊎◌, inl, inr}
 use Rattle.plcr_base.specs.Causes.{Rose}
 use Rattle.std.specs.Borrow.{GName}
 use Rattle.std.specs.Io.KnownBytes.{append_known}
-use Rattle.plcr_base.specs.Told.{AppendsUpTo}
-use Rattle.plcr_base.proofs.Appended.{append_twice, proper_first}
-use Rattle.plcr_wire.specs.Pen.{Pen, sink_pen, Given, PenShows, Puts, PutsProperFront, Wrote, Lost}
+use Rattle.plcr_base.specs.Told.{AppendsUpTo, AppendsProperFront}
+use Rattle.plcr_base.proofs.Appended.{append_twice, proper_first, up_to_end}
+use Rattle.plcr_wire.specs.Pen.{Pen, sink_pen, Given, PenShows, Puts, PutsProperFront, Wrote, Ended, Lost}
 
 -- a front was put, and then a front of what was left
 up_to_twice : (base told new : Option (List ℕ)) (given held left : List ℕ) → AppendsUpTo base told given held → AppendsUpTo told new held left → AppendsUpTo base new given left
@@ -43,13 +43,36 @@ held_more name told faults mark held more b failed e = record {
   mark = refl;
 }
 
--- something is still held at the end
-pub lost_rest : (name : GName) (told new : Option (List ℕ)) (faults : ℕ) (mark held left : List ℕ) (failed : Bool)
-    → failed ≡ false → AppendsUpTo told new held left → 0 < length left → Lost (sink_pen name told faults mark held failed) new
-lost_rest name told new faults mark held left failed whole parts some base bytes h =
-    let shown = subst (λ f. PenShows f (Given told held) base bytes) whole h in
-    let all = up_to_twice base told new bytes held left shown parts in
+-- more bytes are held
+pub held_piece : (name : GName) (told : Option (List ℕ)) (faults : ℕ) (mark held more bytes : List ℕ) (failed : Bool)
+    → more ≡ held ++ bytes → Puts (sink_pen name told faults mark held failed) (sink_pen name told faults mark more failed) bytes
+held_piece name told faults mark held more bytes failed e = record {
+  each = λ base given h. record {
+    front = h.front;
+    parts = ap (λ l. l ++ bytes) h.parts ∙ append_assoc h.front held bytes ∙ ap (λ l. h.front ++ l) (sym e);
+    appended = h.appended;
+  };
+  later = omega arith;
+  failed = refl;
+  sink = refl;
+  mark = refl;
+}
+
+-- something is still held at the end, or bytes were lost before
+pub lost_end : (name : GName) (told new : Option (List ℕ)) (faults : ℕ) (mark held left : List ℕ) (failed : Bool)
+    → (failed ≡ true) ⊎ (0 < length left) → AppendsUpTo told new held left → (failed ≡ true → new ≡ told) → Lost (sink_pen name told faults mark held failed) new
+lost_end name told new faults mark held left true why parts kept base bytes h = subst (λ o. AppendsProperFront base o bytes) (sym (kept refl)) h
+lost_end name told new faults mark held left false (inl gone) parts kept base bytes h = absurd (cc)
+lost_end name told new faults mark held left false (inr some) parts kept base bytes h =
+    let all = up_to_twice base told new bytes held left h parts in
     record { front = all.front; rest = left; parts = all.parts; left = some; appended = all.appended }
+
+-- nothing is held at the end, and none was lost
+pub ended_end : (name : GName) (told new : Option (List ℕ)) (faults : ℕ) (mark held left : List ℕ) (failed : Bool)
+    → (left ≡ []) × (failed ≡ false) → AppendsUpTo told new held left → Ended (sink_pen name told faults mark held failed) new
+ended_end name told new faults mark held left true whole parts base bytes h = absurd (let e = whole.1 in cc)
+ended_end name told new faults mark held left false whole parts base bytes h =
+    up_to_end base new bytes left (up_to_twice base told new bytes held left h parts) (ap length whole.0)
 
 -- a pen that has lost bytes takes none any more
 pub wrote_lost : (name : GName) (told : Option (List ℕ)) (faults : ℕ) (mark held bytes : List ℕ) (failed : Bool)

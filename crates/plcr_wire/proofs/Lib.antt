@@ -1,4 +1,6 @@
 pub mod Varints
+pub mod Logarithm
+pub mod Holding
 pub mod Puttings
 pub mod Writing
 pub mod Gathered
@@ -10,3 +12,4 @@ pub mod Places
 pub mod ReadVarints
 pub mod Smaller
 pub mod AnyEnd
+pub mod FieldsWere

@@ -7,7 +7,7 @@ use Rattle.plcr_wire.specs.Message.{Number, Fixed64, Bytes, Fixed32, value_bytes
 use Rattle.plcr_wire.specs.Message as message
 use Rattle.plcr_base.specs.Chains.{◌>>=◌}
 use Rattle.plcr_base.proofs.Chained.{bind_ok, ok_or_ok}
-use Rattle.plcr_wire.specs.Reading.{varint_at, number_at, fixed_at, text_at, value_at, field_at, found_at, placed, value_in, Stands, wire_of}
+use Rattle.plcr_wire.specs.Reading.{varint_at, number_at, fixed_at, text_at, value_at, field_at, found_at, placed, value_in, Stands, tag_wire}
 use Rattle.plcr_wire.specs.declared.wires.Wire.{Wire}
 use Rattle.plcr_wire.specs.declared.wires.Wire.TheVariants as wires
 use Rattle.plcr_wire.specs.declared.fields.Field.{Field}
@@ -95,17 +95,17 @@ pub record FieldSteps (end : ℕ) (bytes : List ℕ) (f : message.Field × List 
   pub wire : Wire
   pub value : message.Value × List ℕ
   pub tag_read : number_at end bytes ≡ Ok tag
-  pub wire_is : wire_of tag.0 ≡ Some wire
+  pub wire_is : tag_wire tag.0 ≡ Some wire
   pub value_read : value_at end wire tag.1 ≡ Ok value
   pub whole : ◌≡◌ {A = message.Field × List ℕ} (record { number = tag.0 / 8; value = value.0 }, value.1) f
 
 pub field_steps : (end : ℕ) (bytes : List ℕ) (f : message.Field × List ℕ) → field_at end bytes ≡ Ok f → FieldSteps end bytes f
 unfolding field_at
 field_steps end bytes f h =
-    let t = bind_ok (number_at end bytes) (λ t. ok_or (wire_of t.0) (BadTag (end - length bytes)) >>= λ wire. value_at end wire t.1 >>= λ v. Ok (record { number = t.0 / 8; value = v.0 }, v.1)) f h in
-    let w = bind_ok (ok_or (wire_of t.0.0) (BadTag (end - length bytes))) (λ wire. value_at end wire t.0.1 >>= λ v. Ok (record { number = t.0.0 / 8; value = v.0 }, v.1)) f t.2 in
+    let t = bind_ok (number_at end bytes) (λ t. ok_or (tag_wire t.0) (BadTag (end - length bytes)) >>= λ wire. value_at end wire t.1 >>= λ v. Ok (record { number = t.0 / 8; value = v.0 }, v.1)) f h in
+    let w = bind_ok (ok_or (tag_wire t.0.0) (BadTag (end - length bytes))) (λ wire. value_at end wire t.0.1 >>= λ v. Ok (record { number = t.0.0 / 8; value = v.0 }, v.1)) f t.2 in
     let v = bind_ok (value_at end w.0 t.0.1) (λ v. Ok (record { number = t.0.0 / 8; value = v.0 }, v.1)) f w.2 in
-    record { tag = t.0; wire = w.0; value = v.0; tag_read = t.1; wire_is = ok_or_ok (wire_of t.0.0) (BadTag (end - length bytes)) w.0 w.1; value_read = v.1; whole = ok_is (record { number = t.0.0 / 8; value = v.0.0 }, v.0.1) f v.2 }
+    record { tag = t.0; wire = w.0; value = v.0; tag_read = t.1; wire_is = ok_or_ok (tag_wire t.0.0) (BadTag (end - length bytes)) w.0 w.1; value_read = v.1; whole = ok_is (record { number = t.0.0 / 8; value = v.0.0 }, v.0.1) f v.2 }
 
 pub field_ends : (end : ℕ) (bytes : List ℕ) (f : message.Field × List ℕ) → field_at end bytes ≡ Ok f → EndsWith bytes (value_bytes f.0.value ++ f.1)
 field_ends end bytes f h =

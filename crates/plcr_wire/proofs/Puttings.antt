@@ -57,6 +57,16 @@ puts_err old mid new bytes rest before left none = record {
   put = subst (Puts old new) (append-nil before.front) (puts_twice old mid new before.front [] before.put none);
 }
 
+-- one more piece of what is left, of which a part may wait, and then does so no more
+pub piece_more : (old mid held new : Pen) (bytes rest piece left : List ℕ) → PutsUpTo old mid bytes rest → rest ≡ piece ++ left → Puts mid held piece → Puts held new [] → PutsUpTo old new bytes left
+piece_more old mid held new bytes rest piece left before e more passed =
+    puts_more old mid new bytes rest piece left before (subst (Puts mid new) (append-nil piece) (puts_twice mid held new piece [] more passed)) e
+
+-- one more piece, and no more, where something is left
+pub piece_cut : (old mid held new : Pen) (bytes rest piece left : List ℕ) → PutsUpTo old mid bytes rest → rest ≡ piece ++ left → 0 < length left → Puts mid held piece → Puts held new [] → PutsProperFront old new bytes
+piece_cut old mid held new bytes rest piece left before e some more passed =
+    puts_err old held new bytes left (puts_more old mid held bytes rest piece left before more e) some passed
+
 -- one more group of a varint
 pub varint_more : (old mid new : Pen) (bytes : List ℕ) (rest : ℕ) → PutsUpTo old mid bytes (varint rest) → Puts mid new ((rest % 128 + 128) ∷ []) → 128 ≤ rest → PutsUpTo old new bytes (varint (rest / 128))
 varint_more old mid new bytes rest before more large = puts_more old mid new bytes (varint rest) ((rest % 128 + 128) ∷ []) (varint (rest / 128)) before more (varint_large rest large)

@@ -6,9 +6,9 @@ use Rattle.std.proofs.lemmas.List.{take_at, drop_at}
 use Rattle.std.proofs.lemmas.Nat.{from_le_bytes-to_le_bytes_4, from_le_bytes-to_le_bytes_8}
 use Rattle.std.specs.Int.{w32, w64, to_le_bytes}
 use Rattle.plcr_wire.specs.Varint.{varint, tag}
-use Rattle.plcr_wire.specs.Message.{Value, Number, Fixed64, Bytes, Fixed32, Field, wire_type, value_spelling, field_spelling, FitsValue, FitsField}
+use Rattle.plcr_wire.specs.Message.{Value, Number, Fixed64, Bytes, Fixed32, Field, value_wire, wire_type, value_spelling, field_spelling, FitsValue, FitsField}
 use Rattle.plcr_base.specs.Chains.{◌>>=◌}
-use Rattle.plcr_wire.specs.Reading.{varint_at, number_at, fixed_at, text_at, value_at, field_at, wire_of, wire_named}
+use Rattle.plcr_wire.specs.Reading.{varint_at, number_at, fixed_at, text_at, value_at, field_at, tag_wire, wire_named}
 use Rattle.plcr_wire.specs.declared.wires.Wire.{Wire}
 use Rattle.plcr_wire.specs.declared.wires.Wire.TheVariants as wires
 use Rattle.plcr_wire.proofs.Varints.{varint_small, varint_large, below, above}
@@ -31,11 +31,11 @@ pub number_again : (n end : ℕ) (rest : List ℕ) → n < 2 ^ 64 → number_at 
 unfolding number_at
 number_again n end rest h = varint_again 9 n end _ rest (omega arith)
 
-fixed64_again : (n end : ℕ) (rest : List ℕ) → n < 2 ^ 64 → fixed_at w64 end (to_le_bytes w64 n ++ rest) ≡ Ok (n, rest)
+pub fixed64_again : (n end : ℕ) (rest : List ℕ) → n < 2 ^ 64 → fixed_at w64 end (to_le_bytes w64 n ++ rest) ≡ Ok (n, rest)
 unfolding fixed_at
 fixed64_again n end rest h = above (length (to_le_bytes w64 n ++ rest)) 8 _ _ (omega arith) ∙ ap (λ m. Ok (m, rest)) (from_le_bytes-to_le_bytes_8 n h)
 
-fixed32_again : (n end : ℕ) (rest : List ℕ) → n < 2 ^ 32 → fixed_at w32 end (to_le_bytes w32 n ++ rest) ≡ Ok (n, rest)
+pub fixed32_again : (n end : ℕ) (rest : List ℕ) → n < 2 ^ 32 → fixed_at w32 end (to_le_bytes w32 n ++ rest) ≡ Ok (n, rest)
 unfolding fixed_at
 fixed32_again n end rest h = above (length (to_le_bytes w32 n ++ rest)) 4 _ _ (omega arith) ∙ ap (λ m. Ok (m, rest)) (from_le_bytes-to_le_bytes_4 n h)
 
@@ -46,27 +46,20 @@ text_again end bytes rest h =
     (above (length (bytes ++ rest)) (length bytes) _ _ (let e = length-append bytes rest in omega (arith, e))
     ∙ rw (take_at bytes rest (length bytes) refl, drop_at bytes rest (length bytes) refl) refl)
 
--- the wire type of a value
-abbrev wire_in : Value → Wire
-wire_in (Number n) = wires.Number
-wire_in (Fixed64 n) = wires.Fixed64
-wire_in (Bytes bytes) = wires.Bytes
-wire_in (Fixed32 n) = wires.Fixed32
-
-value_again : (end : ℕ) (v : Value) (rest : List ℕ) → FitsValue v → value_at end (wire_in v) (value_spelling v ++ rest) ≡ Ok (v, rest)
+value_again : (end : ℕ) (v : Value) (rest : List ℕ) → FitsValue v → value_at end (value_wire v) (value_spelling v ++ rest) ≡ Ok (v, rest)
 unfolding value_at
 value_again end (Number n) rest h = rw (number_again n end rest h) refl
 value_again end (Fixed64 n) rest h = ap (λ r. r >>= λ m. Ok (Fixed64 m.0, m.1)) (fixed64_again n end rest h)
 value_again end (Bytes bytes) rest h = ap (λ r. r >>= λ m. Ok (Bytes m.0, m.1)) (text_again end bytes rest h)
 value_again end (Fixed32 n) rest h = ap (λ r. r >>= λ m. Ok (Fixed32 m.0, m.1)) (fixed32_again n end rest h)
 
-wire_named_again : (v : Value) → wire_named (wire_type v) ≡ Some (wire_in v)
+wire_named_again : (v : Value) → wire_named (wire_type v) ≡ Some (value_wire v)
 wire_named_again (Number n) = refl
 wire_named_again (Fixed64 n) = refl
 wire_named_again (Bytes bytes) = refl
 wire_named_again (Fixed32 n) = refl
 
-wire_small : (v : Value) → wire_type v < 8
+pub wire_small : (v : Value) → wire_type v < 8
 wire_small (Number n) = omega arith
 wire_small (Fixed64 n) = omega arith
 wire_small (Bytes bytes) = omega arith
@@ -75,7 +68,7 @@ wire_small (Fixed32 n) = omega arith
 within_tags : (t : ℕ) {A : Type 0} (x y : A) → 8 ≤ t → t < 2 ^ 32 → cond (nat_lt t 8 || nat_lt (2 ^ 32 - 1) t) x y ≡ y
 within_tags t x y some within = grind (arith, nat_tests)
 
-wire_again : (field : ℕ) (v : Value) → 0 < field → field < 2 ^ 29 → wire_of (field * 8 + wire_type v) ≡ Some (wire_in v)
+pub wire_again : (field : ℕ) (v : Value) → 0 < field → field < 2 ^ 29 → tag_wire (field * 8 + wire_type v) ≡ Some (value_wire v)
 wire_again field v some within =
     let small = wire_small v in
     let low : (field * 8 + wire_type v) % 8 ≡ wire_type v = omega (arith, small) in

@@ -4,7 +4,8 @@ use Rattle.std.proofs.lemmas.Bool.{cases_lt}
 use Rattle.plcr_wire.specs.Varint.{IsVarint}
 use Rattle.plcr_base.specs.Chains.{◌>>=◌}
 use Rattle.plcr_base.specs.Bytes.{IsBytes}
-use Rattle.plcr_wire.specs.Reading.{varint_at, number_at, ReadsNumber}
+use Rattle.plcr_wire.specs.Reading.{varint_at, number_at}
+use Rattle.plcr_wire.specs.Spelled.{StartsWithNumber}
 use Rattle.plcr_wire.specs.declared.fields.WireFault.TheVariants.{BadVarint}
 use Rattle.plcr_base.proofs.Chained.{bind_ok}
 use Rattle.plcr_wire.proofs.Places.{ok_is}
@@ -22,8 +23,8 @@ varint_reads (b ∷ c ∷ bs) rest end first (suc k) n h short fits =
     let joined : b - 128 + 128 * h.2 ≡ n = omega (arith, h.0, h.3) in
     above b 128 _ _ h.0 ∙ ap (λ r. r >>= λ m. Ok (b - 128 + 128 * m.0, m.1)) more ∙ ap (λ m. Ok (m, rest)) joined
 
-more : (b : ℕ) (bs : List ℕ) (high : ℕ) (left : List ℕ) (n : ℕ) (rest : List ℕ) (k : ℕ) → 128 ≤ b → b < 256 → ReadsNumber bs high left (k + 1)
-    → ◌≡◌ {A = ℕ × List ℕ} (b - 128 + 128 * high, left) (n, rest) → ReadsNumber (b ∷ bs) n rest (suc k + 1)
+more : (b : ℕ) (bs : List ℕ) (high : ℕ) (left : List ℕ) (n : ℕ) (rest : List ℕ) (k : ℕ) → 128 ≤ b → b < 256 → StartsWithNumber bs high left (k + 1)
+    → ◌≡◌ {A = ℕ × List ℕ} (b - 128 + 128 * high, left) (n, rest) → StartsWithNumber (b ∷ bs) n rest (suc k + 1)
 more b bs high left n rest k large small read e =
     let value : b - 128 + 128 * high ≡ n = ap (λ (m : ℕ × List ℕ). m.0) e in
     let same : left ≡ rest = ap (λ (m : ℕ × List ℕ). m.1) e in
@@ -34,7 +35,7 @@ more b bs high left n rest k large small read e =
       short = let s = read.short in omega arith;
     }
 
-varint_was : (bytes : List ℕ) (end first k n : ℕ) (rest : List ℕ) → IsBytes bytes → varint_at end first k bytes ≡ Ok (n, rest) → ReadsNumber bytes n rest (k + 1)
+varint_was : (bytes : List ℕ) (end first k n : ℕ) (rest : List ℕ) → IsBytes bytes → varint_at end first k bytes ≡ Ok (n, rest) → StartsWithNumber bytes n rest (k + 1)
 varint_was [] end first zero n rest fits h = absurd (cc)
 varint_was [] end first (suc k) n rest fits h = absurd (cc)
 varint_was (b ∷ bs) end first zero n rest fits h = elim (cases_lt b 2) [
@@ -57,6 +58,6 @@ pub number_reads : (end n : ℕ) (front rest : List ℕ) → IsVarint front n �
 unfolding number_at
 number_reads end n front rest h short fits = varint_reads front rest end _ 9 n h short (omega arith)
 
-pub number_was : (end n : ℕ) (bytes rest : List ℕ) → IsBytes bytes → number_at end bytes ≡ Ok (n, rest) → ReadsNumber bytes n rest 10
+pub number_was : (end n : ℕ) (bytes rest : List ℕ) → IsBytes bytes → number_at end bytes ≡ Ok (n, rest) → StartsWithNumber bytes n rest 10
 unfolding number_at
 number_was end n bytes rest fits h = varint_was bytes end _ 9 n rest fits h

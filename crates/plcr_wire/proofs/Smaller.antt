@@ -1,4 +1,4 @@
--- What is left after a field is shorter: a field has a byte at least besides its content.
+-- What is left after a field is shorter: a field has a byte at least besides its bytes.
 use Rattle.std.proofs.Common.{◌≡◌, inl, inr, ℕ, zero, suc, ◌+◌, ◌-◌, ◌*◌, ◌<◌, ◌≤◌, List, [], ◌∷◌, length, take, drop, Ok, Err, cond, nat_lt, subst, length-take, length-drop, arith}
 use Rattle.std.specs.Int.{Width, w32, w64, byte_len}
 use Rattle.plcr_wire.specs.Message.{Value, Number, Fixed64, Bytes, Fixed32, Field, value_bytes}

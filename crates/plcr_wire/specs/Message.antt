@@ -2,6 +2,9 @@
 use Rattle.std.specs.Prelude.{ℕ, ◌<◌, ◌^◌, List, [], ◌∷◌, ◌++◌, length}
 use Rattle.std.specs.Int.{w32, w64, to_le_bytes}
 use Rattle.plcr_wire.specs.Varint.{varint, tag}
+use Rattle.plcr_wire.specs.Wires.{wire_number}
+use Rattle.plcr_wire.specs.declared.wires.Wire.{Wire}
+use Rattle.plcr_wire.specs.declared.wires.Wire.TheVariants as wires
 
 -- A value of one of the four wire types in use. A text, a run of bytes and a submessage are the bytes of their spelling.
 pub data Value : Type 0 where
@@ -14,12 +17,16 @@ pub record Field : Type 0 where
   pub number : ℕ
   pub value : Value
 
--- the wire type that a tag names
+-- the wire type that a value is written with
+abbrev pub value_wire : Value → Wire
+value_wire (Number n) = wires.Number
+value_wire (Fixed64 n) = wires.Fixed64
+value_wire (Bytes bs) = wires.Bytes
+value_wire (Fixed32 n) = wires.Fixed32
+
+-- its number
 abbrev pub wire_type : Value → ℕ
-wire_type (Number n) = 0
-wire_type (Fixed64 n) = 1
-wire_type (Bytes bs) = 2
-wire_type (Fixed32 n) = 5
+wire_type v = wire_number (value_wire v)
 
 abbrev pub value_spelling : Value → List ℕ
 value_spelling (Number n) = varint n
@@ -50,7 +57,7 @@ message_field field message = bytes_field field (spelling message)
 
 -- what stands before a submessage of so many bytes: its tag and its length
 abbrev pub message_head : ℕ → ℕ → List ℕ
-message_head field len = tag field 2 ++ varint len
+message_head field len = tag field (wire_number wires.Bytes) ++ varint len
 
 -- the bytes that may hold a message, none in a number
 abbrev pub value_bytes : Value → List ℕ

@@ -39,6 +39,12 @@ abbrev pub PenShows : Bool → Page → Option (List ℕ) → List ℕ → Type 
 PenShows false = Shows
 PenShows true = IsCut
 
+-- It shows some list of bytes since some moment, so that what is said of all that it may show says something of it.
+pub record IsShown (pen : Pen) : Type 0 where
+  pub base : Option (List ℕ)
+  pub given : List ℕ
+  pub shows : PenShows pen.failed pen.page base given
+
 -- Between these two moments exactly these bytes were put.
 pub record Puts (old new : Pen) (bytes : List ℕ) : Type 0 where
   pub each : (base : Option (List ℕ)) (given : List ℕ) → Shows old.page base given → Shows new.page base (given ++ bytes)

@@ -3,8 +3,9 @@
 use Rattle.std.specs.Prelude.{◌≡◌, ◌≤◌, ℕ, Option, Some, None, ok_or, zero, suc, ◌+◌, ◌-◌, ◌*◌, ◌/◌, ◌%◌, ◌^◌, ◌||◌, ◌==◌, List, [], ◌∷◌, ◌++◌, length, take, drop, slice_range, Result, Ok, Err, nat_lt, if◌then◌else◌}
 use Rattle.std.specs.Int.{Width, w32, w64, byte_len, from_le_bytes}
 use Rattle.plcr_base.specs.Chains.{◌>>=◌}
-use Rattle.plcr_wire.specs.Varint.{IsVarint}
+use Rattle.plcr_wire.specs.Wires.{wire_number}
 use Rattle.plcr_wire.specs.Message as message
+use Rattle.plcr_wire.specs.declared.varint.TheConstants.{VARINT_BYTES}
 use Rattle.plcr_wire.specs.declared.fields.Field.{Field}
 use Rattle.plcr_wire.specs.declared.fields.Value.{Value}
 use Rattle.plcr_wire.specs.declared.fields.Value.TheVariants.{Varint, Fixed64, Span, Fixed32}
@@ -12,14 +13,14 @@ use Rattle.plcr_wire.specs.declared.fields.WireFault.{WireFault}
 use Rattle.plcr_wire.specs.declared.fields.WireFault.TheVariants.{Truncated, BadVarint, BadTag}
 use Rattle.plcr_wire.specs.declared.wires.Wire.{Wire}
 use Rattle.plcr_wire.specs.declared.wires.Wire.TheVariants as wires
-use Rattle.plcr_wire.specs.declared.pieces.Piece.{Piece}
-use Rattle.plcr_wire.specs.declared.pieces.Content.{Content}
-use Rattle.plcr_wire.specs.declared.pieces.Content.TheVariants as contents
+use Rattle.plcr_wire.specs.declared.slices.FieldSlice.{FieldSlice}
+use Rattle.plcr_wire.specs.declared.slices.ValueSlice.{ValueSlice}
+use Rattle.plcr_wire.specs.declared.slices.ValueSlice.TheVariants as slices
 
 -- What a function returned, seen by view, is what reading gives.
-abbrev pub Reads : {X Y E : Type 0} → (X → Y) → Result X E → Result Y E → Type 0
-Reads view (Ok x) read = read ≡ Ok (view x)
-Reads view (Err e) read = read ≡ Err e
+abbrev pub Returns : {X Y E : Type 0} → (X → Y) → Result X E → Result Y E → Type 0
+Returns view (Ok x) read = read ≡ Ok (view x)
+Returns view (Err e) read = read ≡ Err e
 
 -- A varint, of which k more groups may follow the next: its number, and what is left. The tenth group has one bit.
 abbrev pub varint_at : ℕ → ℕ → ℕ → List ℕ → Result (ℕ × List ℕ) WireFault
@@ -28,14 +29,7 @@ varint_at end first zero (b ∷ bs) = if nat_lt b 2 then Ok (b, bs) else Err (Ba
 varint_at end first (suc k) (b ∷ bs) = if nat_lt b 128 then Ok (b, bs) else (varint_at end first k bs >>= λ n. Ok (b - 128 + 128 * n.0, n.1))
 
 unfoldable pub number_at : ℕ → List ℕ → Result (ℕ × List ℕ) WireFault
-number_at end bytes = varint_at end (end - length bytes) 9 bytes
-
--- a varint of n, of so many bytes at most, and then this rest
-pub record ReadsNumber (bytes : List ℕ) (n : ℕ) (rest : List ℕ) (most : ℕ) : Type 0 where
-  pub front : List ℕ
-  pub parts : bytes ≡ front ++ rest
-  pub spelled : IsVarint front n
-  pub short : length front ≤ most
+number_at end bytes = varint_at end (end - length bytes) (VARINT_BYTES - 1) bytes
 
 -- a number of a fixed width, lowest byte first
 unfoldable pub fixed_at : Width → ℕ → List ℕ → Result (ℕ × List ℕ) WireFault
@@ -50,15 +44,15 @@ text_at end bytes = do
 -- the wire type that these three bits of a tag name
 abbrev pub wire_named : ℕ → Option Wire
 wire_named n =
-    if n == 0 then Some wires.Number
-    else if n == 1 then Some wires.Fixed64
-    else if n == 2 then Some wires.Bytes
-    else if n == 5 then Some wires.Fixed32
+    if n == wire_number wires.Number then Some wires.Number
+    else if n == wire_number wires.Fixed64 then Some wires.Fixed64
+    else if n == wire_number wires.Bytes then Some wires.Bytes
+    else if n == wire_number wires.Fixed32 then Some wires.Fixed32
     else None
 
 -- the wire type of a tag, where its field is 1 to 2^29 - 1 and the type is one in use
-abbrev pub wire_of : ℕ → Option Wire
-wire_of t = if nat_lt t 8 || nat_lt (2 ^ 32 - 1) t then None else wire_named (t % 8)
+abbrev pub tag_wire : ℕ → Option Wire
+tag_wire t = if nat_lt t 8 || nat_lt (2 ^ 32 - 1) t then None else wire_named (t % 8)
 
 -- a value of this wire type
 unfoldable pub value_at : ℕ → Wire → List ℕ → Result (message.Value × List ℕ) WireFault
@@ -71,24 +65,24 @@ value_at end wires.Fixed32 bytes = fixed_at w32 end bytes >>= λ n. Ok (message.
 unfoldable pub field_at : ℕ → List ℕ → Result (message.Field × List ℕ) WireFault
 field_at end bytes = do
   t ← number_at end bytes
-  wire ← ok_or (wire_of t.0) (BadTag (end - length bytes))
+  wire ← ok_or (tag_wire t.0) (BadTag (end - length bytes))
   v ← value_at end wire t.1
   Ok (record { number = t.0 / 8; value = v.0 }, v.1)
 
 -- a value as it lies in memory
-abbrev pub content : Content → message.Value
-content (contents.Number n) = message.Number n
-content (contents.Fixed64 n) = message.Fixed64 n
-content (contents.Bytes bytes) = message.Bytes bytes.now
-content (contents.Fixed32 n) = message.Fixed32 n
+abbrev pub value_slice : ValueSlice → message.Value
+value_slice (slices.Number n) = message.Number n
+value_slice (slices.Fixed64 n) = message.Fixed64 n
+value_slice (slices.Bytes bytes) = message.Bytes bytes.now
+value_slice (slices.Fixed32 n) = message.Fixed32 n
 
 -- how many bytes it has that may hold fields
-abbrev pub content_len : Content → ℕ
-content_len (contents.Bytes bytes) = length bytes.now
-content_len _ = 0
+abbrev pub value_slice_len : ValueSlice → ℕ
+value_slice_len (slices.Bytes bytes) = length bytes.now
+value_slice_len _ = 0
 
-abbrev pub piece : Piece → message.Field × List ℕ
-piece p = (record { number = p.number; value = content p.value }, p.rest.now)
+abbrev pub field_slice : FieldSlice → message.Field × List ℕ
+field_slice p = (record { number = p.number; value = value_slice p.value }, p.rest.now)
 
 -- a value that ends at this place
 abbrev pub placed : ℕ → message.Value → Value

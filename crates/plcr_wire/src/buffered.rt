@@ -1,118 +1,162 @@
 //! Bytes on their way to a sink, gathered into pieces.
-ghost use Rattle.std.specs.Prelude.{◌≡◌, ℕ, ◌≤◌, ◌<◌, List, [], ◌∷◌, ◌++◌, length, drop, Option, Some, true, false, OnOk, OnErr, ◌⊎◌};
+ghost use Rattle.std.specs.Prelude.{◌≡◌, ℕ, ◌+◌, ◌≤◌, ◌<◌, List, [], ◌∷◌, ◌++◌, length, drop, Option, Some, true, false, OnOk, OnErr, ◌⊎◌};
 ghost use Rattle.std.specs.Io.KnownBytes.{append_known};
-ghost use Rattle.arrayvec.specs.ArrayVec.{array_vec_len};
 ghost use Rattle.plcr_base.specs.Causes.{Rose};
-ghost use Rattle.plcr_base.specs.Told.{AppendsUpTo};
-ghost use Rattle.plcr_wire.specs.Pen.{sink_pen, Puts, HoldsNothing, Ended, Lost};
+ghost use Rattle.plcr_wire.specs.Pen.{sink_pen, Puts, PutsProperFront, HoldsNothing, Ended, Lost};
 
-use crate::put::put_bytes;
+use crate::held::{end_held, push_all, put_held};
+use crate::varint::{VARINT_BYTES, push_varint};
 use crate::{Ink, Put, put_varint};
 use arrayvec::ArrayVec;
 use plcr_io::{PutFailed, Sink};
 
-const PIECE: usize = 256;
+/// A sink of a capture gets pieces of so many bytes.
+pub const PIECE: usize = 256;
+
+/// A sink of a text gets pieces of so many bytes, since each may be a call of the system.
+pub const TEXT_PIECE: usize = 4096;
 
 /// Gathers bytes, and puts them to a sink in pieces of 256 bytes, and the rest at the end.
+pub type Buffered<'a, K> = Pieces<'a, K, PIECE>;
+
+/// Gathers bytes, and puts them to a sink in pieces of 4,096 bytes, and the rest at the end.
+pub type BufferedText<'a, K> = Pieces<'a, K, TEXT_PIECE>;
+
+/// Gathers bytes, and puts them to a sink in pieces of `ROOM` bytes, and the rest at the end.
 ///
-/// It stands directly on the borrow of the sink, so that its owner learns what the sink has at the end.
-#[derive(Drop)]
-pub struct Buffered<'a, K: Sink> {
+/// It stands directly on the borrow of the sink, so that its owner learns what the sink has at the end. It can't be
+/// dropped: only `finish` ends it, which tells whether bytes were lost.
+pub struct Pieces<'a, K: Sink, const ROOM: usize> {
     sink: &'a mut K,
-    held: ArrayVec<u8, PIECE>,
+    held: ArrayVec<u8, ROOM>,
     failed: bool,
+    ghost roomy: { 0 < ROOM },
 }
 
-// Removes the first bytes.
-fn take_front(held: &mut ArrayVec<u8, PIECE>, count: usize)
-    requires { count ≤ array_vec_len held.old }
-    ensures { held.new.items ≡ drop count held.old.items }
-{
-    drop(held.drain(..count));
-}
+impl<'a, K: Sink, const ROOM: usize> Pieces<'a, K, ROOM> {
+    ghost use Rattle.plcr_wire.specs.Sinks.{sink_of};
 
-// Puts what is held, piece after piece. At `Err` what wasn't taken is still held.
-#[tactic(auto, using(plcr_base::proofs::Appended::up_to_start, plcr_base::proofs::Appended::up_to_put))]
-fn put_held<K: Sink>(sink: &mut K, held: &mut ArrayVec<u8, PIECE>) -> Result<(), PutFailed>
-    ensures parts { AppendsUpTo (K.written sink.old) (K.written sink.new) held.old.items held.new.items }
-    ensures ok { OnOk result (held.new.items ≡ []) }
-    ensures err { OnErr result (0 < length held.new.items) }
-    ensures later { K.faults sink.old ≤ K.faults sink.new }
-    ensures cause { OnErr result (Rose (K.faults sink.old) (K.faults sink.new)) }
-    ensures mark { K.mark sink.new ≡ K.mark sink.old }
-{
-    while !held.is_empty() {
-        let taken = sink.put(held.as_slice())?;
-        take_front(held, taken);
-    }
-    Ok(())
-}
-
-impl<'a, K: Sink> Buffered<'a, K> {
     /// Holds nothing yet.
-    pub fn new(sink: &'a mut K) -> Buffered<'a, K>
-        ensures same_sink { result.sink.ghost_name ≡ sink.entry.ghost_name }
-        ensures pen { ⟦<Buffered<'a, K> as Put>⟧.pen result
+    pub fn new(sink: &'a mut K) -> Pieces<'a, K, ROOM>
+        requires { 0 < ROOM }
+        ensures same_sink { sink_of result ≡ sink.entry.ghost_name }
+        ensures pen { ⟦<Pieces<'a, K, ROOM> as Put>⟧.pen result
             ≡ sink_pen sink.entry.ghost_name (K.written sink.old) (K.faults sink.old) (K.mark sink.old) [] false }
     {
-        Buffered {
+        Pieces {
             sink,
             held: ArrayVec::new(),
             failed: false,
         }
     }
 
-    /// Puts what is held. At `Ok` nothing is held any more; at `Err` what the sink didn't take still is.
-    pub fn flush(&mut self) -> Result<(), PutFailed>
-        ensures given { Puts (⟦<Buffered<'a, K> as Put>⟧.pen self.old) (⟦<Buffered<'a, K> as Put>⟧.pen self.new) [] }
-        ensures ok { OnOk result (HoldsNothing (⟦<Buffered<'a, K> as Put>⟧.pen self.new).page) }
-        ensures cause { OnErr result (Rose (⟦<Buffered<'a, K> as Put>⟧.pen self.old).faults (⟦<Buffered<'a, K> as Put>⟧.pen self.new).faults) }
-        ensures same_sink { self.new.sink.ghost_name ≡ self.old.sink.ghost_name }
+    // Puts what is held. At `Ok` nothing is held any more; at `Err` what the sink didn't take still is.
+    fn pass_on(&mut self) -> Result<(), PutFailed>
+        ensures given { Puts (⟦<Pieces<'a, K, ROOM> as Put>⟧.pen self.old) (⟦<Pieces<'a, K, ROOM> as Put>⟧.pen self.new) [] }
+        ensures ok { OnOk result (self.new.held.items ≡ []) }
+        ensures cause { OnErr result (Rose (⟦<Pieces<'a, K, ROOM> as Put>⟧.pen self.old).faults (⟦<Pieces<'a, K, ROOM> as Put>⟧.pen self.new).faults) }
+        ensures same_sink { sink_of self.new ≡ sink_of self.old }
     {
         put_held(self.sink, &mut self.held)
     }
 
+    /// Puts what is held. At `Ok` nothing is held any more, and none was lost before; at `Err` what the sink didn't
+    /// take still is, or bytes were lost before.
+    pub fn flush(&mut self) -> Result<(), PutFailed>
+        ensures given { Puts (⟦<Pieces<'a, K, ROOM> as Put>⟧.pen self.old) (⟦<Pieces<'a, K, ROOM> as Put>⟧.pen self.new) [] }
+        ensures ok { OnOk result (HoldsNothing (⟦<Pieces<'a, K, ROOM> as Put>⟧.pen self.new).page) }
+        ensures whole { OnOk result ((⟦<Pieces<'a, K, ROOM> as Put>⟧.pen self.old).failed ≡ false) }
+        ensures cause { OnErr result (((⟦<Pieces<'a, K, ROOM> as Put>⟧.pen self.old).failed ≡ true) ⊎ Rose (⟦<Pieces<'a, K, ROOM> as Put>⟧.pen self.old).faults (⟦<Pieces<'a, K, ROOM> as Put>⟧.pen self.new).faults) }
+        ensures same_sink { sink_of self.new ≡ sink_of self.old }
+    {
+        if self.failed {
+            return Err(PutFailed);
+        }
+        self.pass_on()
+    }
+
     /// Puts what is held, and ends. At `Ok` the sink has all the bytes given; at `Err` a front of them, not all.
     pub fn finish(self) -> Result<(), PutFailed>
-        ensures ok { OnOk result (Ended (⟦<Buffered<'a, K> as Put>⟧.pen self.entry) (K.written self.exit.0.now)) }
-        ensures err { OnErr result (Lost (⟦<Buffered<'a, K> as Put>⟧.pen self.entry) (K.written self.exit.0.now)) }
-        ensures later { (⟦<Buffered<'a, K> as Put>⟧.pen self.entry).faults ≤ K.faults self.exit.0.now }
-        ensures cause { OnErr result (((⟦<Buffered<'a, K> as Put>⟧.pen self.entry).failed ≡ true) ⊎ Rose (⟦<Buffered<'a, K> as Put>⟧.pen self.entry).faults (K.faults self.exit.0.now)) }
-        ensures mark { K.mark self.exit.0.now ≡ (⟦<Buffered<'a, K> as Put>⟧.pen self.entry).mark }
+        ensures ok { OnOk result (Ended (⟦<Pieces<'a, K, ROOM> as Put>⟧.pen self.entry) (K.written self.exit.0.now)) }
+        ensures err { OnErr result (Lost (⟦<Pieces<'a, K, ROOM> as Put>⟧.pen self.entry) (K.written self.exit.0.now)) }
+        ensures later { (⟦<Pieces<'a, K, ROOM> as Put>⟧.pen self.entry).faults ≤ K.faults self.exit.0.now }
+        ensures cause { OnErr result (((⟦<Pieces<'a, K, ROOM> as Put>⟧.pen self.entry).failed ≡ true) ⊎ Rose (⟦<Pieces<'a, K, ROOM> as Put>⟧.pen self.entry).faults (K.faults self.exit.0.now)) }
+        ensures mark { K.mark self.exit.0.now ≡ (⟦<Pieces<'a, K, ROOM> as Put>⟧.pen self.entry).mark }
     {
-        let Buffered {
+        let Pieces {
             sink,
             mut held,
             failed,
         } = self;
-        if failed {
-            return Err(PutFailed);
-        }
-        put_held(sink, &mut held)
+        end_held(sink, &mut held, failed)
     }
-}
 
-impl<'a, K: Sink> Put for Buffered<'a, K> {
-    ghost pen = { λ b. sink_pen b.sink.ghost_name (K.written b.sink.now) (K.faults b.sink.now) (K.mark b.sink.now) b.held.items b.failed };
+    // Holds these bytes too, for which there is room.
+    #[tactic(auto, using(crate::proofs::Gathered::held_piece))]
+    fn hold(&mut self, bytes: &[u8])
+        requires { length self.old.held.items + length bytes.now ≤ ROOM }
+        ensures given { Puts (⟦<Pieces<'a, K, ROOM> as Put>⟧.pen self.old) (⟦<Pieces<'a, K, ROOM> as Put>⟧.pen self.new) bytes.now }
+        ensures same_sink { sink_of self.new ≡ sink_of self.old }
+    {
+        push_all(&mut self.held, bytes);
+    }
 
-    fn byte(&mut self, b: u8) -> Result<(), PutFailed> {
-        if self.held.is_full() {
-            self.flush()?;
+    // Holds these bytes too. Whenever there is no room for the next byte, what is held goes to the sink first.
+    fn gather(&mut self, bytes: &[u8]) -> Result<(), PutFailed>
+        ensures ok { OnOk result (Puts (⟦<Pieces<'a, K, ROOM> as Put>⟧.pen self.old) (⟦<Pieces<'a, K, ROOM> as Put>⟧.pen self.new) bytes.now) }
+        ensures err { OnErr result (PutsProperFront (⟦<Pieces<'a, K, ROOM> as Put>⟧.pen self.old) (⟦<Pieces<'a, K, ROOM> as Put>⟧.pen self.new) bytes.now) }
+        ensures cause { OnErr result (Rose (⟦<Pieces<'a, K, ROOM> as Put>⟧.pen self.old).faults (⟦<Pieces<'a, K, ROOM> as Put>⟧.pen self.new).faults) }
+        ensures same_sink { sink_of self.new ≡ sink_of self.old }
+    {
+        let mut rest = bytes;
+        let mut room = self.held.remaining_capacity();
+        while rest.len() > room {
+            let (front, back) = rest.split_at(room);
+            self.hold(front);
+            self.pass_on()?;
+            rest = back;
+            room = self.held.remaining_capacity();
         }
-        self.held.push(b);
+        self.hold(rest);
         Ok(())
     }
 }
 
-impl<'a, K: Sink> Ink for Buffered<'a, K> {
+impl<'a, K: Sink, const ROOM: usize> Put for Pieces<'a, K, ROOM> {
+    ghost use Rattle.plcr_wire.specs.Shown.{sink_shown};
+
+    ghost pen = { λ b. sink_pen b.sink.ghost_name (K.written b.sink.now) (K.faults b.sink.now) (K.mark b.sink.now) b.held.items b.failed };
+
+    fn byte(&mut self, b: u8) -> Result<(), PutFailed> {
+        if self.held.is_full() {
+            self.pass_on()?;
+        }
+        self.held.push(b);
+        Ok(())
+    }
+
+    ghost shows_some = { λ b. sink_shown _ _ _ _ b.held.items b.failed };
+}
+
+impl<'a, K: Sink, const ROOM: usize> Ink for Pieces<'a, K, ROOM> {
     fn raw(&mut self, bytes: &[u8]) {
-        if !self.failed && put_bytes(self, bytes).is_err() {
+        if self.failed {
+            return;
+        }
+        if bytes.len() <= self.held.remaining_capacity() {
+            push_all(&mut self.held, bytes);
+        } else if self.gather(bytes).is_err() {
             self.failed = true;
         }
     }
 
     fn varint(&mut self, value: u64) {
-        if !self.failed && put_varint(self, value).is_err() {
+        if self.failed {
+            return;
+        }
+        if self.held.remaining_capacity() >= VARINT_BYTES {
+            push_varint(&mut self.held, value);
+        } else if put_varint(self, value).is_err() {
             self.failed = true;
         }
     }

@@ -1,5 +1,5 @@
 //! A count of bytes.
-ghost use Rattle.std.specs.Prelude.{◌≡◌};
+ghost use Rattle.std.specs.Prelude.{◌≡◌, ◌≤◌, ◌-◌, ◌^◌};
 ghost use Rattle.plcr_wire.specs.Pen.{counter_pen};
 
 use crate::{Ink, Put, varint_len};
@@ -9,6 +9,7 @@ use plcr_io::PutFailed;
 #[derive(Drop)]
 pub struct Counter {
     bytes: u64,
+    ghost within: { bytes ≤ 2 ^ 64 - 1 },
 }
 
 impl Counter {
@@ -28,12 +29,16 @@ impl Counter {
 }
 
 impl Put for Counter {
+    ghost use Rattle.plcr_wire.specs.Shown.{counter_shown};
+
     ghost pen = { λ c. counter_pen c.bytes };
 
     fn byte(&mut self, _b: u8) -> Result<(), PutFailed> {
         self.bytes = self.bytes.saturating_add(1);
         Ok(())
     }
+
+    ghost shows_some = { λ c. counter_shown c.bytes c.within };
 }
 
 impl Ink for Counter {

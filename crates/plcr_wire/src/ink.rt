@@ -3,9 +3,10 @@ ghost use Rattle.std.specs.Prelude.{◌≡◌, ◌+◌, ◌*◌, ◌^◌, ◌<�
 ghost use Rattle.plcr_wire.specs.Message.{number_field, bytes_field, field_spelling, message_head};
 ghost use Rattle.plcr_wire.specs.Pen.{Wrote};
 ghost use Rattle.plcr_wire.specs.Varint.{varint, tag};
+ghost use Rattle.plcr_wire.specs.Wires.{wire_number};
 
 use crate::Put;
-use crate::wires::tag_number;
+use crate::wires::{Wire, tag_number};
 
 /// A writer whose calls can't fail. Once a byte is lost it takes nothing any more, and its owner hears of that at the end.
 pub trait Ink: Put {
@@ -19,13 +20,12 @@ pub trait Ink: Put {
 
     /// Writes the tag of a field with this number and wire type.
     #[tactic(auto, unfolding(crate::specs::Varint::tag))]
-    fn tag(&mut self, field: u32, wire: u8)
+    fn tag(&mut self, field: u32, wire: Wire)
         requires some { 0 < field }
         requires within { field < 2 ^ 29 }
-        requires wire { wire < 8 }
-        ensures { Wrote (Self.pen self.old) (Self.pen self.new) (tag field wire) }
+        ensures { Wrote (Self.pen self.old) (Self.pen self.new) (tag field (wire_number wire)) }
     {
-        self.varint(tag_number(field, wire))
+        self.varint(tag_number(field, wire.number()))
     }
 
     /// Writes a field that is a varint.
@@ -35,7 +35,7 @@ pub trait Ink: Put {
         requires within { field < 2 ^ 29 }
         ensures { Wrote (Self.pen self.old) (Self.pen self.new) (field_spelling (number_field field value)) }
     {
-        self.tag(field, 0);
+        self.tag(field, Wire::Number);
         self.varint(value)
     }
 
@@ -46,7 +46,7 @@ pub trait Ink: Put {
         requires within { field < 2 ^ 29 }
         ensures { Wrote (Self.pen self.old) (Self.pen self.new) (message_head field len) }
     {
-        self.tag(field, 2);
+        self.tag(field, Wire::Bytes);
         self.varint(len)
     }
 
@@ -57,7 +57,7 @@ pub trait Ink: Put {
         requires within { field < 2 ^ 29 }
         ensures { Wrote (Self.pen self.old) (Self.pen self.new) (field_spelling (bytes_field field bytes.now)) }
     {
-        self.tag(field, 2);
+        self.tag(field, Wire::Bytes);
         self.varint(bytes.len() as u64);
         self.raw(bytes)
     }

@@ -7,21 +7,23 @@
 mod buffered;
 mod counter;
 mod fields;
+mod held;
 mod ink;
-mod pieces;
 mod put;
 mod reading;
+mod slices;
 mod varint;
 mod wires;
 
-pub use buffered::Buffered;
+pub use buffered::{Buffered, BufferedText, PIECE, Pieces, TEXT_PIECE};
 pub use counter::Counter;
 pub use fields::{Field, Value, WireFault};
 pub use ink::Ink;
-pub use pieces::{Content, Piece};
 pub use put::{Put, put_tag, put_varint};
-pub use reading::{field_of, next_field, reads_again, reads_varints};
-pub use varint::{shortest_varint, varint_len};
+pub use reading::{field_of, next_field, reads_again, reads_fields, reads_varints};
+pub use slices::{FieldSlice, ValueSlice};
+pub use varint::{VARINT_BYTES, shortest_varint, varint_len};
+pub use wires::Wire;
 
 #[cfg(test)]
 mod tests;

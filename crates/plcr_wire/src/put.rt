@@ -1,7 +1,7 @@
 //! Writers of single bytes, and the numbers that are spelled by them.
 ghost use Rattle.std.specs.Prelude.{◌≡◌, ◌+◌, ◌*◌, ◌^◌, ◌<◌, ◌≤◌, [], ◌∷◌, OnOk, OnErr};
 ghost use Rattle.plcr_base.specs.Causes.{Rose};
-ghost use Rattle.plcr_wire.specs.Pen.{Pen, Puts, PutsProperFront};
+ghost use Rattle.plcr_wire.specs.Pen.{Pen, IsShown, Puts, PutsProperFront};
 ghost use Rattle.plcr_wire.specs.Varint.{varint, tag};
 
 use crate::wires::tag_number;
@@ -17,6 +17,8 @@ pub trait Put {
         ensures ok { OnOk result (Puts (pen self.old) (pen self.new) (b ∷ [])) }
         ensures err { OnErr result (Puts (pen self.old) (pen self.new) []) }
         ensures cause { OnErr result (Rose (pen self.old).faults (pen self.new).faults) };
+
+    ghost shows_some: { (p : Self) → IsShown (pen p) };
 }
 
 /// Writes a number as its shortest varint. At `Err` a front of it was written, and not all.

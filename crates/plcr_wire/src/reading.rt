@@ -1,56 +1,81 @@
 //! Reading of fields.
-ghost use Rattle.std.specs.Prelude.{◌≡◌, ℕ, List, ◌++◌, Ok, ◌+◌, ◌*◌, ◌^◌, ◌<◌, ◌≤◌, length, slice_range, IfOk};
+ghost use Rattle.std.specs.Prelude.{◌≡◌, ℕ, List, ◌++◌, Ok, ◌+◌, ◌*◌, ◌^◌, ◌<◌, ◌≤◌, length, slice_range, [], ◌∷◌, MatchOption, IfOk};
 ghost use Rattle.std.specs.Int.{w32, w64};
 ghost use Rattle.plcr_base.specs.Bytes.{IsBytes};
-ghost use Rattle.plcr_wire.specs.Reading.{Reads, varint_at, number_at, fixed_at, text_at, field_at, value_at, found_at, Stands, piece, content, content_len, ReadsNumber};
+ghost use Rattle.plcr_wire.specs.Reading.{Returns, varint_at, number_at, fixed_at, text_at, field_at, value_at, found_at, Stands, field_slice, value_slice, value_slice_len};
+ghost use Rattle.plcr_wire.specs.Spelled.{StartsWithNumber, StartsWithField};
+ghost use Rattle.plcr_wire.specs.declared.varint.TheConstants.{VARINT_BYTES};
 ghost use Rattle.plcr_wire.specs.Varint.{IsVarint};
 ghost use Rattle.plcr_wire.specs.Message as message;
 ghost use Rattle.plcr_wire.specs.Message.{FitsField, field_spelling};
 ghost use Rattle.plcr_wire.specs.Reading as spec;
 
 use crate::fields::{Field, Value, WireFault};
-use crate::pieces::{Content, Piece};
-use crate::wires::{Wire, wire_of};
+use crate::slices::{FieldSlice, ValueSlice};
+use crate::varint::VARINT_BYTES;
+use crate::wires::{Wire, tag_wire};
 
-// A varint, of which so many more groups may follow the next, and what is left.
-fn groups_of(bytes: &[u8], end: usize, first: usize, more: u32) -> Result<(u64, &[u8]), WireFault>
-    requires { more ≤ 9 }
-    ensures reads { Reads (λ x. (x.0, x.1.now)) result (varint_at end first more bytes.now) }
-    ensures fits { IfOk result (λ x. x.0 < 2 * 128 ^ more) }
+// A varint whose first byte isn't its last, and what is left.
+#[tactic(auto, unfolding(crate::specs::Reading::number_at))]
+fn long_number_of(bytes: &[u8], end: usize) -> Result<(u64, &[u8]), WireFault>
+    requires { length bytes.now ≤ end }
+    ensures reads { Returns (λ x. (x.0, x.1.now)) result (number_at end bytes.now) }
+    ensures shorter { IfOk result (λ x. length x.1.now < length bytes.now) }
+{
+    let mut rest = bytes;
+    let mut value: u64 = 0;
+    let mut scale: u64 = 1;
+    for _group in 0..VARINT_BYTES - 1 {
+        let Some((byte, after)) = first_of(rest) else {
+            return Err(WireFault::Truncated { at: end });
+        };
+        if byte < 128 {
+            return Ok((value + byte * scale, after));
+        }
+        value += (byte - 128) * scale;
+        scale *= 128;
+        rest = after;
+    }
+    let Some((byte, after)) = first_of(rest) else {
+        return Err(WireFault::Truncated { at: end });
+    };
+    if byte < 2 {
+        Ok((value + byte * scale, after))
+    } else {
+        Err(WireFault::BadVarint {
+            at: end - bytes.len(),
+        })
+    }
+}
+
+// The first byte, and what is left.
+fn first_of(bytes: &[u8]) -> Option<(u64, &[u8])>
+    ensures { MatchOption result (bytes.now ≡ []) (λ x. (bytes.now ≡ x.0 ∷ x.1.now) × (x.0 < 256)) }
+{
+    let (byte, rest) = bytes.split_first()?;
+    Some((*byte as u64, rest))
+}
+
+// A varint, and what is left. Most have one byte.
+#[tactic(auto, unfolding(crate::specs::Reading::number_at))]
+fn number_of(bytes: &[u8], end: usize) -> Result<(u64, &[u8]), WireFault>
+    requires { length bytes.now ≤ end }
+    ensures reads { Returns (λ x. (x.0, x.1.now)) result (number_at end bytes.now) }
     ensures shorter { IfOk result (λ x. length x.1.now < length bytes.now) }
 {
     let Some((byte, rest)) = bytes.split_first() else {
         return Err(WireFault::Truncated { at: end });
     };
-    let byte = *byte;
-    if more == 0 {
-        return if byte < 2 {
-            Ok((byte as u64, rest))
-        } else {
-            Err(WireFault::BadVarint { at: first })
-        };
+    if *byte < 128 {
+        return Ok((*byte as u64, rest));
     }
-    if byte < 128 {
-        return Ok((byte as u64, rest));
-    }
-    let (high, rest) = groups_of(rest, end, first, more - 1)?;
-    Ok(((byte - 128) as u64 + 128 * high, rest))
-}
-
-// A varint, and what is left.
-#[tactic(auto, unfolding(crate::specs::Reading::number_at))]
-fn number_of(bytes: &[u8], end: usize) -> Result<(u64, &[u8]), WireFault>
-    requires { length bytes.now ≤ end }
-    ensures reads { Reads (λ x. (x.0, x.1.now)) result (number_at end bytes.now) }
-    ensures shorter { IfOk result (λ x. length x.1.now < length bytes.now) }
-{
-    groups_of(bytes, end, end - bytes.len(), 9)
+    long_number_of(bytes, end)
 }
 
 // Eight bytes as a number, and what is left.
 #[tactic(auto, unfolding(crate::specs::Reading::fixed_at))]
 fn fixed64_of(bytes: &[u8], end: usize) -> Result<(u64, &[u8]), WireFault>
-    ensures reads { Reads (λ x. (x.0, x.1.now)) result (fixed_at w64 end bytes.now) }
+    ensures reads { Returns (λ x. (x.0, x.1.now)) result (fixed_at w64 end bytes.now) }
     ensures shorter { IfOk result (λ x. length x.1.now < length bytes.now) }
 {
     if bytes.len() < 8 {
@@ -66,7 +91,7 @@ fn fixed64_of(bytes: &[u8], end: usize) -> Result<(u64, &[u8]), WireFault>
 // Four bytes as a number, and what is left.
 #[tactic(auto, unfolding(crate::specs::Reading::fixed_at))]
 fn fixed32_of(bytes: &[u8], end: usize) -> Result<(u32, &[u8]), WireFault>
-    ensures reads { Reads (λ x. (x.0, x.1.now)) result (fixed_at w32 end bytes.now) }
+    ensures reads { Returns (λ x. (x.0, x.1.now)) result (fixed_at w32 end bytes.now) }
     ensures shorter { IfOk result (λ x. length x.1.now < length bytes.now) }
 {
     if bytes.len() < 4 {
@@ -81,7 +106,7 @@ fn fixed32_of(bytes: &[u8], end: usize) -> Result<(u32, &[u8]), WireFault>
 #[tactic(auto, unfolding(crate::specs::Reading::text_at))]
 fn text_of(bytes: &[u8], end: usize) -> Result<(&[u8], &[u8]), WireFault>
     requires { length bytes.now ≤ end }
-    ensures reads { Reads (λ x. (x.0.now, x.1.now)) result (text_at end bytes.now) }
+    ensures reads { Returns (λ x. (x.0.now, x.1.now)) result (text_at end bytes.now) }
     ensures shorter { IfOk result (λ x. length x.0.now + length x.1.now < length bytes.now) }
 {
     let (len, rest) = number_of(bytes, end)?;
@@ -93,27 +118,27 @@ fn text_of(bytes: &[u8], end: usize) -> Result<(&[u8], &[u8]), WireFault>
 
 // A value of this wire type, and what is left.
 #[tactic(auto, unfolding(crate::specs::Reading::value_at))]
-fn value_of(bytes: &[u8], end: usize, wire: Wire) -> Result<(Content<'_>, &[u8]), WireFault>
+fn value_of(bytes: &[u8], end: usize, wire: Wire) -> Result<(ValueSlice<'_>, &[u8]), WireFault>
     requires { length bytes.now ≤ end }
-    ensures reads { Reads (λ x. (content x.0, x.1.now)) result (value_at end wire bytes.now) }
-    ensures shorter { IfOk result (λ x. content_len x.0 + length x.1.now < length bytes.now) }
+    ensures reads { Returns (λ x. (value_slice x.0, x.1.now)) result (value_at end wire bytes.now) }
+    ensures shorter { IfOk result (λ x. value_slice_len x.0 + length x.1.now < length bytes.now) }
 {
     match wire {
         Wire::Number => {
             let (number, rest) = number_of(bytes, end)?;
-            Ok((Content::Number(number), rest))
+            Ok((ValueSlice::Number(number), rest))
         }
         Wire::Fixed64 => {
             let (number, rest) = fixed64_of(bytes, end)?;
-            Ok((Content::Fixed64(number), rest))
+            Ok((ValueSlice::Fixed64(number), rest))
         }
         Wire::Bytes => {
             let (text, rest) = text_of(bytes, end)?;
-            Ok((Content::Bytes(text), rest))
+            Ok((ValueSlice::Bytes(text), rest))
         }
         Wire::Fixed32 => {
             let (number, rest) = fixed32_of(bytes, end)?;
-            Ok((Content::Fixed32(number), rest))
+            Ok((ValueSlice::Fixed32(number), rest))
         }
     }
 }
@@ -121,19 +146,19 @@ fn value_of(bytes: &[u8], end: usize, wire: Wire) -> Result<(Content<'_>, &[u8])
 /// The field that these bytes, the last of a message that ends at `end`, begin with. Its faults have places
 /// in the message. Needs no memory.
 #[tactic(auto, unfolding(crate::specs::Reading::field_at))]
-pub fn field_of(bytes: &[u8], end: usize) -> Result<Piece<'_>, WireFault>
+pub fn field_of(bytes: &[u8], end: usize) -> Result<FieldSlice<'_>, WireFault>
     requires { length bytes.now ≤ end }
-    ensures reads { Reads piece result (field_at end bytes.now) }
-    ensures shorter { IfOk result (λ p. content_len p.value + length p.rest.now < length bytes.now) }
+    ensures reads { Returns field_slice result (field_at end bytes.now) }
+    ensures shorter { IfOk result (λ p. value_slice_len p.value + length p.rest.now < length bytes.now) }
 {
     let (tag, rest) = number_of(bytes, end)?;
-    let Some(wire) = wire_of(tag) else {
+    let Some(wire) = tag_wire(tag) else {
         return Err(WireFault::BadTag {
             at: end - bytes.len(),
         });
     };
     let (value, rest) = value_of(rest, end, wire)?;
-    Ok(Piece {
+    Ok(FieldSlice {
         number: (tag / 8) as u32,
         value,
         rest,
@@ -159,18 +184,18 @@ pub fn next_field(bytes: &[u8], at: usize, end: usize) -> Result<Field, WireFaul
 }
 
 // A value that ends at this place.
-fn placed(value: Content<'_>, to: usize) -> Value
-    requires { content_len value ≤ to }
-    ensures { result ≡ spec.placed to (content value.entry) }
+fn placed(value: ValueSlice<'_>, to: usize) -> Value
+    requires { value_slice_len value ≤ to }
+    ensures { result ≡ spec.placed to (value_slice value.entry) }
 {
     match value {
-        Content::Number(number) => Value::Varint(number),
-        Content::Fixed64(number) => Value::Fixed64(number),
-        Content::Bytes(text) => Value::Span {
+        ValueSlice::Number(number) => Value::Varint(number),
+        ValueSlice::Fixed64(number) => Value::Fixed64(number),
+        ValueSlice::Bytes(text) => Value::Span {
             from: to - text.len(),
             to,
         },
-        Content::Fixed32(number) => Value::Fixed32(number),
+        ValueSlice::Fixed32(number) => Value::Fixed32(number),
     }
 }
 
@@ -184,6 +209,13 @@ pub fn reads_again()
 /// shortest or not.
 #[tactic(auto, using(crate::proofs::ReadVarints::number_was, crate::proofs::ReadVarints::number_reads))]
 pub fn reads_varints()
-    ensures found { (end n : ℕ) (bytes rest : List ℕ) → IsBytes bytes → number_at end bytes ≡ Ok (n, rest) → ReadsNumber bytes n rest 10 }
-    ensures all { (end n : ℕ) (front rest : List ℕ) → IsVarint front n → length front ≤ 10 → n < 2 ^ 64 → number_at end (front ++ rest) ≡ Ok (n, rest) }
+    ensures found { (end n : ℕ) (bytes rest : List ℕ) → IsBytes bytes → number_at end bytes ≡ Ok (n, rest) → StartsWithNumber bytes n rest VARINT_BYTES }
+    ensures all { (end n : ℕ) (front rest : List ℕ) → IsVarint front n → length front ≤ VARINT_BYTES → n < 2 ^ 64 → number_at end (front ++ rest) ≡ Ok (n, rest) }
+{}
+
+/// What is read as a field is a varint of its number and wire type, in some length, then its value, in some length,
+/// and then what is left; and whatever is spelled so is read as that field.
+pub fn reads_fields()
+    ensures found { (end : ℕ) (bytes : List ℕ) (f : message.Field) (rest : List ℕ) → IsBytes bytes → field_at end bytes ≡ Ok (f, rest) → StartsWithField bytes f rest }
+    ensures all { (end : ℕ) (bytes : List ℕ) (f : message.Field) (rest : List ℕ) → FitsField f → StartsWithField bytes f rest → field_at end bytes ≡ Ok (f, rest) }
 {}

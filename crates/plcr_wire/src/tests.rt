@@ -5,11 +5,22 @@ use plcr_io::{MemOut, PutFailed, Sink};
 use std::alloc::Global;
 use std::test::Fail;
 
-// A sink that takes whole pieces, and keeps the lengths of the longest and of all of them.
+// A sink that takes whole pieces, and keeps their number and the lengths of the longest and of all of them.
 #[derive(Drop)]
 struct Lengths {
+    puts: u64,
     longest: usize,
     all: u64,
+}
+
+impl Lengths {
+    fn new() -> Lengths {
+        Lengths {
+            puts: 0,
+            longest: 0,
+            all: 0,
+        }
+    }
 }
 
 impl Sink for Lengths {
@@ -20,6 +31,7 @@ impl Sink for Lengths {
     ghost mark = { λ _. [] };
 
     fn put(&mut self, piece: &[u8]) -> Result<usize, PutFailed> {
+        self.puts = self.puts.saturating_add(1);
         self.longest = self.longest.max(piece.len());
         self.all = self.all.saturating_add(piece.len() as u64);
         Ok(piece.len())
@@ -38,8 +50,18 @@ fn varints_are_the_shortest(rt: HostRuntime) -> Result<(), Fail> {
         (1, b"\x01".as_slice()),
         (127, b"\x7f".as_slice()),
         (128, b"\x80\x01".as_slice()),
+        (16_383, b"\xff\x7f".as_slice()),
+        (16_384, b"\x80\x80\x01".as_slice()),
         (300, b"\xac\x02".as_slice()),
         (4_294_967_295, b"\xff\xff\xff\xff\x0f".as_slice()),
+        (
+            0x7fff_ffff_ffff_ffff,
+            b"\xff\xff\xff\xff\xff\xff\xff\xff\x7f".as_slice(),
+        ),
+        (
+            0x8000_0000_0000_0000,
+            b"\x80\x80\x80\x80\x80\x80\x80\x80\x80\x01".as_slice(),
+        ),
         (
             u64::MAX,
             b"\xff\xff\xff\xff\xff\xff\xff\xff\xff\x01".as_slice(),
@@ -48,8 +70,8 @@ fn varints_are_the_shortest(rt: HostRuntime) -> Result<(), Fail> {
     for (value, bytes) in rows {
         let mut out = sink(rt.alloc(), 100, Vec::new(rt.alloc()))?;
         let mut buffered = Buffered::new(&mut out);
-        put_varint(&mut buffered, value)?;
-        buffered.flush()?;
+        assert_eq!(rt; put_varint(&mut buffered, value), Ok(()));
+        buffered.finish()?;
         assert_eq!(rt; out.bytes(), bytes);
         assert_eq!(rt; varint_len(value), bytes.len() as u64);
     }
@@ -60,10 +82,10 @@ fn varints_are_the_shortest(rt: HostRuntime) -> Result<(), Fail> {
 fn tags_have_a_number_and_a_wire_type(rt: HostRuntime) -> Result<(), Fail> {
     let mut out = sink(rt.alloc(), 100, Vec::new(rt.alloc()))?;
     let mut buffered = Buffered::new(&mut out);
-    put_tag(&mut buffered, 1, 0)?;
-    put_tag(&mut buffered, 6, 2)?;
-    put_tag(&mut buffered, 16, 5)?;
-    put_tag(&mut buffered, 536_870_911, 7)?;
+    assert_eq!(rt; put_tag(&mut buffered, 1, 0), Ok(()));
+    assert_eq!(rt; put_tag(&mut buffered, 6, 2), Ok(()));
+    assert_eq!(rt; put_tag(&mut buffered, 16, 5), Ok(()));
+    assert_eq!(rt; put_tag(&mut buffered, 536_870_911, 7), Ok(()));
     buffered.finish()?;
     assert_eq!(rt;
         out.bytes(),
@@ -103,13 +125,28 @@ fn a_message_comes_out_the_same_in_any_pieces(rt: HostRuntime) -> Result<(), Fai
 }
 
 #[test]
-fn pieces_have_at_most_256_bytes(rt: HostRuntime) -> Result<(), Fail> {
-    let mut lengths = Lengths { longest: 0, all: 0 };
+fn pieces_have_256_bytes(rt: HostRuntime) -> Result<(), Fail> {
+    let mut lengths = Lengths::new();
     let mut buffered = Buffered::new(&mut lengths);
     put_fields(&mut buffered, &[b'x'; 600]);
     buffered.finish()?;
+    assert_eq!(rt; lengths.puts, 3);
     assert_eq!(rt; lengths.longest, 256);
     assert_eq!(rt; lengths.all, 610);
+    Ok(())
+}
+
+#[test]
+fn pieces_of_a_text_have_4096_bytes(rt: HostRuntime) -> Result<(), Fail> {
+    let mut lengths = Lengths::new();
+    let mut buffered = BufferedText::new(&mut lengths);
+    for _ in 0..5000 {
+        buffered.raw(b"x");
+    }
+    buffered.finish()?;
+    assert_eq!(rt; lengths.puts, 2);
+    assert_eq!(rt; lengths.longest, 4096);
+    assert_eq!(rt; lengths.all, 5000);
     Ok(())
 }
 
@@ -130,11 +167,24 @@ fn a_failure_is_remembered(rt: HostRuntime) -> Result<(), Fail> {
 fn a_flush_that_failed_is_made_good_by_the_next(rt: HostRuntime) -> Result<(), Fail> {
     let mut out = sink(rt.alloc(), 1, vec![in rt.alloc(); 2]?)?;
     let mut buffered = Buffered::new(&mut out);
-    put_varint(&mut buffered, 300)?;
+    assert_eq!(rt; put_varint(&mut buffered, 300), Ok(()));
     assert_eq!(rt; buffered.flush(), Err(PutFailed));
-    buffered.byte(9)?;
-    buffered.flush()?;
+    assert_eq!(rt; buffered.byte(9), Ok(()));
+    assert_eq!(rt; buffered.flush(), Ok(()));
+    buffered.finish()?;
     assert_eq!(rt; out.bytes(), b"\xac\x02\x09".as_slice());
+    Ok(())
+}
+
+#[test]
+fn what_lost_bytes_puts_nothing_more(rt: HostRuntime) -> Result<(), Fail> {
+    let mut out = sink(rt.alloc(), 256, vec![in rt.alloc(); 1]?)?;
+    let mut buffered = Buffered::new(&mut out);
+    buffered.raw(&[b'x'; 600]);
+    put_fields(&mut buffered, &[b'x'; 600]);
+    assert_eq!(rt; buffered.flush(), Err(PutFailed));
+    assert_eq!(rt; buffered.finish(), Err(PutFailed));
+    assert_eq!(rt; out.bytes().len(), 0);
     Ok(())
 }
 

@@ -1,19 +1,37 @@
 //! Base 128 varints.
-ghost use Rattle.std.specs.Prelude.{◌≡◌, ◌≤◌, ℕ, List, length};
+ghost use Rattle.std.specs.Prelude.{◌≡◌, ◌+◌, ◌*◌, ◌^◌, ◌<◌, ◌≤◌, ℕ, List, ◌++◌, length};
+ghost use Rattle.arrayvec.specs.ArrayVec.{array_vec_len};
 ghost use Rattle.plcr_wire.specs.Varint.{varint, IsVarint};
+ghost use Rattle.plcr_wire.specs.declared.varint.TheConstants.{VARINT_BYTES};
+
+use arrayvec::ArrayVec;
+
+/// The shortest varint of a number of 64 bits has at most so many bytes, and none that is read has more.
+pub const VARINT_BYTES: usize = 10;
 
 /// How many bytes the shortest varint of the value has: 1 to 10.
-#[tactic(auto, using(crate::proofs::Varints::varint_small, crate::proofs::Varints::varint_large, crate::proofs::Varints::varint_short))]
+#[tactic(auto, using(crate::proofs::Logarithm::varint_log, crate::proofs::Varints::varint_small))]
 pub fn varint_len(value: u64) -> u64
     ensures { result ≡ length (varint value) }
 {
-    let mut rest = value;
-    let mut len = 1;
-    while rest >= 128 {
-        rest /= 128;
-        len += 1;
+    if value < 128 {
+        return 1;
     }
-    len
+    value.ilog2() as u64 / 7 + 1
+}
+
+/// Appends the shortest varint of a number.
+#[tactic(auto, using(crate::proofs::Varints::varint_short))]
+pub(crate) fn push_varint<const ROOM: usize>(held: &mut ArrayVec<u8, ROOM>, value: u64)
+    requires { array_vec_len held.old + VARINT_BYTES ≤ ROOM }
+    ensures { held.new.items ≡ held.old.items ++ varint value }
+{
+    let mut rest = value;
+    while rest >= 128 {
+        held.push((rest % 128) as u8 + 128);
+        rest /= 128;
+    }
+    held.push(rest as u8);
 }
 
 /// The spelling of a number is a varint of it, no other is shorter, and none that is as short is another.

@@ -1,10 +1,11 @@
 //! Tags: the number of a field and its wire type in one number.
 ghost use Rattle.std.specs.Prelude.{◌≡◌, ◌+◌, ◌*◌, ◌<◌};
 ghost use Rattle.plcr_wire.specs.Reading as spec;
+ghost use Rattle.plcr_wire.specs.Wires.{wire_number};
 
 /// A wire type in use.
 #[derive(Clone, Copy)]
-pub(crate) enum Wire {
+pub enum Wire {
     /// A varint.
     Number,
     /// Eight bytes.
@@ -13,6 +14,21 @@ pub(crate) enum Wire {
     Bytes,
     /// Four bytes.
     Fixed32,
+}
+
+impl Wire {
+    // Its number in a tag.
+    pub(crate) fn number(self) -> u8
+        ensures number { result ≡ wire_number self }
+        ensures within { result < 8 }
+    {
+        match self {
+            Wire::Number => 0,
+            Wire::Fixed64 => 1,
+            Wire::Bytes => 2,
+            Wire::Fixed32 => 5,
+        }
+    }
 }
 
 // The number that is written as the tag of a field.
@@ -24,8 +40,8 @@ pub(crate) fn tag_number(field: u32, wire: u8) -> u64
 }
 
 // The wire type that a tag names, where it is the tag of a field that may be.
-pub(crate) fn wire_of(tag: u64) -> Option<Wire>
-    ensures { result ≡ spec.wire_of tag }
+pub(crate) fn tag_wire(tag: u64) -> Option<Wire>
+    ensures { result ≡ spec.tag_wire tag }
 {
     if tag < 8 || tag > u32::MAX as u64 {
         return None;

@@ -2,18 +2,18 @@
 
 /// A field whose bytes are where they were read.
 #[derive(Clone, Copy)]
-pub struct Piece<'a> {
+pub struct FieldSlice<'a> {
     /// Its number, 1 to 2^29 - 1.
     pub number: u32,
     /// Its value.
-    pub value: Content<'a>,
+    pub value: ValueSlice<'a>,
     /// What is left of the message.
     pub rest: &'a [u8],
 }
 
 /// The value of a field, by its wire type.
 #[derive(Clone, Copy)]
-pub enum Content<'a> {
+pub enum ValueSlice<'a> {
     /// A varint.
     Number(u64),
     /// Eight bytes.

@@ -1,6 +1,6 @@
 use Rattle.std.proofs.Common.{◌≡◌, ◌≤◌, length}
 use Rattle.plcr_base.specs.Told.{AppendsUpTo}
-use Rattle.plcr_wire.proofs.buffered.put_held.Given as goal
+use Rattle.plcr_wire.proofs.held.put_held.Given as goal
 
 -- a front was put, and the rest is held
 abbrev pub invariant-loop-sink : goal.invariant-loop-sink
