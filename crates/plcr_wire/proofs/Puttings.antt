@@ -1,7 +1,6 @@
 -- How putting bytes one after the other goes on, ends and is cut short.
 use Rattle.std.proofs.Common.{◌≡◌, ℕ, ◌<◌, ◌≤◌, List, [], ◌∷◌, ◌++◌, length, refl, sym, ap, subst, ◌∙◌, append_assoc, append-nil, arith}
-use Rattle.std.proofs.Common.{◌+◌, ◌/◌, ◌%◌, drop, get_or, add-one, drop-cons, length-drop}
-use Rattle.std.proofs.lemmas.List.{drop_all}
+use Rattle.std.proofs.Common.{◌+◌, ◌/◌, ◌%◌}
 use Rattle.plcr_wire.specs.Varint.{varint}
 use Rattle.plcr_wire.proofs.Varints.{varint_small, varint_large, varint_some}
 use Rattle.plcr_wire.specs.Pen.{Pen, Shows, Puts, PutsProperFront}
@@ -78,15 +77,3 @@ varint_last old mid new bytes rest before more small = puts_end old mid new byte
 -- a group that was not put
 pub varint_cut : (old mid new : Pen) (bytes : List ℕ) (rest : ℕ) → PutsUpTo old mid bytes (varint rest) → Puts mid new [] → PutsProperFront old new bytes
 varint_cut old mid new bytes rest before none = puts_err old mid new bytes (varint rest) before (varint_some rest) none
-
--- one more byte of a list
-pub bytes_more : (old mid new : Pen) (bytes : List ℕ) (i : ℕ) → PutsUpTo old mid bytes (drop i bytes) → i < length bytes → Puts mid new (get_or bytes i 0 ∷ []) → PutsUpTo old new bytes (drop (i + 1) bytes)
-bytes_more old mid new bytes i before within more = puts_more old mid new bytes (drop i bytes) (get_or bytes i 0 ∷ []) (drop (i + 1) bytes) before more (rw (add-one, drop-cons bytes i 0) refl)
-
--- none is left
-pub bytes_end : (old new : Pen) (bytes : List ℕ) (i : ℕ) → PutsUpTo old new bytes (drop i bytes) → length bytes ≤ i → Puts old new bytes
-bytes_end old new bytes i before past = puts_end old new new bytes (drop i bytes) before (subst (Puts new new) (sym (drop_all i bytes past)) (puts_none new))
-
--- a byte that was not put
-pub bytes_cut : (old mid new : Pen) (bytes : List ℕ) (i : ℕ) → PutsUpTo old mid bytes (drop i bytes) → i < length bytes → Puts mid new [] → PutsProperFront old new bytes
-bytes_cut old mid new bytes i before within none = puts_err old mid new bytes (drop i bytes) before (let e = length-drop i bytes in omega arith) none

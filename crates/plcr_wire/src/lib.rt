@@ -19,7 +19,7 @@ pub use buffered::{Buffered, BufferedText, PIECE, Pieces, TEXT_PIECE};
 pub use counter::Counter;
 pub use fields::{Field, Value, WireFault};
 pub use ink::Ink;
-pub use put::{Put, put_tag, put_varint};
+pub use put::{Put, put_tag, put_varint, tag_len};
 pub use reading::{field_of, next_field, reads_again, reads_fields, reads_varints};
 pub use slices::{FieldSlice, ValueSlice};
 pub use varint::{VARINT_BYTES, shortest_varint, varint_len};

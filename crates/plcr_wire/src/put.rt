@@ -1,10 +1,13 @@
 //! Writers of single bytes, and the numbers that are spelled by them.
-ghost use Rattle.std.specs.Prelude.{◌≡◌, ◌+◌, ◌*◌, ◌^◌, ◌<◌, ◌≤◌, [], ◌∷◌, OnOk, OnErr};
+ghost use Rattle.std.specs.Prelude.{◌≡◌, ◌+◌, ◌*◌, ◌^◌, ◌<◌, ◌≤◌, [], ◌∷◌, length, OnOk, OnErr};
 ghost use Rattle.plcr_base.specs.Causes.{Rose};
 ghost use Rattle.plcr_wire.specs.Pen.{Pen, IsShown, Puts, PutsProperFront};
 ghost use Rattle.plcr_wire.specs.Varint.{varint, tag};
+ghost use Rattle.plcr_wire.specs.Wires.{wire_number};
+ghost use Rattle.plcr_wire.specs.declared.varint.TheConstants.{VARINT_BYTES};
 
-use crate::wires::tag_number;
+use crate::varint::varint_len;
+use crate::wires::{Wire, tag_number};
 use plcr_io::PutFailed;
 
 /// A writer of bytes.
@@ -37,19 +40,6 @@ pub fn put_varint<P: Put>(p: &mut P, value: u64) -> Result<(), PutFailed>
     Ok(())
 }
 
-// Writes these bytes as they are. At `Err` a front of them was written, and not all.
-#[tactic(auto, using(crate::proofs::Puttings::puts_start, crate::proofs::Puttings::bytes_more, crate::proofs::Puttings::bytes_end, crate::proofs::Puttings::bytes_cut))]
-pub(crate) fn put_bytes<P: Put>(p: &mut P, bytes: &[u8]) -> Result<(), PutFailed>
-    ensures ok { OnOk result (Puts (P.pen p.old) (P.pen p.new) bytes.now) }
-    ensures err { OnErr result (PutsProperFront (P.pen p.old) (P.pen p.new) bytes.now) }
-    ensures cause { OnErr result (Rose (P.pen p.old).faults (P.pen p.new).faults) }
-{
-    for b in bytes {
-        p.byte(*b)?;
-    }
-    Ok(())
-}
-
 /// Writes the tag of a field with this number and wire type. At `Err` a front of it was written, and not all.
 #[tactic(auto, unfolding(crate::specs::Varint::tag))]
 pub fn put_tag<P: Put>(p: &mut P, field: u32, wire: u8) -> Result<(), PutFailed>
@@ -61,4 +51,13 @@ pub fn put_tag<P: Put>(p: &mut P, field: u32, wire: u8) -> Result<(), PutFailed>
     ensures cause { OnErr result (Rose (P.pen p.old).faults (P.pen p.new).faults) }
 {
     put_varint(p, tag_number(field, wire))
+}
+
+/// How many bytes the tag of a field with this number and wire type has.
+#[tactic(auto, unfolding(crate::specs::Varint::tag))]
+pub fn tag_len(field: u32, wire: Wire) -> u64
+    ensures size { result ≡ length (tag field (wire_number wire)) }
+    ensures short { result ≤ VARINT_BYTES }
+{
+    varint_len(tag_number(field, wire.number()))
 }

@@ -12,7 +12,8 @@ pub const VARINT_BYTES: usize = 10;
 /// How many bytes the shortest varint of the value has: 1 to 10.
 #[tactic(auto, using(crate::proofs::Logarithm::varint_log, crate::proofs::Varints::varint_small))]
 pub fn varint_len(value: u64) -> u64
-    ensures { result ≡ length (varint value) }
+    ensures size { result ≡ length (varint value) }
+    ensures short { result ≤ VARINT_BYTES }
 {
     if value < 128 {
         return 1;
