@@ -3,3 +3,4 @@ pub mod Parsed
 pub mod Roots
 pub mod Rows
 pub mod Words
+pub mod ShortNames

@@ -10,35 +10,26 @@ use Rattle.plcr_encode.specs.inner.Rows.{message_fields}
 use native.Mathlib.Numerals.{unary_clauses}
 use Rattle.plcr_wire.proofs.Writing.{wrote_none, wrote_twice}
 
--- a front of these bytes was written, of at most so many, and the rest of them is left
-pub record WroteUpTo (old new : Pen) (bytes rest : List ℕ) (most : ℕ) : Type 0 where
+-- a front of these bytes was written, and the rest of them is left
+pub record WroteUpTo (old new : Pen) (bytes rest : List ℕ) : Type 0 where
   pub front : List ℕ
   pub parts : bytes ≡ front ++ rest
   pub wrote : Wrote old new front
-  pub short : length front ≤ most
 
-pub up_to_start : (pen : Pen) (bytes : List ℕ) → WroteUpTo pen pen bytes bytes 0
-up_to_start pen bytes = record { front = []; parts = refl; wrote = wrote_none pen; short = omega arith }
-
--- what is left may be said in other words
-pub up_to_same : (old new : Pen) (bytes rest rest' : List ℕ) (most : ℕ) → rest ≡ rest' → WroteUpTo old new bytes rest most → WroteUpTo old new bytes rest' most
-up_to_same old new bytes rest rest' most e before = subst (λ l. WroteUpTo old new bytes l most) e before
+pub up_to_start : (pen : Pen) (bytes : List ℕ) → WroteUpTo pen pen bytes bytes
+up_to_start pen bytes = record { front = []; parts = refl; wrote = wrote_none pen }
 
 -- one more row of what is left
-pub up_to_more : (old mid new : Pen) (bytes row rest : List ℕ) (most more : ℕ) → WroteUpTo old mid bytes (row ++ rest) most → Wrote mid new row → length row ≤ more → WroteUpTo old new bytes rest (most + more)
-up_to_more old mid new bytes row rest most more before wrote short = record {
+pub up_to_more : (old mid new : Pen) (bytes left row rest : List ℕ) → left ≡ row ++ rest → WroteUpTo old mid bytes left → Wrote mid new row → WroteUpTo old new bytes rest
+up_to_more old mid new bytes left row rest e before wrote = record {
   front = before.front ++ row;
-  parts = before.parts ∙ sym (append_assoc before.front row rest);
+  parts = before.parts ∙ ap (λ l. before.front ++ l) e ∙ sym (append_assoc before.front row rest);
   wrote = wrote_twice old mid new before.front row before.wrote wrote;
-  short = let few = before.short in rw length-append (omega arith);
 }
 
 -- no row is left
-pub up_to_end : (old new : Pen) (bytes : List ℕ) (most : ℕ) → WroteUpTo old new bytes [] most → Wrote old new bytes
-up_to_end old new bytes most all = subst (Wrote old new) (sym (all.parts ∙ append-nil all.front)) all.wrote
-
-pub up_to_short : (old new : Pen) (bytes : List ℕ) (most : ℕ) → WroteUpTo old new bytes [] most → length bytes ≤ most
-up_to_short old new bytes most all = let e : bytes ≡ all.front = all.parts ∙ append-nil all.front in let few : length all.front ≤ most = all.short in rw e few
+pub up_to_end : (old new : Pen) (bytes : List ℕ) → WroteUpTo old new bytes [] → Wrote old new bytes
+up_to_end old new bytes all = subst (Wrote old new) (sym (all.parts ∙ append-nil all.front)) all.wrote
 
 pub spelling-append : (xs ys : List Field) → spelling (xs ++ ys) ≡ spelling xs ++ spelling ys
 spelling-append [] ys = refl
@@ -68,12 +59,9 @@ module _ {A : Type 0} (field : ℕ) (message : A → List Field) where
   abbrev pub rows_of : List A → List ℕ
   rows_of xs = spelling (message_fields field message xs)
 
-  -- one more row of values at a range of numbers
-  pub ranged_more : (old mid new : Pen) (bytes : List ℕ) (at : ℕ → A) (i n most more : ℕ) → i < n → WroteUpTo old mid bytes (rows_of (map at (range_with_len i (n - i)))) most → Wrote mid new (field_spelling (message_field field (message (at i)))) → length (field_spelling (message_field field (message (at i)))) ≤ more → WroteUpTo old new bytes (rows_of (map at (range_with_len (i + 1) (n - (i + 1))))) (most + more)
-  ranged_more old mid new bytes at i n most more h before wrote short =
-      let Left : List ℕ → Type 0 = λ ks. WroteUpTo old mid bytes (rows_of (map at ks)) most in
-      let left : Left (i ∷ range_with_len (i + 1) (n - (i + 1))) = subst Left (range_step i n h) before in
-      up_to_more old mid new bytes (field_spelling (message_field field (message (at i)))) (rows_of (map at (range_with_len (i + 1) (n - (i + 1))))) most more left wrote short
+  -- the first of the rows that are left of values at a range of numbers
+  pub ranged_left : (at : ℕ → A) (i n : ℕ) → i < n → rows_of (map at (range_with_len i (n - i))) ≡ field_spelling (message_field field (message (at i))) ++ rows_of (map at (range_with_len (i + 1) (n - (i + 1))))
+  ranged_left at i n h = ap (λ ks. rows_of (map at ks)) (range_step i n h)
 
   -- the first of the rows that are left of a list's numbered items
   pub numbered_left : {B : Type 0} (at : ℕ × B → A) (xs : List B) (i : ℕ) (d : B) → i < length xs → rows_of (map at (enumerate_from i (drop i xs))) ≡ field_spelling (message_field field (message (at (i, get_or xs i d)))) ++ rows_of (map at (enumerate_from (i + 1) (drop (i + 1) xs)))
@@ -82,18 +70,6 @@ module _ {A : Type 0} (field : ℕ) (message : A → List Field) where
   -- the first of the rows that are left of a list's items
   pub items_left : {B : Type 0} (at : B → A) (xs : List B) (i : ℕ) (d : B) → i < length xs → rows_of (map at (drop i xs)) ≡ field_spelling (message_field field (message (at (get_or xs i d)))) ++ rows_of (map at (drop (i + 1) xs))
   items_left at xs i d h = let e : drop i xs ≡ get_or xs i d ∷ drop (i + 1) xs = rw (add-one, drop-cons xs i d) refl in ap (λ ys. rows_of (map at ys)) e
-
-  -- one more row of a list's items, each of at most so many bytes
-  pub items_more : {B : Type 0} (old mid new : Pen) (bytes : List ℕ) (at : B → A) (xs : List B) (i most : ℕ) (d : B) → i < length xs → WroteUpTo old mid bytes (rows_of (map at (drop i xs))) (most * i) → Wrote mid new (field_spelling (message_field field (message (at (get_or xs i d))))) → length (field_spelling (message_field field (message (at (get_or xs i d))))) ≤ most → WroteUpTo old new bytes (rows_of (map at (drop (i + 1) xs))) (most * (i + 1))
-  items_more old mid new bytes at xs i most d h before wrote short =
-      let row : List ℕ = field_spelling (message_field field (message (at (get_or xs i d)))) in
-      let rest : List ℕ = rows_of (map at (drop (i + 1) xs)) in
-      let e : most * i + most ≡ most * (i + 1) = rw (add-one, mul-suc) refl in
-      subst (WroteUpTo old new bytes rest) e (up_to_more old mid new bytes row rest (most * i) most (up_to_same old mid bytes (rows_of (map at (drop i xs))) (row ++ rest) (most * i) (items_left at xs i d h) before) wrote short)
-
--- four pieces are no longer than all of their bounds together
-pub four_short : (a b c d : List ℕ) (p q r s most : ℕ) → length a ≤ p → length b ≤ q → length c ≤ r → length d ≤ s → p + (q + (r + s)) ≤ most → length (a ++ (b ++ (c ++ d))) ≤ most
-four_short a b c d p q r s most ha hb hc hd h = rw (length-append a (b ++ (c ++ d)), length-append b (c ++ d), length-append c d) (omega arith)
 
 -- one more row is counted
 pub sized_more : (done n : ℕ) (all left row rest : List ℕ) → done + length left ≡ length all → left ≡ row ++ rest → n ≡ length row → done + n + length rest ≡ length all

@@ -8,7 +8,7 @@ ghost use Rattle.plcr_encode.specs.declared.frames.TheConstants.{MOST_FRAMES};
 ghost use Rattle.plcr_encode.specs.inner.Rows.{message_fields};
 ghost use Rattle.plcr_encode.specs.Values.{value_at, pcs_of, frame_at};
 
-use crate::fields::{Message, put_message, put_number};
+use crate::fields::{Message, message_len, number_len, put_message, put_number};
 use arrayvec::ArrayVec;
 use plcr_regs::{Registers, pc_place};
 use plcr_report::{Frame, Thread};
@@ -33,6 +33,11 @@ impl Message for FramePart {
     ghost fits = { λ part. Unit {0} };
 
     ghost most = { 20 };
+
+    #[tactic(auto, unfolding(plcr_report::specs::Messages::frame_message))]
+    fn len(&self) -> u64 {
+        number_len(Frame::PC, self.pc)
+    }
 
     #[tactic(auto, using(plcr_wire::proofs::Writing::wrote_twice, plcr_wire::proofs::Writing::wrote_none), unfolding(plcr_report::specs::Messages::frame_message))]
     fn put<W: Ink>(&self, ink: &mut W) {
@@ -60,11 +65,23 @@ pub(crate) fn find_frames(state: &Registers) -> ArrayVec<u64, MOST_FRAMES>
     pcs
 }
 
+/// The length of the frames with these program counters.
+pub(crate) fn frames_len(pcs: &[u64]) -> u64
+    requires { length pcs.now ≤ MOST_FRAMES }
+    ensures size { result ≡ length (spelling (message_fields 2 frame_message (map frame_at pcs.now))) }
+    ensures short { result ≤ 40 * MOST_FRAMES }
+{
+    let mut length = 0;
+    for pc in pcs {
+        length += message_len(Thread::FRAMES, &FramePart { pc: *pc });
+    }
+    length
+}
+
 /// Writes the frames with these program counters.
 pub(crate) fn put_frames<W: Ink>(ink: &mut W, pcs: &[u64])
     requires { length pcs.now ≤ MOST_FRAMES }
-    ensures wrote { Wrote (W.pen ink.old) (W.pen ink.new) (spelling (message_fields 2 frame_message (map frame_at pcs.now))) }
-    ensures short { length (spelling (message_fields 2 frame_message (map frame_at pcs.now))) ≤ 40 * MOST_FRAMES }
+    ensures { Wrote (W.pen ink.old) (W.pen ink.new) (spelling (message_fields 2 frame_message (map frame_at pcs.now))) }
 {
     for pc in pcs {
         put_message(ink, Thread::FRAMES, &FramePart { pc: *pc });

@@ -8,13 +8,18 @@ ghost use Rattle.plcr_encode.specs.Conditions.{IsNamable, AreNamable};
 ghost use Rattle.plcr_encode.specs.Images.{image_of, images_of};
 ghost use Rattle.plcr_encode.specs.inner.Rows.{message_fields};
 
-use crate::fields::{Message, put_message, put_number, put_text};
+use crate::fields::{
+    Message, message_len, number_len, put_message, put_number, put_text, text_len,
+};
 use crate::names::name_of;
 use plcr_macho::{ImageFault, Images, parse};
 use plcr_memory::Memory;
 use plcr_regs::Arch;
 use plcr_report::{Image, Processor, Report};
 use plcr_wire::Ink;
+
+/// In this encoding a processor is told by the numbers of a Mach-O header.
+const MACH_ENCODING: u64 = 1;
 
 /// The type of processor that an image is for, as its header tells it.
 #[derive(Drop)]
@@ -34,9 +39,16 @@ impl Message for ProcessorPart {
 
     ghost most = { 60 };
 
+    #[tactic(auto, unfolding(plcr_report::specs::Messages::processor_message))]
+    fn len(&self) -> u64 {
+        number_len(Processor::ENCODING, MACH_ENCODING)
+            + number_len(Processor::CPU, self.cpu as u64)
+            + number_len(Processor::SUBTYPE, self.subtype as u64)
+    }
+
     #[tactic(auto, using(plcr_wire::proofs::Writing::wrote_twice, plcr_wire::proofs::Writing::wrote_none), unfolding(plcr_report::specs::Messages::processor_message))]
     fn put<W: Ink>(&self, ink: &mut W) {
-        put_number(ink, Processor::ENCODING, 1);
+        put_number(ink, Processor::ENCODING, MACH_ENCODING);
         put_number(ink, Processor::CPU, self.cpu as u64);
         put_number(ink, Processor::SUBTYPE, self.subtype as u64);
     }
@@ -64,6 +76,27 @@ impl Message for ImagePart<'_> {
     ghost fits = { λ part. IsImageName part.name.now };
 
     ghost most = { 2 ^ 11 };
+
+    #[tactic(auto, unfolding(plcr_report::specs::Messages::image_message))]
+    fn len(&self) -> u64 {
+        let base = number_len(Image::BASE_ADDRESS, self.header);
+        let name = text_len(Image::NAME, self.name);
+        match self.found {
+            Ok(image) => {
+                let uuid = match &image.uuid {
+                    Some(uuid) => text_len(Image::UUID, uuid),
+                    None => 0,
+                };
+                let processor = ProcessorPart {
+                    cpu: image.cpu,
+                    subtype: image.subtype,
+                };
+                let code = message_len(Image::CODE_TYPE, &processor);
+                base + number_len(Image::SIZE, image.text_size) + name + uuid + code
+            }
+            Err(_) => base + number_len(Image::SIZE, 0) + name,
+        }
+    }
 
     #[tactic(auto, using(plcr_wire::proofs::Writing::wrote_twice, plcr_wire::proofs::Writing::wrote_none), unfolding(plcr_report::specs::Messages::image_message))]
     fn put<W: Ink>(&self, ink: &mut W) {

@@ -3,7 +3,7 @@ ghost use Rattle.std.specs.Prelude.{◌≡◌};
 ghost use Rattle.plcr_encode.specs.Values.{architecture_number};
 
 use crate::context::Context;
-use crate::fields::{Message, put_flag, put_number, put_text};
+use crate::fields::{Message, flag_len, number_len, put_flag, put_number, put_text, text_len};
 use plcr_regs::Arch;
 use plcr_report::{Application, Info, Process, Signal, System};
 use plcr_wire::Ink;
@@ -37,6 +37,15 @@ impl Message for SystemPart<'_> {
 
     ghost most = { 2 ^ 34 };
 
+    #[tactic(auto, unfolding(plcr_report::specs::Messages::system_message))]
+    fn len(&self) -> u64 {
+        let context = self.context;
+        number_len(System::OPERATING_SYSTEM, context.os as u64)
+            + text_len(System::OS_VERSION, context.os_version)
+            + number_len(System::ARCHITECTURE, architecture(context.arch))
+            + number_len(System::TIMESTAMP, context.timestamp)
+    }
+
     #[tactic(auto, using(plcr_wire::proofs::Writing::wrote_twice, plcr_wire::proofs::Writing::wrote_none), unfolding(plcr_report::specs::Messages::system_message))]
     fn put<W: Ink>(&self, ink: &mut W) {
         let context = self.context;
@@ -68,6 +77,13 @@ impl Message for ApplicationPart<'_> {
 
     ghost most = { 2 ^ 34 };
 
+    #[tactic(auto, unfolding(plcr_report::specs::Messages::application_message))]
+    fn len(&self) -> u64 {
+        let context = self.context;
+        text_len(Application::IDENTIFIER, context.identifier)
+            + text_len(Application::VERSION, context.version)
+    }
+
     #[tactic(auto, using(plcr_wire::proofs::Writing::wrote_twice, plcr_wire::proofs::Writing::wrote_none), unfolding(plcr_report::specs::Messages::application_message))]
     fn put<W: Ink>(&self, ink: &mut W) {
         let context = self.context;
@@ -96,6 +112,14 @@ impl Message for SignalPart<'_> {
     ghost fits = { λ part. IsWritable part.context.now };
 
     ghost most = { 2 ^ 34 };
+
+    #[tactic(auto, unfolding(plcr_report::specs::Messages::signal_message))]
+    fn len(&self) -> u64 {
+        let context = self.context;
+        text_len(Signal::NAME, context.signal)
+            + text_len(Signal::CODE, context.code)
+            + number_len(Signal::ADDRESS, context.address)
+    }
 
     #[tactic(auto, using(plcr_wire::proofs::Writing::wrote_twice, plcr_wire::proofs::Writing::wrote_none), unfolding(plcr_report::specs::Messages::signal_message))]
     fn put<W: Ink>(&self, ink: &mut W) {
@@ -127,6 +151,15 @@ impl Message for ProcessPart<'_> {
 
     ghost most = { 2 ^ 34 };
 
+    #[tactic(auto, unfolding(plcr_report::specs::Messages::process_message))]
+    fn len(&self) -> u64 {
+        let context = self.context;
+        text_len(Process::NAME, context.process)
+            + number_len(Process::ID, context.pid as u64)
+            + number_len(Process::PARENT_ID, context.ppid as u64)
+            + flag_len(Process::NATIVE, true)
+    }
+
     #[tactic(auto, using(plcr_wire::proofs::Writing::wrote_twice, plcr_wire::proofs::Writing::wrote_none), unfolding(plcr_report::specs::Messages::process_message))]
     fn put<W: Ink>(&self, ink: &mut W) {
         let context = self.context;
@@ -157,6 +190,11 @@ impl Message for InfoPart<'_> {
     ghost fits = { λ part. IsWritable part.context.now };
 
     ghost most = { 2 ^ 34 };
+
+    #[tactic(auto, unfolding(plcr_report::specs::Messages::info_message))]
+    fn len(&self) -> u64 {
+        flag_len(Info::USER_REQUESTED, self.context.user)
+    }
 
     #[tactic(auto, using(plcr_wire::proofs::Writing::wrote_twice, plcr_wire::proofs::Writing::wrote_none), unfolding(plcr_report::specs::Messages::info_message))]
     fn put<W: Ink>(&self, ink: &mut W) {

@@ -5,10 +5,14 @@ ghost use Rattle.plcr_wire.specs.Pen.{Wrote};
 ghost use Rattle.plcr_wire.specs.Message.{spelling};
 ghost use Rattle.plcr_report.specs.Messages.{register_message, thread_message};
 ghost use Rattle.plcr_encode.specs.inner.Rows.{message_fields};
-ghost use Rattle.plcr_encode.specs.Values.{registers_of, threads_of};
+ghost use Rattle.plcr_regs.specs.Names.{register_count};
+ghost use Rattle.plcr_encode.specs.Values.{register_at, registers_of, threads_of};
 
-use crate::fields::{Message, put_flag, put_message, put_number, put_text};
-use crate::frames::{find_frames, put_frames, value};
+use crate::fields::{
+    Message, flag_len, message_len, number_len, put_flag, put_message, put_number, put_text,
+    text_len,
+};
+use crate::frames::{find_frames, frames_len, put_frames, value};
 use plcr_regs::{Registers, count, name};
 use plcr_report::{Register, Report, Thread};
 use plcr_wire::Ink;
@@ -31,6 +35,11 @@ impl Message for RegisterPart {
 
     ghost most = { 46 };
 
+    #[tactic(auto, unfolding(plcr_report::specs::Messages::register_message))]
+    fn len(&self) -> u64 {
+        text_len(Register::NAME, self.name.as_bytes()) + number_len(Register::VALUE, self.value)
+    }
+
     #[tactic(auto, using(plcr_wire::proofs::Writing::wrote_twice, plcr_wire::proofs::Writing::wrote_none), unfolding(plcr_report::specs::Messages::register_message))]
     fn put<W: Ink>(&self, ink: &mut W) {
         put_text(ink, Register::NAME, self.name.as_bytes());
@@ -40,17 +49,37 @@ impl Message for RegisterPart {
     ghost moderate = { lit< tt };
 }
 
+/// Register `i` of a state.
+fn register(state: &Registers, i: usize) -> RegisterPart
+    requires { i < register_count state.now.arch }
+    ensures name { result.name.now ≡ (register_at state.now i).name }
+    ensures value { result.value ≡ (register_at state.now i).value }
+    ensures short { length result.name.now ≤ 6 }
+{
+    RegisterPart {
+        name: name(state.arch, i),
+        value: value(state, i),
+    }
+}
+
+/// The length of a thread's registers.
+fn registers_len(state: &Registers) -> u64
+    ensures size { result ≡ length (spelling (message_fields 4 register_message (registers_of state.now))) }
+    ensures short { result ≤ 66 * MOST_REGISTERS }
+{
+    let mut length = 0;
+    for i in 0..count(state.arch) {
+        length += message_len(Thread::REGISTERS, &register(state, i));
+    }
+    length
+}
+
 /// Writes a thread's registers, in the order of its state.
 fn put_registers<W: Ink>(ink: &mut W, state: &Registers)
-    ensures wrote { Wrote (W.pen ink.old) (W.pen ink.new) (spelling (message_fields 4 register_message (registers_of state.now))) }
-    ensures short { length (spelling (message_fields 4 register_message (registers_of state.now))) ≤ 66 * MOST_REGISTERS }
+    ensures { Wrote (W.pen ink.old) (W.pen ink.new) (spelling (message_fields 4 register_message (registers_of state.now))) }
 {
     for i in 0..count(state.arch) {
-        let part = RegisterPart {
-            name: name(state.arch, i),
-            value: value(state, i),
-        };
-        put_message(ink, Thread::REGISTERS, &part);
+        put_message(ink, Thread::REGISTERS, &register(state, i));
     }
 }
 
@@ -75,6 +104,13 @@ impl Message for ThreadPart<'_> {
     ghost fits = { λ part. length part.pcs.now ≤ MOST_FRAMES };
 
     ghost most = { 2 ^ 15 };
+
+    fn len(&self) -> u64 {
+        number_len(Thread::THREAD_NUMBER, self.number as u64)
+            + frames_len(self.pcs)
+            + flag_len(Thread::CRASHED, self.number == self.crashed)
+            + registers_len(self.state)
+    }
 
     #[tactic(auto, using(plcr_wire::proofs::Writing::wrote_twice, plcr_wire::proofs::Writing::wrote_none))]
     fn put<W: Ink>(&self, ink: &mut W) {

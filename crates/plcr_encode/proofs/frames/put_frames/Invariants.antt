@@ -1,4 +1,4 @@
-use Rattle.std.proofs.Common.{◌*◌, map, drop}
+use Rattle.std.proofs.Common.{map, drop}
 use Rattle.plcr_wire.specs.Message.{spelling}
 use Rattle.plcr_report.specs.Messages.{frame_message}
 use Rattle.plcr_encode.specs.inner.Rows.{message_fields}
@@ -12,4 +12,3 @@ invariant-loop-pc g l =
     WroteUpTo (g.W.Put.pen l.initial.ink) (g.W.Put.pen l.ink)
     (spelling (message_fields 2 frame_message (map frame_at l.pcs)))
     (spelling (message_fields 2 frame_message (map frame_at (drop l.pc-index l.pcs))))
-    (40 * l.pc-index)

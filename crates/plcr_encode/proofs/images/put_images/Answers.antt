@@ -1,7 +1,7 @@
 use Rattle.std.proofs.Common.{◌*◌, ◌<◌, ◌≤◌, [], length, ◌∙◌, arith}
 use Rattle.plcr_report.specs.Messages.{image_message}
 use Rattle.plcr_encode.specs.Images.{image_of}
-use Rattle.plcr_encode.proofs.Rows.{items_left, items_more, sized_more}
+use Rattle.plcr_encode.proofs.Rows.{up_to_more, items_left, sized_more}
 use Rattle.plcr_encode.proofs.images.put_images.Goals as goal
 
 pub loop-i-preserved : goal.loop-i-preserved
@@ -17,7 +17,7 @@ loop-i-preserved g c =
     let size = rw c.loop-i.invariant.same at c.put_image-length.ensures.size in
     let short : c.put_image-length.result ≤ 2068 = c.put_image-length.ensures.short in
     record {
-      wrote = items_more 4 image_message _ _ _ _ image listed i 2068 (record { header = 0; name = [] }) inside c.loop-i.invariant.wrote wrote (omega (arith, size, short));
+      wrote = up_to_more _ _ _ _ _ _ _ left c.loop-i.invariant.wrote wrote;
       size = sized_more _ _ _ _ _ _ c.loop-i.invariant.size left size;
       short = let earlier : c.loop-i.length ≤ 2068 * i = c.loop-i.invariant.short in omega arith;
       same = c.put_image-length.ensures.same ∙ c.loop-i.invariant.same;

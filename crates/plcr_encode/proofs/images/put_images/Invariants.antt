@@ -13,7 +13,7 @@ invariant-loop-i g l =
     let left = spelling (message_fields 4 image_message (map (image_of l.memory l.arch) (drop l.i listed))) in
     let all = spelling (message_fields 4 image_message (images_of l.memory l.arch listed)) in
     record {
-      wrote : WroteUpTo (g.W.Put.pen l.initial.ink) (g.W.Put.pen l.ink) all left (2068 * l.i);
+      wrote : WroteUpTo (g.W.Put.pen l.initial.ink) (g.W.Put.pen l.ink) all left;
       size : l.length + length left ≡ length all;
       short : l.length ≤ 2068 * l.i;
       same : g.I.Images.images l.images ≡ listed;

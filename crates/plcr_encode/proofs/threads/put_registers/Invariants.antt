@@ -1,4 +1,4 @@
-use Rattle.std.proofs.Common.{◌*◌, ◌-◌, map}
+use Rattle.std.proofs.Common.{◌-◌, map}
 use Rattle.std.specs.List.{range_with_len}
 use Rattle.plcr_wire.specs.Message.{spelling}
 use Rattle.plcr_report.specs.Messages.{register_message}
@@ -14,4 +14,3 @@ invariant-loop-i g l =
     WroteUpTo (g.W.Put.pen l.initial.ink) (g.W.Put.pen l.ink)
     (spelling (message_fields 4 register_message (registers_of l.state)))
     (spelling (message_fields 4 register_message (map (register_at l.state) (range_with_len l.i (register_count l.state.arch - l.i)))))
-    (66 * l.i)

@@ -13,7 +13,7 @@ invariant-loop-number g l =
     let left = spelling (message_fields 3 thread_message (map (thread_of l.crashed) (enumerate_from l.number (drop l.number l.states)))) in
     let all = spelling (message_fields 3 thread_message (threads_of l.crashed l.states)) in
     record {
-      wrote : WroteUpTo (g.W.Put.pen l.initial.ink) (g.W.Put.pen l.ink) all left (32788 * l.number);
+      wrote : WroteUpTo (g.W.Put.pen l.initial.ink) (g.W.Put.pen l.ink) all left;
       size : l.length + length left ≡ length all;
       short : l.length ≤ 32788 * l.number;
     }
