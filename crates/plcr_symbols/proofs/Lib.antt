@@ -1,0 +1,9 @@
+pub mod Addresses
+pub mod Greater
+pub mod Looked
+pub mod Pieces
+pub mod Rows
+pub mod Settled
+pub mod Split
+pub mod Zeroed
+pub mod Zeros
