@@ -1,0 +1,3 @@
+pub mod Cells
+pub mod Leb128
+pub mod inner

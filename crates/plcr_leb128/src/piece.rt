@@ -1,0 +1,79 @@
+ghost use Rattle.std.specs.Prelude.{◌≡◌, ◌+◌, ◌≤◌, ◌^◌, nat_le};
+ghost use Rattle.plcr_leb128.specs.Cells.{addressable, piece_bytes};
+
+use crate::cells::Cells;
+use plcr_memory::Memory;
+
+/// So many bytes of memory from an address on, as places from 0.
+#[derive(Clone, Copy)]
+pub struct Piece<'m> {
+    pub memory: &'m Memory,
+    pub at: u64,
+    pub size: u64,
+    pub ghost within: { at + size ≤ 2 ^ 64 },
+}
+
+impl<'m> Piece<'m> {
+    /// The bytes from an address on, as far as they have addresses of 64 bits.
+    pub fn new(memory: &'m Memory, at: u64, size: u64) -> Self
+        ensures memory { result.memory.now ≡ memory.now }
+        ensures at { result.at ≡ at }
+        ensures size { result.size ≡ addressable at size }
+    {
+        let last = u64::MAX - at;
+        let size = if size <= last { size } else { last + 1 };
+        Piece { memory, at, size }
+    }
+
+    // Whether so many bytes from a place on are within the piece.
+    fn holds(&self, place: u64, count: u64) -> bool
+        ensures { result ≡ nat_le (place + count) self.now.size }
+    {
+        count <= self.size && place <= self.size - count
+    }
+}
+
+impl Cells for Piece<'_> {
+    ghost cells = { λ p. piece_bytes p.memory.now p.at p.size };
+
+    #[tactic(auto, using(crate::proofs::Fixed::piece_has, crate::proofs::Fixed::piece_lacks))]
+    fn has(&self, place: u64, count: u64) -> bool {
+        count == 0 || self.holds(place, count) && self.memory.is_mapped(self.at + place, count)
+    }
+
+    #[tactic(auto, unfolding(crate::specs::Cells::piece_bytes))]
+    fn read_u8(&self, place: u64) -> Option<u8> {
+        if self.holds(place, 1) {
+            self.memory.read_u8(self.at + place)
+        } else {
+            None
+        }
+    }
+
+    #[tactic(auto, using(crate::proofs::Fixed::piece_number, crate::proofs::Fixed::piece_short))]
+    fn read_u16(&self, place: u64) -> Option<u16> {
+        if self.holds(place, 2) {
+            self.memory.read_u16(self.at + place)
+        } else {
+            None
+        }
+    }
+
+    #[tactic(auto, using(crate::proofs::Fixed::piece_number, crate::proofs::Fixed::piece_short))]
+    fn read_u32(&self, place: u64) -> Option<u32> {
+        if self.holds(place, 4) {
+            self.memory.read_u32(self.at + place)
+        } else {
+            None
+        }
+    }
+
+    #[tactic(auto, using(crate::proofs::Fixed::piece_number, crate::proofs::Fixed::piece_short))]
+    fn read_u64(&self, place: u64) -> Option<u64> {
+        if self.holds(place, 8) {
+            self.memory.read_u64(self.at + place)
+        } else {
+            None
+        }
+    }
+}
