@@ -1,4 +1,5 @@
 ghost use Rattle.std.specs.Prelude.{◌≡◌};
+ghost use Rattle.plcr_regs.specs.Frames.{IfFrame, IsOfThread};
 ghost use Rattle.plcr_frameptr.specs.Saved.{caller_of, saved_frame};
 
 use crate::bad::{DOES_NOT_RISE, NO_FRAME_POINTER, NOT_MAPPED};
@@ -12,7 +13,8 @@ pub const SAVED_FRAME: usize = 16;
 // The caller of a frame, by its frame pointer and the two words there.
 #[tactic(auto, unfolding(crate::specs::Saved::caller_of))]
 fn caller(frame: &Frame, pointer: u64, saved: u64, back: u64) -> Frame
-    ensures { result ≡ caller_of frame.now pointer saved back }
+    ensures caller { result ≡ caller_of frame.now pointer saved back }
+    ensures thread { IsOfThread frame.now result }
 {
     let arch = frame.registers.arch;
     let mut value = [None; MOST_REGISTERS];
@@ -34,7 +36,8 @@ fn caller(frame: &Frame, pointer: u64, saved: u64, back: u64) -> Frame
 /// pointer is neither 0 nor above the one that leads to it.
 #[tactic(auto, unfolding(crate::specs::Saved::saved_frame))]
 pub fn step(memory: &Memory, frame: &Frame) -> Step
-    ensures { result ≡ saved_frame memory.now frame.now }
+    ensures caller { result ≡ saved_frame memory.now frame.now }
+    ensures thread { IfFrame result (IsOfThread frame.now) }
 {
     let Some(pointer) = frame.registers.value[fp_place(frame.registers.arch)] else {
         return Step::Bad(NO_FRAME_POINTER);

@@ -1,10 +1,12 @@
 -- The registers at a frame of a thread, and where the code of it stands.
-use Rattle.std.specs.Prelude.{ℕ, ◌+◌, ◌-◌, ◌%◌, ◌^◌, ◌==◌, Bool, true, false, if◌then◌else◌, List, [], ◌∷◌, map, codes, slice_index_or, Option, None, option_map}
+use Rattle.std.specs.Prelude.{◌≡◌, ℕ, ◌+◌, ◌-◌, ◌%◌, ◌^◌, ◌==◌, Bool, true, false, if◌then◌else◌, List, [], ◌∷◌, map, codes, slice_index_or, Option, None, option_map}
 use Rattle.std.specs.List.{list_any, range_with_len}
 use Rattle.std.specs.Option.{option_and_then}
 use Rattle.plcr_regs.specs.declared.arch.Arch.{Arch}
 use Rattle.plcr_regs.specs.declared.arch.Arch.TheVariants.{X86_64, Arm64}
 use Rattle.plcr_regs.specs.declared.frame.Frame.{Frame}
+use Rattle.plcr_regs.specs.declared.frame.Step.{Step}
+use Rattle.plcr_regs.specs.declared.frame.Step.TheVariants as steps
 use Rattle.plcr_regs.specs.declared.limits.TheConstants.{MOST_REGISTERS}
 use Rattle.plcr_regs.specs.declared.registers.Registers.{Registers}
 use Rattle.plcr_regs.specs.Places.{dwarf_place, pc_place, place_of}
@@ -59,3 +61,14 @@ looked_up false pc = (pc + (2 ^ 64 - 1)) % 2 ^ 64
 -- the address by which the frame's function is looked up
 abbrev pub frame_lookup : Frame → Option ℕ
 frame_lookup frame = option_map (looked_up frame.exact) (frame_pc frame)
+
+-- a frame of the same thread: of its architecture, and with as many bits
+pub record IsOfThread (frame other : Frame) : Type 0 where
+  pub arch : other.registers.arch ≡ frame.registers.arch
+  pub bits : other.bits ≡ frame.bits
+
+-- what holds of the frame that a reader gives
+abbrev pub IfFrame : Step → (Frame → Type 0) → Type 0
+IfFrame (steps.Frame frame) P = P frame
+IfFrame steps.End P = Unit {0}
+IfFrame (steps.Bad number) P = Unit {0}
