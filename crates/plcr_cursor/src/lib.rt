@@ -1,0 +1,16 @@
+//! The frames of a thread, one after the other: the readers of frames in their order.
+#![tactic(auto)]
+
+mod cursor;
+mod given;
+mod laws;
+mod limits;
+mod readers;
+
+pub use cursor::Cursor;
+pub use given::{Given, Reader};
+pub use laws::frames_lead;
+pub use limits::{MOST_FRAMES, NULL_PAGE};
+
+#[cfg(test)]
+mod tests;
