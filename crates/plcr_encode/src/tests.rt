@@ -6,7 +6,7 @@ ghost use Rattle.plcr_encode.specs.Conditions.{IsWritable, AreNamable};
 use super::*;
 use arrayvec::ArrayVec;
 use plcr_io::{MemOut, PutFailed, Sink};
-use plcr_macho::{ListImages, PlainImage};
+use plcr_macho::{ListImages, PlainImage, Spot};
 use plcr_memory::{Memory, MemoryFault, Region, are_backed};
 use plcr_regs::{Arch, Registers};
 use std::alloc::{AllocError, Global};
@@ -179,6 +179,13 @@ fn image(header: u64, name: &[u8]) -> PlainImage {
     }
 }
 
+const NO_SPOT: Spot = Spot {
+    start: 0,
+    size: 0,
+    reach: 0,
+    position: 0,
+};
+
 fn are_short(images: &[PlainImage]) -> bool
     ensures { IsTrue result → All (λ image. length image.name.items ≤ 1024) images.now }
 {
@@ -200,8 +207,9 @@ fn write<K: Sink>(
     requires writable { IsWritable context.now }
     requires arch { context.now.arch ≡ Arch.X86_64 }
 {
-    if are_namable(images) {
-        let mut list = ListImages::new(images);
+    let mut room = [NO_SPOT; 8];
+    if are_namable(images) && images.len() <= room.len() {
+        let mut list = ListImages::new(images, &mut room);
         capture(&mut list, memory, &[stopped()], context, out)
     } else {
         Ok(0)
@@ -269,7 +277,7 @@ fn the_bytes_of_an_arm64_report(rt: HostRuntime) -> Result<(), Fail> {
     assert_eq!(rt; want.len(), 377);
 
     let mut out = MemOut::new(alloc, 377, 1000, Vec::new(alloc))?;
-    let mut none = ListImages::new(&[]);
+    let mut none = ListImages::new(&[], &mut []);
     let about = context(Arch::Arm64, 0, false);
     let written = capture(
         &mut none,
