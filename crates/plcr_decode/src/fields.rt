@@ -1,14 +1,14 @@
 //! The fields of a message, whose parts may stand in several places.
 ghost use Rattle.std.specs.Prelude.{◌≡◌, ◌∷◌, [], ◌+◌, ◌<◌, ◌≤◌, ◌==◌, length, IfSome, MatchOption, if◌then◌else◌};
 ghost use Rattle.plcr_wire.specs.Message.{value_bytes};
-ghost use Rattle.plcr_wire.specs.Reading.{piece, content, content_len};
+ghost use Rattle.plcr_wire.specs.Reading.{field_slice, value_slice, value_slice_len};
 ghost use Rattle.plcr_decode.specs.Fields.{fields_of, messages_in, joined, last_or, last_value, has, number_in, text_in, or_zero, or_empty};
 ghost use Rattle.plcr_decode.specs.inner.Views.{told};
 ghost use Rattle.plcr_decode.specs.Fields as spec;
 ghost use Rattle.plcr_decode.specs.inner.Views.{left, size};
 
 use crate::scanning::text_of;
-use plcr_wire::{Piece, field_of};
+use plcr_wire::{FieldSlice, field_of};
 
 /// The fields that are left of a message: those of its present part, and those of the parts that stand in the
 /// fields of one number of the message around it.
@@ -21,9 +21,9 @@ pub(crate) struct Fields<'a> {
 
 /// The field that these bytes begin with; none at a fault.
 #[tactic(auto, using(crate::proofs::Listed::fields_step))]
-fn first(bytes: &[u8]) -> Option<Piece<'_>>
-    ensures first { MatchOption result (fields_of bytes.now ≡ []) (λ p. fields_of bytes.now ≡ (piece p).0 ∷ fields_of p.rest.now) }
-    ensures shorter { IfSome result (λ p. content_len p.value + length p.rest.now < length bytes.now) }
+fn first(bytes: &[u8]) -> Option<FieldSlice<'_>>
+    ensures first { MatchOption result (fields_of bytes.now ≡ []) (λ p. fields_of bytes.now ≡ (field_slice p).0 ∷ fields_of p.rest.now) }
+    ensures shorter { IfSome result (λ p. value_slice_len p.value + length p.rest.now < length bytes.now) }
 {
     match field_of(bytes, bytes.len()) {
         Ok(piece) => Some(piece),
@@ -32,9 +32,9 @@ fn first(bytes: &[u8]) -> Option<Piece<'_>>
 }
 
 /// What stands in a field, if it is of this number.
-fn part_of<'a>(piece: Piece<'a>, number: u32) -> &'a [u8]
-    ensures part { result.now ≡ (if piece.entry.number == number then value_bytes (content piece.entry.value) else []) }
-    ensures within { length result.now ≤ content_len piece.entry.value }
+fn part_of<'a>(piece: FieldSlice<'a>, number: u32) -> &'a [u8]
+    ensures part { result.now ≡ (if piece.entry.number == number then value_bytes (value_slice piece.entry.value) else []) }
+    ensures within { length result.now ≤ value_slice_len piece.entry.value }
 {
     if piece.number == number {
         text_of(piece.value)
@@ -85,8 +85,8 @@ impl<'a> Fields<'a> {
     }
 
     /// The next field.
-    pub(crate) fn next(&mut self) -> Option<Piece<'a>>
-        ensures next { MatchOption result (left self.old ≡ []) (λ p. left self.old ≡ (piece p).0 ∷ left self.new) }
+    pub(crate) fn next(&mut self) -> Option<FieldSlice<'a>>
+        ensures next { MatchOption result (left self.old ≡ []) (λ p. left self.old ≡ (field_slice p).0 ∷ left self.new) }
         ensures smaller { IfSome result (λ p. size self.new < size self.old) }
     {
         loop {

@@ -1,12 +1,12 @@
 //! The last values of a message's fields, gathered in one pass.
 ghost use Rattle.std.specs.Prelude.{◌≡◌, ◌<◌, ◌==◌, Some, if◌then◌else◌};
-ghost use Rattle.plcr_wire.specs.Reading.{content};
+ghost use Rattle.plcr_wire.specs.Reading.{value_slice};
 ghost use Rattle.plcr_decode.specs.Fields.{last_value, number_in, text_in, or_zero, or_empty};
 ghost use Rattle.plcr_decode.specs.inner.Views.{Keeps, kept, left, shown, told};
 
 use crate::fields::Fields;
 use crate::scanning::text_of;
-use plcr_wire::{Content, Piece};
+use plcr_wire::{ValueSlice, FieldSlice};
 use std::marker::Model;
 
 /// Every known field has a number below this one.
@@ -16,7 +16,7 @@ const NUMBERS: usize = 10;
 #[derive(Drop)]
 pub(crate) struct Found<'a> {
     fields: Fields<'a>,
-    lasts: [Option<Content<'a>>; NUMBERS],
+    lasts: [Option<ValueSlice<'a>>; NUMBERS],
 }
 
 impl<'a> Model for Found<'a> {
@@ -34,8 +34,8 @@ impl<'a> Model for Found<'a> {
 
 /// Keeps the value of a field under its number.
 #[tactic(auto, using(crate::proofs::Kept::kept_new, crate::proofs::Kept::kept_same))]
-fn keep<'a>(lasts: &mut [Option<Content<'a>>; NUMBERS], piece: Piece<'a>)
-    ensures { Keeps lasts.new (λ n. if piece.entry.number == n then Some (content piece.entry.value) else kept lasts.old n) }
+fn keep<'a>(lasts: &mut [Option<ValueSlice<'a>>; NUMBERS], piece: FieldSlice<'a>)
+    ensures { Keeps lasts.new (λ n. if piece.entry.number == n then Some (value_slice piece.entry.value) else kept lasts.old n) }
 {
     if (piece.number as usize) < NUMBERS {
         lasts[piece.number as usize] = Some(piece.value);
@@ -57,7 +57,7 @@ impl<'a> Found<'a> {
     }
 
     /// The value of the last field of this number.
-    fn last(&self, number: u32) -> Option<Content<'a>>
+    fn last(&self, number: u32) -> Option<ValueSlice<'a>>
         requires { number < 10 }
         ensures { shown result ≡ last_value number self.now }
     {
@@ -71,7 +71,7 @@ impl<'a> Found<'a> {
     {
         match self.last(number) {
             None => None,
-            Some(Content::Number(value)) => Some(value),
+            Some(ValueSlice::Number(value)) => Some(value),
             Some(_) => Some(0),
         }
     }

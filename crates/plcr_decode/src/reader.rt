@@ -1,6 +1,6 @@
 //! Reads the file of a report.
 ghost use Rattle.std.specs.Prelude.{◌≡◌, ◌≢◌, ◌≤◌, [], length, IfOk, IfErr, IsOk, Ok, Err};
-ghost use Rattle.plcr_wire.specs.Reading.{Reads};
+ghost use Rattle.plcr_wire.specs.Reading.{Returns};
 ghost use Rattle.plcr_decode.specs.Reads as spec;
 ghost use Rattle.plcr_decode.specs.Reads.{reads};
 
@@ -13,7 +13,7 @@ use std::alloc::Global;
 
 /// What stands behind this text and the version.
 fn behind<'a>(text: &[u8], bytes: &'a [u8], at: usize) -> Result<&'a [u8], DecodeFault>
-    ensures reads { Reads (λ rest. rest.now) result (spec.behind text.now at bytes.now) }
+    ensures reads { Returns (λ rest. rest.now) result (spec.behind text.now at bytes.now) }
     ensures shorter { IfOk result (λ rest. length rest.now ≤ length bytes.now) }
     ensures real { IfErr result (λ e. e ≢ DecodeFault.Memory) }
 {
@@ -31,7 +31,7 @@ fn behind<'a>(text: &[u8], bytes: &'a [u8], at: usize) -> Result<&'a [u8], Decod
 
 /// What stands behind the version.
 fn versioned(bytes: &[u8], at: usize) -> Result<&[u8], DecodeFault>
-    ensures reads { Reads (λ rest. rest.now) result (spec.behind [] at bytes.now) }
+    ensures reads { Returns (λ rest. rest.now) result (spec.behind [] at bytes.now) }
     ensures shorter { IfOk result (λ rest. length rest.now ≤ length bytes.now) }
     ensures real { IfErr result (λ e. e ≢ DecodeFault.Memory) }
 {
@@ -47,7 +47,7 @@ fn versioned(bytes: &[u8], at: usize) -> Result<&[u8], DecodeFault>
 /// The root message of a file.
 #[tactic(auto, unfolding(crate::specs::Reads::root_of))]
 fn root_of(bytes: &[u8]) -> Result<&[u8], DecodeFault>
-    ensures reads { Reads (λ rest. rest.now) result (spec.root_of bytes.now) }
+    ensures reads { Returns (λ rest. rest.now) result (spec.root_of bytes.now) }
     ensures shorter { IfOk result (λ rest. length rest.now ≤ length bytes.now) }
     ensures real { IfErr result (λ e. e ≢ DecodeFault.Memory) }
 {

@@ -1,6 +1,6 @@
 //! The first fault of a message's bytes.
 ghost use Rattle.std.specs.Prelude.{◌≡◌, ◌≢◌, ◌+◌, ◌-◌, ◌<◌, ◌≤◌, length, IfOk, IfErr};
-ghost use Rattle.plcr_wire.specs.Reading.{Reads, content, content_len};
+ghost use Rattle.plcr_wire.specs.Reading.{Returns, value_slice, value_slice_len};
 ghost use Rattle.plcr_report.specs.Schema.{rule};
 ghost use Rattle.plcr_wire.specs.Message as message;
 ghost use Rattle.plcr_decode.specs.Scan as spec;
@@ -9,7 +9,7 @@ ghost use Rattle.plcr_decode.specs.inner.Views.{step_view};
 use crate::faults::{DecodeFault, fault_of};
 use crate::table::held;
 use plcr_report::{Holds, Kind};
-use plcr_wire::{Content, field_of};
+use plcr_wire::{ValueSlice, field_of};
 
 /// What is read after a field's own bytes: first the message in it, then the rest of the message around it.
 #[derive(Clone, Copy)]
@@ -20,21 +20,21 @@ pub(crate) struct Step<'a> {
 }
 
 /// Whether a value has the wire type of its field.
-fn fits(holds: Option<Holds>, value: Content<'_>) -> bool
-    ensures { result ≡ spec.fits holds (content value.entry) }
+fn fits(holds: Option<Holds>, value: ValueSlice<'_>) -> bool
+    ensures { result ≡ spec.fits holds (value_slice value.entry) }
 {
     match holds {
         None => true,
-        Some(Holds::Number) => matches!(value, Content::Number(_)),
-        Some(Holds::Text) => matches!(value, Content::Bytes(_)),
-        Some(Holds::Message(_)) => matches!(value, Content::Bytes(_)),
+        Some(Holds::Number) => matches!(value, ValueSlice::Number(_)),
+        Some(Holds::Text) => matches!(value, ValueSlice::Bytes(_)),
+        Some(Holds::Message(_)) => matches!(value, ValueSlice::Bytes(_)),
     }
 }
 
 /// The message that stands in a field; an empty one where the field holds none.
-fn inside<'a>(kind: Kind, holds: Option<Holds>, value: Content<'a>, rest: &'a [u8]) -> Step<'a>
-    ensures view { step_view result ≡ spec.inside kind holds (content value.entry) rest.now }
-    ensures within { length result.text.now ≤ content_len value.entry }
+fn inside<'a>(kind: Kind, holds: Option<Holds>, value: ValueSlice<'a>, rest: &'a [u8]) -> Step<'a>
+    ensures view { step_view result ≡ spec.inside kind holds (value_slice value.entry) rest.now }
+    ensures within { length result.text.now ≤ value_slice_len value.entry }
 {
     match holds {
         Some(Holds::Message(inner)) => Step {
@@ -51,12 +51,12 @@ fn inside<'a>(kind: Kind, holds: Option<Holds>, value: Content<'a>, rest: &'a [u
 }
 
 /// The bytes that may hold a message, none in a number.
-pub(crate) fn text_of(value: Content<'_>) -> &[u8]
-    ensures bytes { result.now ≡ message.value_bytes (content value.entry) }
-    ensures within { length result.now ≤ content_len value.entry }
+pub(crate) fn text_of(value: ValueSlice<'_>) -> &[u8]
+    ensures bytes { result.now ≡ message.value_bytes (value_slice value.entry) }
+    ensures within { length result.now ≤ value_slice_len value.entry }
 {
     match value {
-        Content::Bytes(text) => text,
+        ValueSlice::Bytes(text) => text,
         _ => &[],
     }
 }
@@ -65,7 +65,7 @@ pub(crate) fn text_of(value: Content<'_>) -> &[u8]
 #[tactic(auto, unfolding(crate::specs::Scan::step_at))]
 fn step_of(kind: Kind, bytes: &[u8], end: usize) -> Result<Step<'_>, DecodeFault>
     requires { length bytes.now ≤ end }
-    ensures reads { Reads step_view result (spec.step_at kind end bytes.now) }
+    ensures reads { Returns step_view result (spec.step_at kind end bytes.now) }
     ensures shorter { IfOk result (λ s. length s.text.now + length s.rest.now < length bytes.now) }
     ensures real { IfErr result (λ e. e ≢ DecodeFault.Memory) }
 {
