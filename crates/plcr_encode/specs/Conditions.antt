@@ -12,7 +12,7 @@ pub record AreWhole (arch : Arch) (states : List Registers) : Type 0 where
   pub each : All (IsWhole arch) states
   pub few : length states < 2 ^ 32
 
--- a context whose system is known, whose time is no negative number, and whose texts have fewer than 2^32 bytes
+-- a context whose system is known, whose time is no negative number, whose texts have fewer than 2^32 bytes, and of whose addresses of code 32 to 64 bits count
 pub record IsWritable (context : Context) : Type 0 where
   pub os : context.os ≤ 2
   pub timestamp : context.timestamp < 2 ^ 63
@@ -22,6 +22,7 @@ pub record IsWritable (context : Context) : Type 0 where
   pub signal : length context.signal.now < 2 ^ 32
   pub code : length context.code.now < 2 ^ 32
   pub process : length context.process.now < 2 ^ 32
+  pub bits : (32 ≤ context.bits) × (context.bits ≤ 64)
 
 -- a loaded image whose name is within its limit
 abbrev pub IsNamable : Listed → Type 0

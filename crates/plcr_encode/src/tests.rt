@@ -144,6 +144,7 @@ fn context(arch: Arch, crashed: u32, user: bool) -> Context<'static>
         ppid: 0,
         crashed,
         user,
+        bits: 64,
     }
 }
 
