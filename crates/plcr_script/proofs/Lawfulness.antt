@@ -4,12 +4,12 @@ use Rattle.std.proofs.lemmas.List.Elements.{All-nil, All-push}
 use Rattle.plcr_regs.specs.declared.arch.Arch.{Arch}
 use Rattle.plcr_encode.specs.Conditions.{IsWritable}
 use Rattle.plcr_script.specs.declared.keys.NumberKey.{NumberKey}
-use Rattle.plcr_script.specs.declared.keys.NumberKey.TheVariants.{Os, Timestamp, Address, Pid, Ppid, Crashed, User}
+use Rattle.plcr_script.specs.declared.keys.NumberKey.TheVariants.{Os, Timestamp, Address, Pid, Ppid, Crashed, User, Bits}
 use Rattle.plcr_script.specs.declared.keys.TextKey.{TextKey}
 use Rattle.plcr_script.specs.declared.keys.TextKey.TheVariants.{OsVersion, Identifier, Version, Signal, Code, Process}
 use Rattle.plcr_script.specs.declared.modes.Mode.{Mode}
 use Rattle.plcr_script.specs.declared.statements.NumberedStatement.{NumberedStatement}
-use Rattle.plcr_script.specs.Keys.{limit_of, with_number, with_text}
+use Rattle.plcr_script.specs.Keys.{IsAllowed, with_number, with_text}
 use Rattle.plcr_script.specs.Scripts.{ScriptValue}
 use Rattle.plcr_script.specs.Sayings.{Saying, Sizes, Number, Words, States}
 use Rattle.plcr_script.specs.Reading.{no_lines, with_saying}
@@ -18,23 +18,24 @@ use Rattle.plcr_script.specs.Lawful.{IsFitStatement, IsLawful}
 use Rattle.plcr_script.specs.inner.Fits.{IsFit}
 
 -- the values with another number can be written
-number_writable : (script : ScriptValue) (key : NumberKey) (n : ℕ) (arch : Arch) → n < limit_of key → IsWritable (context_of script arch) → IsWritable (context_of (record script { values = with_number key n script.values }) arch)
-number_writable script Os n arch fits w = record { os = omega arith; timestamp = w.timestamp; os_version = w.os_version; identifier = w.identifier; version = w.version; signal = w.signal; code = w.code; process = w.process }
-number_writable script Timestamp n arch fits w = record { os = w.os; timestamp = fits; os_version = w.os_version; identifier = w.identifier; version = w.version; signal = w.signal; code = w.code; process = w.process }
-number_writable script Address n arch fits w = record { os = w.os; timestamp = w.timestamp; os_version = w.os_version; identifier = w.identifier; version = w.version; signal = w.signal; code = w.code; process = w.process }
-number_writable script Pid n arch fits w = record { os = w.os; timestamp = w.timestamp; os_version = w.os_version; identifier = w.identifier; version = w.version; signal = w.signal; code = w.code; process = w.process }
-number_writable script Ppid n arch fits w = record { os = w.os; timestamp = w.timestamp; os_version = w.os_version; identifier = w.identifier; version = w.version; signal = w.signal; code = w.code; process = w.process }
-number_writable script Crashed n arch fits w = record { os = w.os; timestamp = w.timestamp; os_version = w.os_version; identifier = w.identifier; version = w.version; signal = w.signal; code = w.code; process = w.process }
-number_writable script User n arch fits w = record { os = w.os; timestamp = w.timestamp; os_version = w.os_version; identifier = w.identifier; version = w.version; signal = w.signal; code = w.code; process = w.process }
+number_writable : (script : ScriptValue) (key : NumberKey) (n : ℕ) (arch : Arch) → IsAllowed key n → IsWritable (context_of script arch) → IsWritable (context_of (record script { values = with_number key n script.values }) arch)
+number_writable script Os n arch fits w = record { os = omega (arith, fits.1); timestamp = w.timestamp; os_version = w.os_version; identifier = w.identifier; version = w.version; signal = w.signal; code = w.code; process = w.process; bits = w.bits }
+number_writable script Timestamp n arch fits w = record { os = w.os; timestamp = fits.1; os_version = w.os_version; identifier = w.identifier; version = w.version; signal = w.signal; code = w.code; process = w.process; bits = w.bits }
+number_writable script Address n arch fits w = record { os = w.os; timestamp = w.timestamp; os_version = w.os_version; identifier = w.identifier; version = w.version; signal = w.signal; code = w.code; process = w.process; bits = w.bits }
+number_writable script Pid n arch fits w = record { os = w.os; timestamp = w.timestamp; os_version = w.os_version; identifier = w.identifier; version = w.version; signal = w.signal; code = w.code; process = w.process; bits = w.bits }
+number_writable script Ppid n arch fits w = record { os = w.os; timestamp = w.timestamp; os_version = w.os_version; identifier = w.identifier; version = w.version; signal = w.signal; code = w.code; process = w.process; bits = w.bits }
+number_writable script Crashed n arch fits w = record { os = w.os; timestamp = w.timestamp; os_version = w.os_version; identifier = w.identifier; version = w.version; signal = w.signal; code = w.code; process = w.process; bits = w.bits }
+number_writable script User n arch fits w = record { os = w.os; timestamp = w.timestamp; os_version = w.os_version; identifier = w.identifier; version = w.version; signal = w.signal; code = w.code; process = w.process; bits = w.bits }
+number_writable script Bits n arch fits w = record { os = w.os; timestamp = w.timestamp; os_version = w.os_version; identifier = w.identifier; version = w.version; signal = w.signal; code = w.code; process = w.process; bits = (fits.0, omega (arith, fits.1)) }
 
 -- and so can they with another text
 text_writable : (script : ScriptValue) (key : TextKey) (text : List ℕ) (arch : Arch) → length text < 2 ^ 32 → IsWritable (context_of script arch) → IsWritable (context_of (record script { values = with_text key text script.values }) arch)
-text_writable script OsVersion text arch fits w = record { os = w.os; timestamp = w.timestamp; os_version = fits; identifier = w.identifier; version = w.version; signal = w.signal; code = w.code; process = w.process }
-text_writable script Identifier text arch fits w = record { os = w.os; timestamp = w.timestamp; os_version = w.os_version; identifier = fits; version = w.version; signal = w.signal; code = w.code; process = w.process }
-text_writable script Version text arch fits w = record { os = w.os; timestamp = w.timestamp; os_version = w.os_version; identifier = w.identifier; version = fits; signal = w.signal; code = w.code; process = w.process }
-text_writable script Signal text arch fits w = record { os = w.os; timestamp = w.timestamp; os_version = w.os_version; identifier = w.identifier; version = w.version; signal = fits; code = w.code; process = w.process }
-text_writable script Code text arch fits w = record { os = w.os; timestamp = w.timestamp; os_version = w.os_version; identifier = w.identifier; version = w.version; signal = w.signal; code = fits; process = w.process }
-text_writable script Process text arch fits w = record { os = w.os; timestamp = w.timestamp; os_version = w.os_version; identifier = w.identifier; version = w.version; signal = w.signal; code = w.code; process = fits }
+text_writable script OsVersion text arch fits w = record { os = w.os; timestamp = w.timestamp; os_version = fits; identifier = w.identifier; version = w.version; signal = w.signal; code = w.code; process = w.process; bits = w.bits }
+text_writable script Identifier text arch fits w = record { os = w.os; timestamp = w.timestamp; os_version = w.os_version; identifier = fits; version = w.version; signal = w.signal; code = w.code; process = w.process; bits = w.bits }
+text_writable script Version text arch fits w = record { os = w.os; timestamp = w.timestamp; os_version = w.os_version; identifier = w.identifier; version = fits; signal = w.signal; code = w.code; process = w.process; bits = w.bits }
+text_writable script Signal text arch fits w = record { os = w.os; timestamp = w.timestamp; os_version = w.os_version; identifier = w.identifier; version = w.version; signal = fits; code = w.code; process = w.process; bits = w.bits }
+text_writable script Code text arch fits w = record { os = w.os; timestamp = w.timestamp; os_version = w.os_version; identifier = w.identifier; version = w.version; signal = w.signal; code = fits; process = w.process; bits = w.bits }
+text_writable script Process text arch fits w = record { os = w.os; timestamp = w.timestamp; os_version = w.os_version; identifier = w.identifier; version = w.version; signal = w.signal; code = w.code; process = fits; bits = w.bits }
 
 -- the script of no lines is lawful
 pub lawful_at_first : (mode : Mode) (before : List ScriptValue) → IsLawful (no_lines mode before).script
@@ -50,6 +51,7 @@ lawful_at_first mode before = record {
     signal = omega arith;
     code = omega arith;
     process = omega arith;
+    bits = (omega arith, omega arith);
   };
 }
 

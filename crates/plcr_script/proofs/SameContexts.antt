@@ -23,4 +23,5 @@ same_writable a b h w = record {
   signal = rw h.signal w.signal;
   code = rw h.code w.code;
   process = rw h.process w.process;
+  bits = rw h.bits w.bits;
 }

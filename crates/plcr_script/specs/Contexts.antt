@@ -28,6 +28,7 @@ context_of script arch =
       ppid = values.ppid;
       crashed = values.crashed;
       user = values.user;
+      bits = values.bits;
     }
 
 -- two contexts say the same: at most the places of their texts in memory differ
@@ -46,3 +47,4 @@ pub record SaysSame (a b : Context) : Type 0 where
   pub ppid : a.ppid ≡ b.ppid
   pub crashed : a.crashed ≡ b.crashed
   pub user : a.user ≡ b.user
+  pub bits : a.bits ≡ b.bits

@@ -1,8 +1,8 @@
 -- The keys of descriptive values: their words, the limits of their numbers, and what each sets.
-use Rattle.std.specs.Prelude.{ℕ, ◌^◌, List, Option, Some, None, ◌==◌, if◌then◌else◌, codes}
+use Rattle.std.specs.Prelude.{◌≤◌, ◌<◌, ℕ, ◌^◌, List, Option, Some, None, ◌==◌, if◌then◌else◌, codes}
 use Rattle.std.specs.Str.{bytes_eq}
 use Rattle.plcr_script.specs.declared.keys.NumberKey.{NumberKey}
-use Rattle.plcr_script.specs.declared.keys.NumberKey.TheVariants.{Os, Timestamp, Address, Pid, Ppid, Crashed, User}
+use Rattle.plcr_script.specs.declared.keys.NumberKey.TheVariants.{Os, Timestamp, Address, Pid, Ppid, Crashed, User, Bits}
 use Rattle.plcr_script.specs.declared.keys.TextKey.{TextKey}
 use Rattle.plcr_script.specs.declared.keys.TextKey.TheVariants.{OsVersion, Identifier, Version, Signal, Code, Process}
 use Rattle.plcr_script.specs.declared.values.DescriptiveValues.{DescriptiveValues}
@@ -16,7 +16,8 @@ number_key_in word =
     if bytes_eq word (codes "pid") then Some Pid else
     if bytes_eq word (codes "ppid") then Some Ppid else
     if bytes_eq word (codes "crashed") then Some Crashed else
-    if bytes_eq word (codes "user") then Some User else None
+    if bytes_eq word (codes "user") then Some User else
+    if bytes_eq word (codes "bits") then Some Bits else None
 
 -- the key of a text by its word
 abbrev pub text_key_in : List ℕ → Option TextKey
@@ -28,6 +29,17 @@ text_key_in word =
     if bytes_eq word (codes "code") then Some Code else
     if bytes_eq word (codes "process") then Some Process else None
 
+-- the least number of a key
+abbrev pub least_of : NumberKey → ℕ
+least_of Os = 0
+least_of Timestamp = 0
+least_of Address = 0
+least_of Pid = 0
+least_of Ppid = 0
+least_of Crashed = 0
+least_of User = 0
+least_of Bits = 32
+
 -- one past the greatest number of a key
 abbrev pub limit_of : NumberKey → ℕ
 limit_of Os = 3
@@ -37,6 +49,11 @@ limit_of Pid = 2 ^ 32
 limit_of Ppid = 2 ^ 32
 limit_of Crashed = 2 ^ 32
 limit_of User = 2
+limit_of Bits = 65
+
+-- the number is one of the key's
+abbrev pub IsAllowed : NumberKey → ℕ → Type 0
+IsAllowed key number = (least_of key ≤ number) × (number < limit_of key)
 
 -- the values with another number for a key; for `user` 1 is yes
 abbrev pub with_number : NumberKey → ℕ → DescriptiveValues → DescriptiveValues
@@ -47,6 +64,7 @@ with_number Pid number values = record values { pid = number }
 with_number Ppid number values = record values { ppid = number }
 with_number Crashed number values = record values { crashed = number }
 with_number User number values = record values { user = number == 1 }
+with_number Bits number values = record values { bits = number }
 
 -- the values with another text for a key
 abbrev pub with_text : TextKey → List ℕ → DescriptiveValues → DescriptiveValues

@@ -13,7 +13,7 @@ use Rattle.plcr_script.specs.declared.statements.Statement.{Statement}
 use Rattle.plcr_script.specs.declared.statements.Statement.TheVariants.{Load, Unload, Report}
 use Rattle.plcr_script.specs.Splits.{words, first_word}
 use Rattle.plcr_script.specs.Numerals.{number_in, below}
-use Rattle.plcr_script.specs.Keys.{number_key_in, text_key_in, limit_of}
+use Rattle.plcr_script.specs.Keys.{number_key_in, text_key_in, least_of, limit_of}
 use Rattle.plcr_script.specs.Refusals.{or_refuse, only_if}
 
 -- what a line says: the sizes of the image list, a descriptive value, or a statement of the run
@@ -54,9 +54,13 @@ table_in (nodes ∷ passes ∷ []) = do
   Ok (Sizes most_nodes most_passes)
 table_in (nodes ∷ passes ∷ more ∷ others) = Err TooMany
 
--- the value of a key: a number below its limit, or any text
+-- the number of a key that a word writes
+abbrev pub number_for : NumberKey → List ℕ → Result ℕ Kind
+number_for key word = number_below (limit_of key) word >>= λ number. only_if BadNumber (nat_le (least_of key) number) number
+
+-- the value of a key: one of its numbers, or any text
 abbrev pub value_in : Option NumberKey → Option TextKey → List ℕ → Result Saying Kind
-value_in (Some key) other value = number_below (limit_of key) value >>= λ number. Ok (Number key number)
+value_in (Some key) other value = number_for key value >>= λ number. Ok (Number key number)
 value_in None (Some key) value = Ok (Words key value)
 value_in None None value = Err BadWord
 

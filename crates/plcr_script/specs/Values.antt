@@ -18,4 +18,5 @@ default_values = record {
   ppid = 0;
   crashed = 0;
   user = false;
+  bits = 64;
 }

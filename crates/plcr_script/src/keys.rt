@@ -12,6 +12,7 @@ pub enum NumberKey {
     Ppid,
     Crashed,
     User,
+    Bits,
 }
 
 /// A key whose value is a text.
@@ -50,6 +51,9 @@ pub(crate) fn number_key(word: &[u8]) -> Option<NumberKey>
     if word == b"user".as_slice() {
         return Some(NumberKey::User);
     }
+    if word == b"bits".as_slice() {
+        return Some(NumberKey::Bits);
+    }
     None
 }
 
@@ -78,6 +82,16 @@ pub(crate) fn text_key(word: &[u8]) -> Option<TextKey>
     None
 }
 
+/// The least number of a key.
+pub(crate) fn least_of(key: NumberKey) -> u128
+    ensures { result ≡ keys.least_of key }
+{
+    match key {
+        NumberKey::Bits => 32,
+        _ => 0,
+    }
+}
+
 /// One past the greatest number of a key.
 pub(crate) fn limit_of(key: NumberKey) -> u128
     ensures { result ≡ keys.limit_of key }
@@ -90,5 +104,6 @@ pub(crate) fn limit_of(key: NumberKey) -> u128
         NumberKey::Ppid => 1 << 32,
         NumberKey::Crashed => 1 << 32,
         NumberKey::User => 2,
+        NumberKey::Bits => 65,
     }
 }

@@ -101,6 +101,7 @@ impl Script {
             ppid: values.ppid,
             crashed: values.crashed,
             user: values.user,
+            bits: values.bits,
         }
     }
 }

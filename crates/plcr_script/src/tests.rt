@@ -111,6 +111,9 @@ fn values_are_read_or_refused(rt: HostRuntime) {
             ("set crashed 4294967296", (0, 1, 2)),
             ("set user 1\nset user 0", (0, 0, 0)),
             ("set user 2", (0, 1, 2)),
+            ("set bits 32\nset bits 64", (0, 0, 0)),
+            ("set bits 31", (0, 1, 2)),
+            ("set bits 65", (0, 1, 2)),
             ("set osversion ", (0, 0, 0)),
             ("set code a b\r\0 ", (0, 0, 0)),
             ("unload 1\nset os 1", (0, 2, 6)),
@@ -210,11 +213,12 @@ fn a_script_tells_its_loads_and_sizes(rt: HostRuntime) -> Result<(), Fail> {
 fn the_last_value_of_a_key_counts(rt: HostRuntime) -> Result<(), Fail> {
     let text = b"set os 2\nset os 1\nset osversion 12 \nset timestamp 7\nset identifier a.b\n\
         set version \nset signal S\nset code c d\nset address 0xff\nset process p\nset pid 3\n\
-        set ppid 4\nset crashed 5\nset user 1\nset process a b\nunload 1";
+        set ppid 4\nset crashed 5\nset bits 47\nset user 1\nset process a b\nunload 1";
     let script = read_script(rt.alloc(), text, Mode::Single, &[])?;
     let context = script.context(Arch::Arm64);
     assert!(rt; context.os == 1 && context.timestamp == 7 && context.address == 255);
     assert!(rt; context.pid == 3 && context.ppid == 4 && context.crashed == 5 && context.user);
+    assert_eq!(rt; context.bits, 47);
     assert_eq!(rt; context.os_version, b"12 ".as_slice());
     assert_eq!(rt; context.identifier, b"a.b".as_slice());
     assert_eq!(rt; context.version, b"".as_slice());

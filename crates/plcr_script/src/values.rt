@@ -21,10 +21,11 @@ pub struct DescriptiveValues {
     pub ppid: u32,
     pub crashed: u32,
     pub user: bool,
+    pub bits: u8,
 }
 
 impl DescriptiveValues {
-    ghost use Rattle.plcr_script.specs.Keys.{limit_of, with_number, with_text};
+    ghost use Rattle.plcr_script.specs.Keys.{IsAllowed, with_number, with_text};
     ghost use Rattle.plcr_script.specs.Values.{default_values};
 
     /// The values of a script that sets none.
@@ -45,12 +46,13 @@ impl DescriptiveValues {
             ppid: 0,
             crashed: 0,
             user: false,
+            bits: 64,
         })
     }
 
     /// Sets the number of a key.
     pub(crate) fn set_number(&mut self, key: NumberKey, number: u64)
-        requires { number < limit_of key }
+        requires { IsAllowed key number }
         ensures { self.new ≡ with_number key number self.old }
     {
         match key {
@@ -61,6 +63,7 @@ impl DescriptiveValues {
             NumberKey::Ppid => self.ppid = number as u32,
             NumberKey::Crashed => self.crashed = number as u32,
             NumberKey::User => self.user = number == 1,
+            NumberKey::Bits => self.bits = number as u8,
         }
     }
 

@@ -4,13 +4,13 @@ ghost use Rattle.std.specs.List.{list_all};
 ghost use Rattle.std.specs.Option.{option_copied};
 ghost use Rattle.plcr_script.specs.Splits.{words};
 ghost use Rattle.plcr_script.specs.Sayings as sayings;
-ghost use Rattle.plcr_script.specs.Sayings.{table_in, set_in, load_in, unload_in, report_in, saying_of, saying_in, value_in, number_to};
+ghost use Rattle.plcr_script.specs.Sayings.{table_in, set_in, load_in, unload_in, report_in, saying_of, saying_in, value_in, number_for, number_to};
 ghost use Rattle.plcr_script.specs.inner.Fits.{IsFit};
-ghost use Rattle.plcr_script.specs.Keys.{number_key_in, text_key_in};
+ghost use Rattle.plcr_script.specs.Keys.{IsAllowed, number_key_in, text_key_in};
 ghost use Rattle.plcr_script.specs.inner.Wording.{IsWorded, said};
 
 use crate::faults::Kind;
-use crate::keys::{NumberKey, TextKey, limit_of, number_key, text_key};
+use crate::keys::{NumberKey, TextKey, least_of, limit_of, number_key, text_key};
 use crate::numerals::{long_number, number_below, small_number};
 use crate::splitting::first_word;
 use plcr_io::FILE_NAME_BYTES;
@@ -131,6 +131,23 @@ fn set<'a>(arguments: Option<&'a [u8]>) -> Result<Wording<'a>, Kind>
     setting(key, value)
 }
 
+/// The number of a key that a word writes.
+fn number_for(key: NumberKey, word: &[u8]) -> Result<u64, Kind>
+    ensures number { result ≡ number_for key word.now }
+    ensures allowed { IfOk result (IsAllowed key) }
+{
+    match number_below(limit_of(key), word) {
+        None => Err(Kind::BadNumber),
+        Some(number) => {
+            if number < least_of(key) {
+                Err(Kind::BadNumber)
+            } else {
+                Ok(number as u64)
+            }
+        }
+    }
+}
+
 /// The value of a key.
 fn setting<'a>(key: &[u8], value: &'a [u8]) -> Result<Wording<'a>, Kind>
     requires { length value.now < 2 ^ 32 }
@@ -138,12 +155,9 @@ fn setting<'a>(key: &[u8], value: &'a [u8]) -> Result<Wording<'a>, Kind>
     ensures fits { IfOk result (λ wording. IsFit (said wording)) }
 {
     if let Some(key) = number_key(key) {
-        return match number_below(limit_of(key), value) {
-            None => Err(Kind::BadNumber),
-            Some(number) => Ok(Wording::Number {
-                key,
-                number: number as u64,
-            }),
+        return match number_for(key, value) {
+            Err(kind) => Err(kind),
+            Ok(number) => Ok(Wording::Number { key, number }),
         };
     }
     match text_key(key) {
