@@ -2,9 +2,11 @@
 #![tactic(auto)]
 
 mod bad;
+mod laws;
 mod saved;
 
 pub use bad::{DOES_NOT_RISE, NO_FRAME_POINTER, NOT_MAPPED};
+pub use laws::callers_rise;
 pub use saved::step;
 
 #[cfg(test)]

@@ -56,6 +56,7 @@ fn caller_with(arch: Arch, bits: u8, pc: u64, fp: u64, sp: u64) -> Step {
 
 #[test]
 fn a_caller_is_found_without_its_signature(rt: HostRuntime) -> Result<(), Fail> {
+    callers_rise();
     let signed = 0x002a_0001_0000_4100;
     // The architecture, the bits, the address to which the call returns, and the pc of the caller.
     let cases = [
