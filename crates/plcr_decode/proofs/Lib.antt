@@ -11,3 +11,4 @@ pub mod AgainReport
 pub mod Bounds
 pub mod Lines
 pub mod AnyEnd
+pub mod Escaping

@@ -1,5 +1,5 @@
 -- How a loop writes the texts of several, one after the other.
-use Rattle.std.proofs.Common.{◌≡◌, ℕ, zero, suc, ◌+◌, ◌-◌, ◌/◌, ◌%◌, ◌<◌, ◌≤◌, List, [], ◌∷◌, ◌++◌, length, map, take, get_or, refl, sym, ap, subst, ◌∙◌, append_assoc, append-nil, add-one, arith}
+use Rattle.std.proofs.Common.{◌≡◌, ℕ, zero, suc, ◌+◌, ◌-◌, ◌/◌, ◌%◌, ◌<◌, ◌≤◌, List, [], ◌∷◌, ◌++◌, length, map, take, drop, set, get_or, refl, sym, ap, subst, ◌∙◌, append_assoc, append-nil, add-one, arith}
 use Rattle.plcr_wire.specs.Pen.{Pen, Wrote}
 use Rattle.plcr_wire.proofs.Writing.{wrote_none, wrote_twice}
 use Rattle.plcr_decode.specs.Text.{all_from, hex_digit, hex}
@@ -38,18 +38,35 @@ pub all_map : {A : Type 0} (text : ℕ → List ℕ → List ℕ) (word : A → 
 all_map text word n [] = refl
 all_map text word n (x ∷ xs) = ap (λ l. text n (word x) ++ l) (all_map text word (n + 1) xs)
 
-hex_more : (k n : ℕ) → 0 < k → hex k n ≡ hex (k - 1) (n / 16) ++ hex_digit (n % 16) ∷ []
+hex_next : (j n : ℕ) → hex (suc j) n ≡ hex j (n / 16) ++ hex_digit (n % 16) ∷ []
 unfolding hex
-hex_more zero n h = absurd (omega arith)
-hex_more (suc k) n h = let e : suc k - 1 ≡ k = omega arith in rw e refl
+hex_next j n = refl
 
--- no digit
-pub wrote_no_digit : (pen : Pen) (k n : ℕ) → k ≡ 0 → Wrote pen pen (hex k n)
+drop_set : (xs : List ℕ) (j d : ℕ) → j < length xs → drop j (set xs j d) ≡ d ∷ drop (suc j) xs
+drop_set [] j d h = absurd (omega arith)
+drop_set (x ∷ xs) zero d h = refl
+drop_set (x ∷ xs) (suc j) d h = drop_set xs j d (omega arith)
+
+-- one more digit before those that are there
+pub digits_more : (k j p rest d : ℕ) (digits all : List ℕ) → k ≡ suc j → p ≡ j → j < length digits → d ≡ hex_digit (rest % 16) → hex k rest ++ drop k digits ≡ all
+    → hex j (rest / 16) ++ drop j (set digits p d) ≡ all
+digits_more k j p rest d digits all e q h is before =
+    let more : hex (suc j) rest ++ drop (suc j) digits ≡ all = rw e at before in
+    ap (λ p. hex j (rest / 16) ++ drop j (set digits p d)) q
+    ∙ ap (λ l. hex j (rest / 16) ++ l) (drop_set digits j d h)
+    ∙ sym (append_assoc (hex j (rest / 16)) (d ∷ []) (drop (suc j) digits))
+    ∙ ap (λ l. l ++ drop (suc j) digits) (ap (λ x. hex j (rest / 16) ++ x ∷ []) is ∙ sym (hex_next j rest))
+    ∙ more
+
+-- all digits are there
+pub digits_all : (k rest : ℕ) (digits all : List ℕ) → k ≡ 0 → hex k rest ++ drop k digits ≡ all → digits ≡ all
 unfolding hex
-wrote_no_digit pen zero n h = wrote_none pen
-wrote_no_digit pen (suc k) n h = absurd (omega arith)
+digits_all zero rest digits all e h = h
+digits_all (suc k) rest digits all e h = absurd (omega arith)
 
--- one more digit
-pub wrote_digit : (old mid new : Pen) (k n d : ℕ) → 0 < k → d ≡ hex_digit (n % 16) → Wrote old mid (hex (k - 1) (n / 16)) → Wrote mid new (d ∷ []) → Wrote old new (hex k n)
-wrote_digit old mid new k n d some e before wrote =
-    subst (Wrote old new) (ap (λ d. hex (k - 1) (n / 16) ++ d ∷ []) e ∙ sym (hex_more k n some)) (wrote_twice old mid new (hex (k - 1) (n / 16)) (d ∷ []) before wrote)
+-- the digits of a byte
+pub pair_is : (b x y : ℕ) → b < 256 → x ≡ hex_digit (b / 16) → y ≡ hex_digit (b % 16) → x ∷ y ∷ [] ≡ hex 2 b
+unfolding hex
+pair_is b x y h high low =
+    let e : b / 16 % 16 ≡ b / 16 = omega arith in
+    ap (λ x. x ∷ y ∷ []) (high ∙ ap hex_digit (sym e)) ∙ ap (λ y. hex_digit (b / 16 % 16) ∷ y ∷ []) low

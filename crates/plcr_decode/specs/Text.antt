@@ -32,9 +32,13 @@ hex (suc k) n = hex k (n / 16) ++ hex_digit (n % 16) ∷ []
 unfoldable pub address : ℕ → List ℕ
 address n = codes "0x" ++ hex 16 n
 
--- a byte of a text: itself if it can be seen and is no backslash, else `\x` and two digits
+-- a byte of a text that can be seen and is no backslash
+abbrev pub is_plain : ℕ → Bool
+is_plain b = nat_lt 32 b && nat_lt b 127 && not (b == 92)
+
+-- a byte of a text: itself where it is plain, else `\x` and two digits
 unfoldable pub byte_text : ℕ → List ℕ
-byte_text b = if nat_lt 32 b && nat_lt b 127 && not (b == 92) then b ∷ [] else 92 ∷ 120 ∷ hex 2 b
+byte_text b = if is_plain b then b ∷ [] else 92 ∷ 120 ∷ hex 2 b
 
 -- a text byte by byte; an empty one is `\-`
 unfoldable pub shown : List ℕ → List ℕ

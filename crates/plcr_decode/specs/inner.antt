@@ -1,5 +1,6 @@
 -- Definitions that only private functions' contracts cite.
 pub mod Entries
+pub mod Escapes
 pub mod Judging
 pub mod Views
 pub mod Words

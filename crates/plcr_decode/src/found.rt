@@ -6,7 +6,7 @@ ghost use Rattle.plcr_decode.specs.inner.Views.{Keeps, kept, left, shown, told};
 
 use crate::fields::Fields;
 use crate::scanning::text_of;
-use plcr_wire::{ValueSlice, FieldSlice};
+use plcr_wire::{FieldSlice, ValueSlice};
 use std::marker::Model;
 
 /// Every known field has a number below this one.

@@ -1,13 +1,18 @@
 //! Words of the text form, written to ink.
-ghost use Rattle.std.specs.Prelude.{◌≡◌, ◌+◌, ◌<◌, ◌≤◌, ◌==◌, [], ◌∷◌, ◌++◌, ℕ, length, map, decimal, codes};
+ghost use Rattle.std.specs.Prelude.{◌≡◌, ◌+◌, ◌<◌, ◌≤◌, ◌==◌, [], ◌∷◌, ◌++◌, ℕ, length, take, map, decimal, codes};
 ghost use Rattle.std.specs.Fmt.{signed_decimal};
 ghost use Rattle.plcr_wire.specs.Pen.{Wrote};
 ghost use Rattle.plcr_decode.specs.Text as spec;
+ghost use Rattle.plcr_decode.specs.declared.ink.TheConstants.{ADDRESS_DIGITS};
 ghost use Rattle.plcr_decode.specs.inner.Words.{word_text};
+ghost use Rattle.plcr_decode.specs.inner.Escapes.{escaped, EscapesUpTo};
 
 use crate::written::{Written, put_each};
 use itoa::Buffer;
 use plcr_wire::Ink;
+
+/// An address is written with so many digits.
+const ADDRESS_DIGITS: usize = 16;
 
 /// A word of a line.
 #[derive(Clone, Copy)]
@@ -38,15 +43,24 @@ fn hex_digit(digit: u8) -> u8
     }
 }
 
-/// Writes so many hexadecimal digits of a number.
-fn put_hex<W: Ink>(ink: &mut W, digits: u32, number: u64)
-    ensures { Wrote (W.pen ink.old) (W.pen ink.new) (spec.hex digits number) }
+/// The sixteen hexadecimal digits of a number.
+fn hex_digits(number: u64) -> [u8; ADDRESS_DIGITS]
+    ensures { result ≡ spec.hex ADDRESS_DIGITS number }
 {
-    if digits == 0 {
-        return;
+    let mut digits = [0; ADDRESS_DIGITS];
+    let mut rest = number;
+    for i in 0..ADDRESS_DIGITS {
+        digits[ADDRESS_DIGITS - 1 - i] = hex_digit((rest % 16) as u8);
+        rest /= 16;
     }
-    put_hex(ink, digits - 1, number / 16);
-    ink.raw(&[hex_digit((number % 16) as u8)]);
+    digits
+}
+
+/// The two hexadecimal digits of a byte.
+fn hex_pair(byte: u8) -> [u8; 2]
+    ensures { result ≡ spec.hex 2 byte }
+{
+    [hex_digit(byte / 16), hex_digit(byte % 16)]
 }
 
 /// Writes an address.
@@ -55,7 +69,14 @@ fn put_address<W: Ink>(ink: &mut W, number: u64)
     ensures { Wrote (W.pen ink.old) (W.pen ink.new) (spec.address number) }
 {
     ink.raw(b"0x");
-    put_hex(ink, 16, number);
+    ink.raw(&hex_digits(number));
+}
+
+/// Whether a byte of a text stands there as it is.
+fn is_plain(byte: u8) -> bool
+    ensures { result ≡ spec.is_plain byte }
+{
+    byte > 32 && byte < 127 && byte != b'\\'
 }
 
 /// Writes a byte of a text.
@@ -63,15 +84,43 @@ fn put_address<W: Ink>(ink: &mut W, number: u64)
 fn put_byte<W: Ink>(ink: &mut W, byte: u8)
     ensures { Wrote (W.pen ink.old) (W.pen ink.new) (spec.byte_text byte) }
 {
-    if byte > 32 && byte < 127 && byte != b'\\' {
+    if is_plain(byte) {
         ink.raw(&[byte]);
     } else {
-        ink.raw(b"\\x");
-        put_pair(ink, byte);
+        let [high, low] = hex_pair(byte);
+        ink.raw(&[b'\\', b'x', high, low]);
     }
 }
 
-/// Writes a text byte by byte.
+/// How many bytes of a text stand there as they are, before the first that doesn't.
+fn plain_len(text: &[u8]) -> usize
+    ensures within { result ≤ length text.now }
+    ensures plain { escaped (take result text.now) ≡ take result text.now }
+{
+    for i in 0..text.len() {
+        if !is_plain(text[i]) {
+            return i;
+        }
+    }
+    text.len()
+}
+
+/// Writes the bytes of a text that stand there as they are, and the next one. Gives those after it.
+fn put_run<'a, W: Ink>(ink: &mut W, text: &'a [u8]) -> &'a [u8]
+    requires { 0 < length text.now }
+    ensures front { EscapesUpTo (W.pen ink.old) (W.pen ink.new) text.now result.now }
+    ensures shorter { length result.now < length text.now }
+{
+    let (plain, after) = text.split_at(plain_len(text));
+    ink.raw(plain);
+    let Some((byte, rest)) = after.split_first() else {
+        return after;
+    };
+    put_byte(ink, *byte);
+    rest
+}
+
+/// Writes a text, its bytes run by run.
 #[tactic(auto, unfolding(crate::specs::Text::shown))]
 fn put_shown<W: Ink>(ink: &mut W, text: &[u8])
     ensures { Wrote (W.pen ink.old) (W.pen ink.new) (spec.shown text.now) }
@@ -83,11 +132,13 @@ fn put_shown<W: Ink>(ink: &mut W, text: &[u8])
     }
 }
 
+#[tactic(auto, using(crate::proofs::Escaping::escapes_none, crate::proofs::Escaping::escapes_more, crate::proofs::Escaping::escapes_all))]
 fn put_shown_bytes<W: Ink>(ink: &mut W, text: &[u8])
-    ensures { Wrote (W.pen ink.old) (W.pen ink.new) (spec.all_from (λ n b. spec.byte_text b) 0 text.now) }
+    ensures { Wrote (W.pen ink.old) (W.pen ink.new) (escaped text.now) }
 {
-    for i in 0..text.len() {
-        put_byte(ink, text[i]);
+    let mut rest = text;
+    while !rest.is_empty() {
+        rest = put_run(ink, rest);
     }
 }
 
@@ -107,15 +158,8 @@ fn put_hex_bytes<W: Ink>(ink: &mut W, bytes: &[u8])
     ensures { Wrote (W.pen ink.old) (W.pen ink.new) (spec.all_from (λ n b. spec.hex 2 b) 0 bytes.now) }
 {
     for i in 0..bytes.len() {
-        put_pair(ink, bytes[i]);
+        ink.raw(&hex_pair(bytes[i]));
     }
-}
-
-/// Writes a byte in hexadecimal.
-fn put_pair<W: Ink>(ink: &mut W, byte: u8)
-    ensures { Wrote (W.pen ink.old) (W.pen ink.new) (spec.hex 2 byte) }
-{
-    put_hex(ink, 2, u64::from(byte));
 }
 
 /// Writes a word.

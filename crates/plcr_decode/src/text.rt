@@ -15,7 +15,7 @@ use plcr_report::{
     Application, Bytes, Frame, Image, Info, Process, Register, Report, Signal, System, Thread,
     VERSION,
 };
-use plcr_wire::{Buffered, Ink};
+use plcr_wire::{BufferedText, Ink};
 
 fn put_version<W: Ink>(ink: &mut W)
     ensures { Wrote (W.pen ink.old) (W.pen ink.new) spec.version_line }
@@ -193,7 +193,8 @@ fn put_report<W: Ink>(ink: &mut W, report: &Report)
 
 /// Writes a report as lines of text, each with a newline: its version, its system and application, its threads
 /// with their frames and registers, its images, and its signal, process and info where they are there. Bytes of
-/// a text that can't be seen, spaces and backslashes are written as `\x` and two digits. Takes no memory.
+/// a text that can't be seen, spaces and backslashes are written as `\x` and two digits. Takes no memory. The sink is
+/// given pieces of at most 4,096 bytes.
 ///
 /// # Errors
 ///
@@ -205,7 +206,7 @@ pub fn write_text<K: Sink>(report: &Report, sink: &mut K) -> Result<(), PutFaile
     ensures later { K.faults sink.old ≤ K.faults sink.new }
     ensures mark { K.mark sink.new ≡ K.mark sink.old }
 {
-    let mut buffered = Buffered::new(sink);
+    let mut buffered = BufferedText::new(sink);
     put_report(&mut buffered, report);
     buffered.finish()?;
     Ok(())

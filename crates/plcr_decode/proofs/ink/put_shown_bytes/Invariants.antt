@@ -1,8 +1,10 @@
-use Rattle.std.proofs.Common.{take}
-use Rattle.plcr_wire.specs.Pen.{Wrote}
-use Rattle.plcr_decode.specs.Text.{all_from, byte_text}
+use Rattle.std.proofs.Common.{length}
+use Rattle.plcr_decode.specs.inner.Escapes.{EscapesUpTo}
 use Rattle.plcr_decode.proofs.ink.put_shown_bytes.Given as goal
 
--- those before i are written
-abbrev pub invariant-loop-i : goal.invariant-loop-i
-invariant-loop-i g l = Wrote (g.W.Put.pen l.initial.ink) (g.W.Put.pen l.ink) (all_from (λ n b. byte_text b) 0 (take l.i l.text))
+-- a front is written, and the rest is left
+abbrev pub invariant-loop-rest : goal.invariant-loop-rest
+invariant-loop-rest g l = EscapesUpTo (g.W.Put.pen l.initial.ink) (g.W.Put.pen l.ink) l.text l.rest
+
+abbrev pub decreases-loop-rest : goal.decreases-loop-rest
+decreases-loop-rest g l = length l.rest

@@ -1,7 +1,0 @@
-use Rattle.std.proofs.Common.{arith}
-use Rattle.plcr_decode.specs.Text.{byte_text}
-use Rattle.plcr_decode.proofs.Lines.{wrote_next}
-use Rattle.plcr_decode.proofs.ink.put_shown_bytes.Goals as goal
-
-pub loop-i-preserved : goal.loop-i-preserved
-loop-i-preserved g c = wrote_next (λ n b. byte_text b) _ _ _ c.args.text.now c.loop-i.i _ (omega arith) c.loop-i.invariant c.put_byte.ensures
