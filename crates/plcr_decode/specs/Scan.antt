@@ -1,5 +1,5 @@
 -- The first fault of a message's bytes, in reading order, with each known submessage read where it stands.
-use Rattle.std.specs.Prelude.{ℕ, zero, suc, ◌-◌, ◌==◌, Bool, true, List, [], ◌∷◌, length, Option, Some, None, Result, Ok, Err, if◌then◌else◌}
+use Rattle.std.specs.Prelude.{◌≡◌, ◌<◌, ℕ, zero, suc, ◌-◌, ◌==◌, Bool, true, List, [], ◌∷◌, length, Option, Some, None, Result, Ok, Err, if◌then◌else◌}
 use Rattle.plcr_wire.specs.Message.{Value, wire_type, value_bytes}
 use Rattle.plcr_base.specs.Chains.{◌>>=◌}
 use Rattle.plcr_wire.specs.Reading.{field_at}
@@ -62,3 +62,9 @@ scan_within (suc k) kind end (b ∷ bs) = step_at kind end (b ∷ bs) >>= λ s.
 -- the first fault of a message that ends at this place; each field has a byte at least
 unfoldable pub scan : Kind → ℕ → List ℕ → Result (Unit {0}) DecodeFault
 scan kind end bytes = scan_within (length bytes) kind end bytes
+
+-- a message's scan by the scans of its parts: its first field, the message within that, and what is left; no part of it is cut off
+pub record ScanByParts : Type 0 where
+  pub none : (kind : Kind) (end : ℕ) → scan kind end [] ≡ Ok tt
+  pub step : (kind : Kind) (end : ℕ) (bytes : List ℕ) → 0 < length bytes
+      → scan kind end bytes ≡ (step_at kind end bytes >>= λ s. (scan s.kind (end - length s.rest) s.text >>= λ u. scan kind end s.rest))

@@ -2,5 +2,6 @@
 pub mod Entries
 pub mod Escapes
 pub mod Judging
+pub mod Lasts
 pub mod Views
 pub mod Words

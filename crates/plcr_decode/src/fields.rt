@@ -104,20 +104,6 @@ impl<'a> Fields<'a> {
         }
     }
 
-    /// Whether a field of this number stands there.
-    #[tactic(auto, using(crate::proofs::Listed::has_step))]
-    pub(crate) fn has(self, number: u32) -> bool
-        ensures { result ≡ has number (left self.entry) }
-    {
-        let mut left = self;
-        while let Some(piece) = left.next() {
-            if piece.number == number {
-                return true;
-            }
-        }
-        false
-    }
-
     /// The bytes of the next message that stands in a field of this number.
     pub(crate) fn next_message(&mut self, number: u32) -> Option<&'a [u8]>
         ensures next { MatchOption result (messages_in number (left self.old) ≡ []) (λ m. messages_in number (left self.old) ≡ fields_of m.now ∷ messages_in number (left self.new)) }

@@ -7,6 +7,7 @@ ghost use Rattle.plcr_decode.specs.Covered.{FieldsCover};
 ghost use Rattle.plcr_decode.specs.Fits.{HasFile};
 ghost use Rattle.plcr_decode.specs.Reads.{reads};
 ghost use Rattle.plcr_decode.specs.Required.{WholeByParts};
+ghost use Rattle.plcr_decode.specs.Scan.{ScanByParts};
 
 /// The file of a report spells that report, where each of its numbers has the width of its type and the file
 /// has fewer than 2^64 bytes.
@@ -25,4 +26,10 @@ pub fn fields_cover()
 #[tactic(auto, using(crate::proofs::Levels::whole_by_parts))]
 pub fn whole_by_parts()
     ensures { WholeByParts }
+{}
+
+/// The first fault of a message is that of its first field, or of the message within it, or of what is left, and each
+/// of these is scanned whole.
+pub fn scan_by_parts()
+    ensures { ScanByParts }
 {}

@@ -19,8 +19,11 @@ mod text;
 mod written;
 
 pub use faults::DecodeFault;
-pub use laws::{fields_cover, reads_again, whole_by_parts};
-pub use plcr_report::{Kind, Report};
+pub use laws::{fields_cover, reads_again, scan_by_parts, whole_by_parts};
+pub use plcr_report::{
+    Application, Bytes, Frame, Image, Info, Kind, Process, Processor, Register, Report, Rows,
+    Signal, Symbol, System, Thread,
+};
 pub use reader::decode;
 pub use text::write_text;
 

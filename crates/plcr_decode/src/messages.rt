@@ -1,11 +1,13 @@
 //! The values of a report's messages.
-ghost use Rattle.std.specs.Prelude.{◌≡◌, List, length, map, IfOk};
+ghost use Rattle.std.specs.Prelude.{◌≡◌, ◌<◌, List, length, map, IfOk};
+ghost use Rattle.plcr_decode.specs.declared.found.TheConstants.{NUMBERS};
 ghost use Rattle.plcr_wire.specs.Message.{Field};
 ghost use Rattle.plcr_decode.specs.Fields.{fields_of, messages_in};
 ghost use Rattle.plcr_decode.specs.Values.{one_in};
 ghost use Rattle.plcr_decode.specs.inner.Views.{left};
 
 use crate::fields::Fields;
+use crate::found::Found;
 use plcr_report::Rows;
 use std::alloc::{AllocError, Global};
 
@@ -27,18 +29,21 @@ pub(crate) trait Row: Sized {
         ensures { IfOk result (λ x. x ≡ value (fields_of bytes.now)) };
 }
 
-/// The one message in the fields of this number, where there is one.
-pub(crate) fn build_one<T: Part>(
+/// The one message in the fields of this number, where there is one. What was found are the fields of these bytes.
+pub(crate) fn build_one<'a, T: Part>(
     alloc: Global,
-    bytes: &[u8],
+    found: &Found<'a>,
+    bytes: &'a [u8],
     number: u32,
 ) -> Result<Option<T>, AllocError>
+    requires within { number < NUMBERS }
+    requires whole { found.now ≡ fields_of bytes.now }
     ensures { IfOk result (λ x. x ≡ one_in T.value number (fields_of bytes.now)) }
 {
-    if !Fields::of(bytes).has(number) {
+    if !found.has(number) {
         return Ok(None);
     }
-    Ok(Some(T::build(alloc, Fields::joined(bytes, number))?))
+    Ok(Some(T::build(alloc, found.message(bytes, number))?))
 }
 
 /// How many messages stand in the fields of this number.

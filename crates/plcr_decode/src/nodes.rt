@@ -16,9 +16,10 @@ impl Row for Frame {
 
     #[tactic(auto, unfolding(crate::specs::Values::frame_of))]
     fn build(alloc: Global, bytes: &[u8]) -> Result<Frame, AllocError> {
+        let found = Found::of(Fields::of(bytes));
         Ok(Frame {
-            pc: Found::of(Fields::of(bytes)).number_or_zero(Frame::PC),
-            symbol: build_one::<Symbol>(alloc, bytes, Frame::SYMBOL)?,
+            pc: found.number_or_zero(Frame::PC),
+            symbol: build_one::<Symbol>(alloc, &found, bytes, Frame::SYMBOL)?,
         })
     }
 }
@@ -49,7 +50,7 @@ impl Row for Image {
             size: found.number_or_zero(Image::SIZE),
             name: owned(alloc, found.text_or_empty(Image::NAME))?,
             uuid: owned_where(alloc, found.text(Image::UUID))?,
-            code_type: build_one::<Processor>(alloc, bytes, Image::CODE_TYPE)?,
+            code_type: build_one::<Processor>(alloc, &found, bytes, Image::CODE_TYPE)?,
         })
     }
 }
@@ -59,17 +60,18 @@ impl Row for Report {
 
     #[tactic(auto, unfolding(crate::specs::Values::report_of))]
     fn build(alloc: Global, bytes: &[u8]) -> Result<Report, AllocError> {
-        let system = Fields::joined(bytes, Report::SYSTEM_INFO);
-        let application = Fields::joined(bytes, Report::APPLICATION_INFO);
-        let signal = Fields::joined(bytes, Report::SIGNAL);
+        let found = Found::of(Fields::of(bytes));
+        let system = found.message(bytes, Report::SYSTEM_INFO);
+        let application = found.message(bytes, Report::APPLICATION_INFO);
+        let signal = found.message(bytes, Report::SIGNAL);
         Ok(Report {
             system_info: System::build(alloc, system)?,
             application_info: Application::build(alloc, application)?,
             threads: build_rows::<Thread>(alloc, bytes, Report::THREADS)?,
             binary_images: build_rows::<Image>(alloc, bytes, Report::BINARY_IMAGES)?,
             signal: Signal::build(alloc, signal)?,
-            process_info: build_one::<Process>(alloc, bytes, Report::PROCESS_INFO)?,
-            report_info: build_one::<Info>(alloc, bytes, Report::REPORT_INFO)?,
+            process_info: build_one::<Process>(alloc, &found, bytes, Report::PROCESS_INFO)?,
+            report_info: build_one::<Info>(alloc, &found, bytes, Report::REPORT_INFO)?,
         })
     }
 }

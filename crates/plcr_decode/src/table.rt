@@ -1,8 +1,8 @@
 //! The fields of each message, after PLCrashReporter's crash_report.proto: what they hold, and how often they stand
 //! there.
 ghost use Rattle.std.specs.Prelude.{◌≡◌};
-ghost use Rattle.plcr_decode.specs.inner.Entries.{row_of, rows_of};
-ghost use Rattle.plcr_report.specs.Schema.{rows, rule, holds_in};
+ghost use Rattle.plcr_decode.specs.inner.Entries.{rows_of};
+ghost use Rattle.plcr_report.specs.Schema.{rows, rule};
 
 use plcr_report::{
     Application, Frame, Holds, Image, Info, Kind, Process, Processor, Register, Report, Signal,
@@ -15,28 +15,6 @@ pub(crate) enum Entry {
     Required(u32, Holds),
     Optional(u32, Holds),
     Repeated(u32, Holds),
-}
-
-impl Entry {
-    fn number(self) -> u32
-        ensures { result ≡ (row_of self).number }
-    {
-        match self {
-            Entry::Required(number, _) => number,
-            Entry::Optional(number, _) => number,
-            Entry::Repeated(number, _) => number,
-        }
-    }
-
-    fn holds(self) -> Holds
-        ensures { result ≡ (row_of self).holds }
-    {
-        match self {
-            Entry::Required(_, holds) => holds,
-            Entry::Optional(_, holds) => holds,
-            Entry::Repeated(_, holds) => holds,
-        }
-    }
 }
 
 /// The fields of a message of this kind, in rising order.
@@ -119,16 +97,51 @@ pub(crate) fn entries(kind: Kind) -> &'static [Entry]
 pub(crate) fn held(kind: Kind, number: u32) -> Option<Holds>
     ensures { result ≡ rule kind number }
 {
-    held_in(entries(kind), number)
-}
-
-/// What the first of these entries of this number holds.
-fn held_in(entries: &[Entry], number: u32) -> Option<Holds>
-    ensures { result ≡ holds_in (rows_of entries.now) number }
-{
-    let (entry, others) = entries.split_first()?;
-    if entry.number() == number {
-        return Some(entry.holds());
+    match (kind, number) {
+        (Kind::Root, Report::SYSTEM_INFO) => Some(Holds::Message(Kind::System)),
+        (Kind::Root, Report::APPLICATION_INFO) => Some(Holds::Message(Kind::Application)),
+        (Kind::Root, Report::THREADS) => Some(Holds::Message(Kind::Thread)),
+        (Kind::Root, Report::BINARY_IMAGES) => Some(Holds::Message(Kind::Image)),
+        (Kind::Root, Report::SIGNAL) => Some(Holds::Message(Kind::Signal)),
+        (Kind::Root, Report::PROCESS_INFO) => Some(Holds::Message(Kind::Process)),
+        (Kind::Root, Report::REPORT_INFO) => Some(Holds::Message(Kind::Info)),
+        (Kind::System, System::OPERATING_SYSTEM) => Some(Holds::Number),
+        (Kind::System, System::OS_VERSION) => Some(Holds::Text),
+        (Kind::System, System::ARCHITECTURE) => Some(Holds::Number),
+        (Kind::System, System::TIMESTAMP) => Some(Holds::Number),
+        (Kind::System, System::OS_BUILD) => Some(Holds::Text),
+        (Kind::Application, Application::IDENTIFIER) => Some(Holds::Text),
+        (Kind::Application, Application::VERSION) => Some(Holds::Text),
+        (Kind::Thread, Thread::THREAD_NUMBER) => Some(Holds::Number),
+        (Kind::Thread, Thread::FRAMES) => Some(Holds::Message(Kind::Frame)),
+        (Kind::Thread, Thread::CRASHED) => Some(Holds::Number),
+        (Kind::Thread, Thread::REGISTERS) => Some(Holds::Message(Kind::Register)),
+        (Kind::Frame, Frame::PC) => Some(Holds::Number),
+        (Kind::Frame, Frame::SYMBOL) => Some(Holds::Message(Kind::Symbol)),
+        (Kind::Symbol, Symbol::NAME) => Some(Holds::Text),
+        (Kind::Symbol, Symbol::START_ADDRESS) => Some(Holds::Number),
+        (Kind::Symbol, Symbol::END_ADDRESS) => Some(Holds::Number),
+        (Kind::Register, Register::NAME) => Some(Holds::Text),
+        (Kind::Register, Register::VALUE) => Some(Holds::Number),
+        (Kind::Image, Image::BASE_ADDRESS) => Some(Holds::Number),
+        (Kind::Image, Image::SIZE) => Some(Holds::Number),
+        (Kind::Image, Image::NAME) => Some(Holds::Text),
+        (Kind::Image, Image::UUID) => Some(Holds::Text),
+        (Kind::Image, Image::CODE_TYPE) => Some(Holds::Message(Kind::Processor)),
+        (Kind::Processor, Processor::ENCODING) => Some(Holds::Number),
+        (Kind::Processor, Processor::CPU) => Some(Holds::Number),
+        (Kind::Processor, Processor::SUBTYPE) => Some(Holds::Number),
+        (Kind::Signal, Signal::NAME) => Some(Holds::Text),
+        (Kind::Signal, Signal::CODE) => Some(Holds::Text),
+        (Kind::Signal, Signal::ADDRESS) => Some(Holds::Number),
+        (Kind::Process, Process::NAME) => Some(Holds::Text),
+        (Kind::Process, Process::ID) => Some(Holds::Number),
+        (Kind::Process, Process::PATH) => Some(Holds::Text),
+        (Kind::Process, Process::PARENT_NAME) => Some(Holds::Text),
+        (Kind::Process, Process::PARENT_ID) => Some(Holds::Number),
+        (Kind::Process, Process::NATIVE) => Some(Holds::Number),
+        (Kind::Info, Info::USER_REQUESTED) => Some(Holds::Number),
+        (Kind::Info, Info::UUID) => Some(Holds::Text),
+        _ => None,
     }
-    held_in(others, number)
 }

@@ -1,10 +1,8 @@
 -- What stands in memory, as contracts see it.
-use Rattle.std.specs.Prelude.{◌≡◌, ℕ, ◌+◌, ◌<◌, List, ◌++◌, length, slice_index_or, Option, Some, None}
+use Rattle.std.specs.Prelude.{ℕ, ◌+◌, List, ◌++◌, length, Option, Some, None}
 use Rattle.std.specs.Borrow.{Bor}
-use Rattle.plcr_wire.specs.Message.{Value, Field}
-use Rattle.plcr_wire.specs.Reading.{value_slice}
+use Rattle.plcr_wire.specs.Message.{Field}
 use Rattle.plcr_decode.specs.Fields.{fields_of, joined}
-use Rattle.plcr_wire.specs.declared.slices.ValueSlice.{ValueSlice}
 use Rattle.plcr_decode.specs.declared.fields.Fields.{Fields}
 use Rattle.plcr_decode.specs.Scan as spec
 use Rattle.plcr_decode.specs.declared.scanning.Step.{Step}
@@ -25,16 +23,3 @@ size f = length f.part.now + length f.outer.now
 abbrev pub told : Option (Bor (List ℕ)) → Option (List ℕ)
 told None = None
 told (Some text) = Some text.now
-
--- what was found, as it lies in memory
-abbrev pub shown : Option ValueSlice → Option Value
-shown None = None
-shown (Some c) = Some (value_slice c)
-
--- the value that is kept under a number
-abbrev pub kept : List (Option ValueSlice) → ℕ → Option Value
-kept lasts n = shown (slice_index_or lasts n None)
-
--- under each number below 10 its value is kept
-abbrev pub Keeps : List (Option ValueSlice) → (ℕ → Option Value) → Type 0
-Keeps lasts value = (n : ℕ) → n < 10 → kept lasts n ≡ value n
