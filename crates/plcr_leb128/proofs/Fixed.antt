@@ -24,7 +24,7 @@ piece_byte : (m : Contents) (at size place : ℕ) → place < size → piece_byt
 unfolding piece_bytes
 piece_byte m at size place h = let test : nat_lt place size ≡ true = grind (arith, nat_tests) in rw test refl
 
-piece_past : (m : Contents) (at size place : ℕ) → size ≤ place → piece_bytes m at size place ≡ None
+pub piece_past : (m : Contents) (at size place : ℕ) → size ≤ place → piece_bytes m at size place ≡ None
 unfolding piece_bytes
 piece_past m at size place h = let test : nat_lt place size ≡ false = grind (arith, nat_tests) in rw test refl
 
