@@ -47,7 +47,7 @@ unfoldable pub caller_in : Contents → List Listed → Frame → Option Given
 caller_in memory images frame =
     option_and_then (λ answer. given_by answer.by answer.step) (find (λ answer. not (is_bad answer.step)) (answers memory images frame))
 
--- a frame is listed where its pc is known and, without signature, past the null page
+-- a frame is listed where its pc is known and, without signature, above the first address behind the page at 0
 abbrev pub is_listed : Frame → Bool
 is_listed frame = option_map_or (λ pc. nat_lt NULL_PAGE pc) (frame_pc frame) false
 

@@ -121,8 +121,16 @@ fn frames_end_where_they_must(rt: HostRuntime) -> Result<(), Fail> {
             47,
             SIGNED,
             0x7100,
-            [0, SIGNED],
+            [0x7120, SIGNED],
             [PLAIN, PLAIN].as_slice(),
+        ),
+        (
+            arm64,
+            32,
+            SIGNED,
+            0x7100,
+            [0, SIGNED],
+            [0x4100, 0x4100].as_slice(),
         ),
         (
             arm64,
@@ -145,7 +153,7 @@ fn frames_end_where_they_must(rt: HostRuntime) -> Result<(), Fail> {
             47,
             9,
             0x7100,
-            [0, 0x7f80_0000_0000_1000],
+            [0x7120, 0x7f80_0000_0000_1000],
             [9].as_slice(),
         ),
         (
@@ -153,7 +161,7 @@ fn frames_end_where_they_must(rt: HostRuntime) -> Result<(), Fail> {
             47,
             9,
             0x7100,
-            [0, 0x7f80_0000_0000_1001],
+            [0x7120, 0x7f80_0000_0000_1001],
             [9, 4097].as_slice(),
         ),
     ];
