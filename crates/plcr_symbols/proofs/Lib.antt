@@ -1,6 +1,10 @@
 pub mod Addresses
+pub mod Candidates
+pub mod Chosen
 pub mod Greater
+pub mod Lawful
 pub mod Looked
+pub mod NameEnds
 pub mod Pieces
 pub mod Rows
 pub mod Settled

@@ -15,11 +15,11 @@ eq_is x y h = grind (arith, nat_tests)
 pub eq_from : (x y : ℕ) → nat_eq x y ≡ true → x ≡ y
 eq_from x y h = grind (arith, nat_tests)
 
-eq_not : (x y : ℕ) → x ≢ y → nat_eq x y ≡ false
+pub eq_not : (x y : ℕ) → x ≢ y → nat_eq x y ≡ false
 eq_not x y h = grind (arith, nat_tests)
 
 -- the first byte isn't zero
-passed_by : (m : Contents) (n a b : ℕ) → byte_at m a ≡ Some b → b ≢ 0 → zero_within m (suc n) a ≡ option_map suc (zero_within m n (a + 1))
+pub passed_by : (m : Contents) (n a b : ℕ) → byte_at m a ≡ Some b → b ≢ 0 → zero_within m (suc n) a ≡ option_map suc (zero_within m n (a + 1))
 passed_by m n a b here ne =
     let no : nat_eq b 0 ≡ false = eq_not b 0 ne in
     rw (here, no) refl

@@ -80,7 +80,7 @@ abbrev pub zero_within : Contents → ℕ → ℕ → Option ℕ
 zero_within memory zero at = None
 zero_within memory (suc n) at = option_and_then (λ b. if b == 0 then Some 0 else option_map suc (zero_within memory n (at + 1))) (byte_at memory at)
 
--- the symbol with the length of its name, which ends with a zero within the table of names and has at most 1,024 bytes
+-- the symbol with the length of its name: a zero within the table of names ends it, behind no more bytes than a name may have
 unfoldable pub named : Contents → SymbolAt → Option SymbolAt
 named memory symbol = option_map (λ n. record symbol { name_len = n }) (zero_within memory (min symbol.name_len (SYMBOL_NAME_BYTES + 1)) symbol.name_at)
 

@@ -6,6 +6,9 @@ mod finding;
 #[cfg(test)]
 mod fixtures;
 mod gaps;
+mod laws;
+#[cfg(test)]
+mod layout_tests;
 mod limits;
 mod names;
 mod row;
@@ -13,6 +16,7 @@ mod symbol;
 mod table;
 
 pub use finding::{find, find_all};
+pub use laws::symbols_lie;
 pub use limits::SYMBOL_NAME_BYTES;
 pub use symbol::SymbolAt;
 

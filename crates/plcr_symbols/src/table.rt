@@ -1,11 +1,11 @@
 ghost use Rattle.std.specs.Prelude.{◌≡◌, ◌≤◌, ◌<◌, ◌+◌, ◌-◌, ◌*◌, ◌/◌, ◌^◌, ℕ, length, None};
 ghost use Rattle.std.specs.Bool.{OnTrue, OnFalse};
-ghost use Rattle.std.specs.List.Sorted.{IsNonDecreasing};
 ghost use Rattle.plcr_loader.specs.declared.nlist_64.TheConstants.{LENGTH};
 ghost use Rattle.plcr_macho.specs.Sources.{plus};
 ghost use Rattle.plcr_symbols.specs.declared.limits.TheConstants.{PIECE_ROWS};
-ghost use Rattle.plcr_symbols.specs.Symbols.{greatest, row_at, rows_from};
-ghost use Rattle.plcr_symbols.specs.inner.Gaps.{Gains, Gathers, gap_symbol, gathered, rows_in};
+ghost use Rattle.plcr_symbols.specs.Symbols.{row_at};
+ghost use Rattle.plcr_symbols.specs.inner.Gaps.{Gains, Gathers, rows_in};
+ghost use Rattle.plcr_symbols.specs.inner.Searches.{HasRoom, row_gains, rows_gain, to_come};
 
 use crate::gaps::keep;
 use crate::limits::PIECE_ROWS;
@@ -31,9 +31,8 @@ impl Search<'_> {
     #[tactic(auto, using(crate::proofs::Greater::greater_none))]
     fn keep_row(&self, row: &[u8], found: &mut [Option<SymbolAt>])
         requires whole { LENGTH ≤ length row.now }
-        requires rising { IsNonDecreasing self.now.addresses.now }
-        requires room { length found.old ≡ length self.now.addresses.now }
-        ensures gains { Gains self.now.addresses.now (λ k. gap_symbol self.now.image.now self.now.table self.now.addresses.now k row.now) found.old found.new }
+        requires room { HasRoom self.now found.old }
+        ensures gains { Gains self.now.addresses.now (row_gains self.now row.now) found.old found.new }
         ensures size { length found.new ≡ length found.old }
     {
         if let Some(symbol) = defined_in(self.image, &self.table, row) {
@@ -43,9 +42,8 @@ impl Search<'_> {
 
     // Keeps the symbols of rows that stand one behind the other.
     fn keep_rows(&self, rows: &[u8], found: &mut [Option<SymbolAt>])
-        requires rising { IsNonDecreasing self.now.addresses.now }
-        requires room { length found.old ≡ length self.now.addresses.now }
-        ensures gains { Gains self.now.addresses.now (λ k. greatest (gap_symbol self.now.image.now self.now.table self.now.addresses.now k) (rows_in (length rows.now / LENGTH) rows.now)) found.old found.new }
+        requires room { HasRoom self.now found.old }
+        ensures gains { Gains self.now.addresses.now (rows_gain self.now (rows_in (length rows.now / LENGTH) rows.now)) found.old found.new }
         ensures size { length found.new ≡ length found.old }
     {
         let mut rest = rows;
@@ -70,8 +68,8 @@ impl Search<'_> {
     fn zero_rows(&self, index: u64, left: u64) -> u64
         requires { index + left < 2 ^ 32 }
         ensures most { result ≤ left }
-        ensures skipped { (k : ℕ) → gathered self.now.memory.now self.now.image.now self.now.table self.now.addresses.now left index k
-            ≡ gathered self.now.memory.now self.now.image.now self.now.table self.now.addresses.now (left - result) (index + result) k }
+        ensures skipped { (k : ℕ) → to_come self.now left index k
+            ≡ to_come self.now (left - result) (index + result) k }
     {
         let at = self.row_address(index);
         let rows = u64::min(self.memory.zeros_from(at) / LENGTH as u64, left);
@@ -93,11 +91,10 @@ impl Search<'_> {
     ) -> bool
         requires whole { length buffer.old ≡ LENGTH * size }
         requires within { index + size < 2 ^ 32 }
-        requires rising { IsNonDecreasing self.now.addresses.now }
-        requires room { length found.old ≡ length self.now.addresses.now }
+        requires room { HasRoom self.now found.old }
         ensures gathers { OnTrue result ((more : ℕ) → Gathers self.now.addresses.now
-            found.old (gathered self.now.memory.now self.now.image.now self.now.table self.now.addresses.now (size + more) index)
-            found.new (gathered self.now.memory.now self.now.image.now self.now.table self.now.addresses.now more (index + size))) }
+            found.old (to_come self.now (size + more) index)
+            found.new (to_come self.now more (index + size))) }
         ensures same { OnFalse result (found.new ≡ found.old) }
         ensures missing { OnFalse result (size ≡ 1 → row_at self.now.memory.now self.now.table.rows_at index ≡ None) }
         ensures size { length found.new ≡ length found.old }
@@ -114,11 +111,10 @@ impl Search<'_> {
         requires least { 1 ≤ size }
         requires most { size ≤ PIECE_ROWS }
         requires within { index + size < 2 ^ 32 }
-        requires rising { IsNonDecreasing self.now.addresses.now }
-        requires room { length found.old ≡ length self.now.addresses.now }
+        requires room { HasRoom self.now found.old }
         ensures gathers { OnTrue result ((more : ℕ) → Gathers self.now.addresses.now
-            found.old (gathered self.now.memory.now self.now.image.now self.now.table self.now.addresses.now (size + more) index)
-            found.new (gathered self.now.memory.now self.now.image.now self.now.table self.now.addresses.now more (index + size))) }
+            found.old (to_come self.now (size + more) index)
+            found.new (to_come self.now more (index + size))) }
         ensures same { OnFalse result (found.new ≡ found.old) }
         ensures missing { OnFalse result (size ≡ 1 → row_at self.now.memory.now self.now.table.rows_at index ≡ None) }
         ensures size { length found.new ≡ length found.old }
@@ -129,9 +125,8 @@ impl Search<'_> {
 
     /// Goes through the rows of the table once. A piece of them that isn't wholly mapped is halved.
     pub fn keep_table(&self, found: &mut [Option<SymbolAt>])
-        requires rising { IsNonDecreasing self.now.addresses.now }
-        requires room { length found.old ≡ length self.now.addresses.now }
-        ensures gains { Gains self.now.addresses.now (gathered self.now.memory.now self.now.image.now self.now.table self.now.addresses.now self.now.table.rows 0) found.old found.new }
+        requires room { HasRoom self.now found.old }
+        ensures gains { Gains self.now.addresses.now (to_come self.now self.now.table.rows 0) found.old found.new }
         ensures size { length found.new ≡ length found.old }
     {
         let rows = u64::from(self.table.rows);

@@ -1,5 +1,5 @@
 use crate::fixtures::*;
-use crate::{SYMBOL_NAME_BYTES, SymbolAt, find, find_all};
+use crate::{SYMBOL_NAME_BYTES, SymbolAt, find, find_all, symbols_lie};
 use plcr_macho::Image;
 use plcr_memory::MemoryFault;
 use std::alloc::{AllocError, Global};
@@ -33,6 +33,7 @@ fn greatest_not_above(rt: HostRuntime) -> Result<(), Fail> {
         (A0 + 0x4000, next),
         (u64::MAX, next),
     ];
+    symbols_lie();
     let image = image(4, 27);
     for (address, want) in cases {
         assert_eq!(rt; find(&memory, &image, address), want, "at {address}");
