@@ -4,7 +4,7 @@
 pub const SYMBOL_NAME_BYTES: u32 = 1024;
 
 /// A name is looked through in pieces of at most so many bytes.
-pub const NAME_PIECE: usize = 64;
+pub const NAME_PIECE: usize = 256;
 
 /// A table is read in pieces of at most so many rows.
 pub const PIECE_ROWS: usize = 64;

@@ -161,9 +161,9 @@ fn long_name(alloc: Global, len: u32) -> Result<Vec<u8>, AllocError> {
 fn long_names(rt: HostRuntime) -> Result<(), Fail> {
     let at = A0 + 0x100;
     let cases = [
-        (63, Some(63)),
-        (64, Some(64)),
-        (65, Some(65)),
+        (255, Some(255)),
+        (256, Some(256)),
+        (257, Some(257)),
         (1023, Some(1023)),
         (SYMBOL_NAME_BYTES, Some(1024)),
         (1025, None),
