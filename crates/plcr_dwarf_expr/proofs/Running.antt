@@ -1,12 +1,11 @@
 -- Runs, operation by operation.
-use Rattle.std.proofs.Common.{◌≡◌, ◌≢◌, ◌<◌, ℕ, zero, suc, ◌+◌, ◌-◌, ◌==◌, true, false, List, Option, Result, Ok, Err, refl, sym, ap, subst, ◌∙◌, arith}
+use Rattle.std.proofs.Common.{◌≡◌, ◌≢◌, ◌<◌, ℕ, zero, suc, ◌+◌, ◌-◌, ◌==◌, true, false, List, Option, Ok, Err, refl, ap, ◌∙◌, arith}
 use Rattle.std.proofs.lemmas.Bool.Decides.{nat_tests}
-use Rattle.std.specs.Prelude.{◌≤◌, ◌^◌, Some, min}
+use Rattle.std.specs.Prelude.{◌≤◌, ◌^◌, Some}
 use Rattle.plcr_memory.specs.Regions.{Contents, bytes_at}
 use Rattle.plcr_regs.specs.declared.registers.Registers.{Registers}
 use Rattle.plcr_leb128.specs.Cells.{Bytes, addressable, list_bytes, piece_bytes}
 use Rattle.plcr_leb128.proofs.Fixed.{stored_bytes}
-use Rattle.plcr_base.specs.Chains.{◌>>=◌}
 use Rattle.plcr_dwarf_expr.specs.declared.limits.TheConstants.{MOST_OPERATIONS}
 use Rattle.plcr_dwarf_expr.specs.declared.fault.ExprFault.{ExprFault}
 use Rattle.plcr_dwarf_expr.specs.declared.fault.ExprFault.TheVariants.{Budget}

@@ -1,5 +1,5 @@
 -- What an operation makes of a stack (DWARF 4, section 2.5.1). A stack is a list of words, the top first.
-use Rattle.std.specs.Prelude.{ℕ, ◌+◌, ◌%◌, ◌^◌, ◌==◌, ℤ, pos, ◌+ℤ◌, ◌||◌, int_lt, nat_lt, unsigned_abs, if◌then◌else◌, List, [], ◌∷◌, length, slice_get, Option, Some, None, ok_or, Result, Ok, Err}
+use Rattle.std.specs.Prelude.{ℕ, ◌+◌, ◌%◌, ◌^◌, ◌==◌, ℤ, pos, ◌+ℤ◌, ◌||◌, int_lt, nat_lt, unsigned_abs, if◌then◌else◌, List, [], ◌∷◌, length, slice_get, Option, ok_or, Result, Ok, Err}
 use Rattle.plcr_base.specs.Chains.{◌>>=◌, result_map}
 use Rattle.plcr_memory.specs.Regions.{Contents, byte_at, number_at}
 use Rattle.plcr_regs.specs.declared.registers.Registers.{Registers}

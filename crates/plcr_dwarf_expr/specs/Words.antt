@@ -1,6 +1,6 @@
 -- Arithmetic of expressions on words of 64 bits (DWARF 4, sections 2.5.1.4 and 2.5.1.5).
 use Rattle.std.specs.Prelude.{ℕ, ◌+◌, ◌-◌, ◌*◌, ◌/◌, ◌%◌, ◌^◌, ◌==◌, ℤ, pos, Bool, not, nat_lt, if◌then◌else◌, bit_and, bit_or, bit_xor, unsigned_abs, int_div, int_lt, int_le, Result, Ok, Err}
-use Rattle.std.specs.Int.{w8, w16, w32, w64, cast_signed, cast_unsigned, int_div_euclid}
+use Rattle.std.specs.Int.{w64, cast_signed, cast_unsigned, int_div_euclid}
 use Rattle.plcr_dwarf_expr.specs.declared.fault.ExprFault.{ExprFault}
 use Rattle.plcr_dwarf_expr.specs.declared.fault.ExprFault.TheVariants.{DivideByZero}
 use Rattle.plcr_dwarf_expr.specs.declared.operation.Constant.{Constant}

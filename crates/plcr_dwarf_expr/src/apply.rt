@@ -1,7 +1,6 @@
 //! What operations make of the stack.
 ghost use Rattle.std.specs.Prelude.{◌≡◌};
 ghost use Rattle.plcr_base.specs.Chains.{result_map};
-ghost use Rattle.plcr_memory.specs.Regions.{number_at};
 ghost use Rattle.plcr_dwarf_expr.specs.Effects.{applied, changed_top, combined_top, dereferenced, jumped, moment, moved, register_sum, register_value, shuffled, with_register, word_at};
 
 use crate::binary::combined;
