@@ -89,3 +89,12 @@ has_here n f fs h = has_step n f fs ∙ ap (λ (b : Bool). cond b true (has n fs
 -- a field of another number holds no part of a message
 pub messages_step : (n : ℕ) (f : Field) (fs : List Field) → f.number ≢ n → joined n (f ∷ fs) ≡ joined n fs
 messages_step n f fs h = rw (ne_eqb f.number n h) refl
+
+none_either : (b : Bool) (n : ℕ) (f : Field) (fs : List Field) → (f.number == n) ≡ b → cond b true (has n fs) ≡ false → (has n fs ≡ false → messages_in n fs ≡ []) → messages_in n (f ∷ fs) ≡ []
+none_either true n f fs e h more = absurd (cc)
+none_either false n f fs e h more = ap (λ (b : Bool). cond b (fields_of (value_bytes f.value) ∷ messages_in n fs) (messages_in n fs)) e ∙ more h
+
+-- where no field of a number stands, no message of it does
+pub none_there : (n : ℕ) (fs : List Field) → has n fs ≡ false → messages_in n fs ≡ []
+none_there n [] h = refl
+none_there n (f ∷ fs) h = none_either (f.number == n) n f fs refl (sym (has_step n f fs) ∙ h) (none_there n fs)

@@ -108,17 +108,30 @@ fn judge_entry<'a>(
     match entry {
         Entry::Required(number, Holds::Message(kind)) => judge_joined(kind, number, bytes, found),
         Entry::Optional(number, Holds::Message(kind)) => judge_joined(kind, number, bytes, found),
-        Entry::Repeated(number, Holds::Message(kind)) => judge_each(levels, kind, number, bytes),
+        Entry::Repeated(number, Holds::Message(kind)) => {
+            judge_each(levels, kind, number, bytes, found)
+        }
         _ => Ok(()),
     }
 }
 
 /// The first fault of the messages in the fields of this number.
 #[cycle(judging)]
-fn judge_each(levels: u32, kind: Kind, number: u32, bytes: &[u8]) -> Result<(), DecodeFault>
+fn judge_each(
+    levels: u32,
+    kind: Kind,
+    number: u32,
+    bytes: &[u8],
+    found: &Found<'_>,
+) -> Result<(), DecodeFault>
+    requires within { number < NUMBERS }
+    requires whole { found.now ≡ fields_of bytes.now }
     ensures exact { result ≡ each_whole (whole_within levels kind) (messages_in number (fields_of bytes.now)) }
     ensures real { IfErr result (λ e. e ≢ DecodeFault.Memory) }
 {
+    if !found.has(number) {
+        return Ok(());
+    }
     let mut left = Fields::of(bytes);
     while let Some(text) = left.next_message(number) {
         judge_within(levels, kind, text)?;

@@ -58,8 +58,26 @@ fn count_rows(bytes: &[u8], number: u32) -> usize
     count
 }
 
-/// The messages in the fields of this number. Takes the room of so many before the first.
+/// The messages in the fields of this number. What was found are the fields of these bytes.
+#[tactic(auto, using(crate::proofs::Listed::none_there))]
 pub(crate) fn build_rows<T: Row + Drop>(
+    alloc: Global,
+    found: &Found<'_>,
+    bytes: &[u8],
+    number: u32,
+) -> Result<Rows<T>, AllocError>
+    requires within { number < NUMBERS }
+    requires whole { found.now ≡ fields_of bytes.now }
+    ensures { IfOk result (λ xs. xs ≡ map T.value (messages_in number (fields_of bytes.now))) }
+{
+    if !found.has(number) {
+        return Ok(Rows::new(Vec::new(alloc)));
+    }
+    build_each(alloc, bytes, number)
+}
+
+/// The messages in the fields of this number. Takes the room of so many before the first.
+fn build_each<T: Row + Drop>(
     alloc: Global,
     bytes: &[u8],
     number: u32,

@@ -32,9 +32,9 @@ impl Row for Thread {
         let found = Found::of(Fields::of(bytes));
         Ok(Thread {
             thread_number: low(found.number_or_zero(Thread::THREAD_NUMBER)),
-            frames: build_rows::<Frame>(alloc, bytes, Thread::FRAMES)?,
+            frames: build_rows::<Frame>(alloc, &found, bytes, Thread::FRAMES)?,
             crashed: found.number_or_zero(Thread::CRASHED) != 0,
-            registers: build_rows::<Register>(alloc, bytes, Thread::REGISTERS)?,
+            registers: build_rows::<Register>(alloc, &found, bytes, Thread::REGISTERS)?,
         })
     }
 }
@@ -67,8 +67,8 @@ impl Row for Report {
         Ok(Report {
             system_info: System::build(alloc, system)?,
             application_info: Application::build(alloc, application)?,
-            threads: build_rows::<Thread>(alloc, bytes, Report::THREADS)?,
-            binary_images: build_rows::<Image>(alloc, bytes, Report::BINARY_IMAGES)?,
+            threads: build_rows::<Thread>(alloc, &found, bytes, Report::THREADS)?,
+            binary_images: build_rows::<Image>(alloc, &found, bytes, Report::BINARY_IMAGES)?,
             signal: Signal::build(alloc, signal)?,
             process_info: build_one::<Process>(alloc, &found, bytes, Report::PROCESS_INFO)?,
             report_info: build_one::<Info>(alloc, &found, bytes, Report::REPORT_INFO)?,

@@ -1,10 +1,11 @@
 -- The messages whose parts are joined hold none.
-use Rattle.std.proofs.Common.{◌≡◌, rules, sym, ap, subst, ◌∙◌, ◌-◌, arith}
+use Rattle.std.proofs.Common.{◌≡◌, false, rules, sym, ap, subst, ◌∙◌, ◌-◌, arith}
 use Rattle.std.proofs.lemmas.Result.{err_from_is_err_and}
 use Rattle.std.specs.List.{AllByRecursion}
-use Rattle.plcr_decode.specs.Fields.{fields_of}
-use Rattle.plcr_decode.specs.Required.{inner_whole, whole_within}
+use Rattle.plcr_decode.specs.Fields.{fields_of, has}
+use Rattle.plcr_decode.specs.Required.{each_whole, inner_whole, whole_within}
 use Rattle.plcr_decode.specs.inner.Judging.{PlainRow}
+use Rattle.plcr_decode.proofs.Listed.{none_there}
 use Rattle.plcr_decode.proofs.Wholes.{rows_plain, whole_own, whole_inner}
 use Rattle.plcr_decode.proofs.judging.+judging.Goals as goal
 
@@ -23,3 +24,9 @@ judge_within-returns-clause-exact t c =
     c.judge_inner.ensures.exact
     ∙ ap (λ rs. inner_whole (whole_within (c.args.levels - 1)) rs (fields_of c.args.bytes.now)) c.entries.ensures
     ∙ sym (whole_inner c.args.levels c.args.kind (fields_of c.args.bytes.now) c.of-found.result (omega arith) same (sym c.in_ok-has_all.ensures.exact))
+
+pub judge_each-returns-then-not-has-clause-exact : goal.judge_each-returns-then-not-has-clause-exact
+judge_each-returns-then-not-has-clause-exact t c =
+    let fs = fields_of c.args.bytes.now in
+    let none : has c.args.number fs ≡ false = ap (has c.args.number) (sym c.requires.whole) ∙ sym c.has.ensures ∙ c.if-not-has.true in
+    sym (ap (each_whole (whole_within c.args.levels c.args.kind)) (none_there c.args.number fs none))

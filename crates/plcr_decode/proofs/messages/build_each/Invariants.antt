@@ -2,7 +2,7 @@
 use Rattle.std.proofs.Common.{◌≡◌, ◌+◌, ◌≤◌, ◌++◌, length, map, vec_len, vec_capacity}
 use Rattle.plcr_decode.specs.Fields.{fields_of, messages_in}
 use Rattle.plcr_decode.specs.inner.Views.{left, size}
-use Rattle.plcr_decode.proofs.messages.build_rows.Given as goal
+use Rattle.plcr_decode.proofs.messages.build_each.Given as goal
 
 abbrev pub invariant-loop-text : goal.invariant-loop-text
 invariant-loop-text g l = record {
