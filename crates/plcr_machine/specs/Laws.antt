@@ -2,12 +2,13 @@
 use Rattle.std.specs.Prelude.{◌≡◌, ◌≢◌, ◌⊎◌, ℕ, suc, ◌<◌, ◌≤◌, List, ◌∷◌, length, IsTrue, IsFalse, ◌==◌, if◌then◌else◌}
 use Rattle.plcr_machine.specs.declared.image.Image.{Image}
 use Rattle.plcr_machine.specs.declared.entry.Entry.{Entry}
-use Rattle.plcr_machine.specs.declared.entry.Entry.TheVariants.{Enter, Leave, Load, Unload, Look}
+use Rattle.plcr_machine.specs.declared.entry.Entry.TheVariants.{Load, Unload}
+use Rattle.plcr_machine.specs.declared.limits.TheConstants.{MOST_CHANGES}
 use Rattle.plcr_machine.specs.Lists.{Grows, load_number, has, live, loaded, changes, list_after}
 use Rattle.plcr_machine.specs.Parts.{change_entries}
 use Rattle.plcr_machine.specs.Walks.{RisesAbove, follow, IsWholeWalk, IsLawfulWalk}
-use Rattle.plcr_machine.specs.Passes.{is_inside, readers, counts, IsPaced}
-use Rattle.plcr_machine.specs.Nodes.{is_removed, is_free, unloaded_at}
+use Rattle.plcr_machine.specs.Passes.{is_inside, is_announced, stamp_of, counts, IsPaced}
+use Rattle.plcr_machine.specs.Nodes.{is_removed, is_free, is_found_out, unloaded_at}
 use Rattle.plcr_machine.specs.Histories.{IsLegal}
 use Rattle.plcr_machine.specs.Holds.{may_reach, IsKept}
 use Rattle.plcr_machine.specs.Links.{link_of, image_at, last_place, IsPlace}
@@ -18,12 +19,12 @@ LegalIsKept = (nodes passes : ℕ) (history : List Entry) → IsLegal nodes pass
 
 -- what a pass may still reach is not free
 abbrev pub ReachIsBusy : Type 0
-ReachIsBusy = (nodes passes pass node : ℕ) (history : List Entry) → IsLegal nodes passes history → IsTrue (may_reach pass node history) → IsFalse (is_free node history)
+ReachIsBusy = (nodes passes pass node : ℕ) (history : List Entry) → IsLegal nodes passes history → IsTrue (may_reach pass node history) → IsFalse (is_free passes node history)
 
 -- of two removed nodes, where the one unloaded later is free, the other is free too
 abbrev pub FreedInOrder : Type 0
 FreedInOrder = (nodes passes earlier later : ℕ) (history : List Entry) → IsLegal nodes passes history → IsTrue (is_removed earlier history) → IsTrue (is_removed later history)
-    → unloaded_at earlier history ≤ unloaded_at later history → IsTrue (is_free later history) → IsTrue (is_free earlier history)
+    → unloaded_at earlier history ≤ unloaded_at later history → IsTrue (is_free passes later history) → IsTrue (is_free passes earlier history)
 
 -- a walk that came to its end is lawful, through any lists along which the load numbers rise
 abbrev pub EndedWalkIsLawful : Type 0
@@ -39,22 +40,23 @@ EndedWalkOfHistoryIsLawful = (nodes passes : ℕ) (history : List Entry) → IsL
 abbrev pub PacedPrefixes : Type 0
 PacedPrefixes = (past history : List Entry) → IsPaced history → Grows past history → (changes past ≡ counts past) ⊎ (changes past ≡ suc (counts past))
 
--- after a look that found no pass inside, where no node is free, all nodes are in the list
+-- where since the last change each pass was found with no stamp and no node is free, all nodes are in the list
 abbrev pub FullWhenNoneIsFree : Type 0
-FullWhenNoneIsFree = (nodes : ℕ) (past : List Entry) → ((node : ℕ) → 0 < node → node ≤ nodes → IsFalse (is_free node (Look 0 ∷ past)))
-    → (node : ℕ) → 0 < node → node ≤ nodes → IsTrue (has node (live (Look 0 ∷ past)))
+FullWhenNoneIsFree = (nodes passes : ℕ) (history : List Entry) → ((pass : ℕ) → pass < passes → IsTrue (is_found_out pass history))
+    → ((node : ℕ) → 0 < node → node ≤ nodes → IsFalse (is_free passes node history))
+    → (node : ℕ) → 0 < node → node ≤ nodes → IsTrue (has node (live history))
 
 -- and in a legal history the list is then as long as there are nodes
 abbrev pub FullIsAsLong : Type 0
-FullIsAsLong = (nodes passes : ℕ) (past : List Entry) → IsLegal nodes passes (Look 0 ∷ past)
-    → ((node : ℕ) → 0 < node → node ≤ nodes → IsFalse (is_free node (Look 0 ∷ past))) → length (live (Look 0 ∷ past)) ≡ nodes
+FullIsAsLong = (nodes passes : ℕ) (history : List Entry) → IsLegal nodes passes history → ((pass : ℕ) → pass < passes → IsTrue (is_found_out pass history))
+    → ((node : ℕ) → 0 < node → node ≤ nodes → IsFalse (is_free passes node history)) → length (live history) ≡ nodes
 
 -- the link of a removed node that is not free leads to the end, or to a node that is not free
 -- and is in the list or was unloaded no earlier
 abbrev pub StaleLinksLeadOn : Type 0
-StaleLinksLeadOn = (nodes passes node : ℕ) (history : List Entry) → IsLegal nodes passes history → IsTrue (is_removed node history) → IsFalse (is_free node history)
+StaleLinksLeadOn = (nodes passes node : ℕ) (history : List Entry) → IsLegal nodes passes history → IsTrue (is_removed node history) → IsFalse (is_free passes node history)
     → link_of node history ≢ 0
-    → IsFalse (is_free (link_of node history) history)
+    → IsFalse (is_free passes (link_of node history) history)
     × (IsTrue (has (link_of node history) (live history)) ⊎ (IsTrue (is_removed (link_of node history) history) × (unloaded_at node history ≤ unloaded_at (link_of node history) history)))
 
 -- where a pass may reach a node, or is inside and begins at the head, it may reach what the link leads to
@@ -65,7 +67,7 @@ LinksStayInReach = (pass node : ℕ) (history : List Entry) → (IsTrue (may_rea
 -- the link of a node that is not free leads to the image that follows the one loaded last on it, and the head's link to the first
 abbrev pub LinksFollow : Type 0
 LinksFollow = (nodes passes : ℕ) (history : List Entry) → IsLegal nodes passes history
-    → ((node : ℕ) → IsFalse (is_free node history) → follow load_number (list_after history) (loaded node history).load (changes history) ≡ image_at (link_of node history) history)
+    → ((node : ℕ) → IsFalse (is_free passes node history) → follow load_number (list_after history) (loaded node history).load (changes history) ≡ image_at (link_of node history) history)
     × (follow load_number (list_after history) 0 (changes history) ≡ image_at (link_of 0 history) history)
 
 -- a load changes the link of the last place alone, which then leads to the new node, and the new node's, which is the end
@@ -80,11 +82,14 @@ UnloadChangesOneLink = (nodes passes node before : ℕ) (past : List Entry) → 
     → (link_of before (Unload node ∷ past) ≡ link_of node past)
     × ((place : ℕ) → place ≢ before → link_of place (Unload node ∷ past) ≡ link_of place past)
 
--- a pass that goes in is one reader more, and one that comes out one less
-abbrev pub ReadersCount : Type 0
-ReadersCount = (nodes passes pass : ℕ) (past : List Entry)
-    → (IsLegal nodes passes (Enter pass ∷ past) → readers passes (Enter pass ∷ past) ≡ suc (readers passes past))
-    × (IsLegal nodes passes (Leave pass ∷ past) → readers passes past ≡ suc (readers passes (Leave pass ∷ past)))
+-- a pass that is inside is announced, and so its number is one of the passes'
+abbrev pub InsideIsAnnounced : Type 0
+InsideIsAnnounced = (nodes passes pass : ℕ) (history : List Entry) → IsLegal nodes passes history → IsTrue (is_inside pass history)
+    → IsTrue (is_announced pass history) × (pass < passes)
+
+-- counts and stamps stay in their words: no more changes are counted than may be, and no pass announces more counts than there are
+abbrev pub CountsAreFew : Type 0
+CountsAreFew = (nodes passes pass : ℕ) (history : List Entry) → IsLegal nodes passes history → (counts history ≤ MOST_CHANGES) × (stamp_of pass history ≤ suc (counts history))
 
 -- as a history goes on, the list after each number of changes that it has had stays
 abbrev pub ListsStay : Type 0

@@ -1,20 +1,24 @@
 -- The parts of a history that are made by one pass, or by the one writer, or that change the list. The newest entry stands first.
 use Rattle.std.specs.Prelude.{ℕ, List, [], ◌∷◌, ◌==◌, if◌then◌else◌}
 use Rattle.plcr_machine.specs.declared.entry.Entry.{Entry}
-use Rattle.plcr_machine.specs.declared.entry.Entry.TheVariants.{Enter, Leave, Load, Unload}
+use Rattle.plcr_machine.specs.declared.entry.Entry.TheVariants.{Announce, Enter, Leave, Retire, Load, Unload}
 
--- the entries of one pass: where it went in and came out
+-- the entries of one pass: where it announced itself, went in, came out and retired
 abbrev pub own_entries : ℕ → List Entry → List Entry
 own_entries pass [] = []
+own_entries pass (Announce p seen ∷ past) = if p == pass then Announce p seen ∷ own_entries pass past else own_entries pass past
 own_entries pass (Enter p ∷ past) = if p == pass then Enter p ∷ own_entries pass past else own_entries pass past
 own_entries pass (Leave p ∷ past) = if p == pass then Leave p ∷ own_entries pass past else own_entries pass past
+own_entries pass (Retire p ∷ past) = if p == pass then Retire p ∷ own_entries pass past else own_entries pass past
 own_entries pass (_ ∷ past) = own_entries pass past
 
 -- the entries that only the writer makes: loads, unloads, counts and looks
 abbrev pub owner_entries : List Entry → List Entry
 owner_entries [] = []
+owner_entries (Announce _ _ ∷ past) = owner_entries past
 owner_entries (Enter _ ∷ past) = owner_entries past
 owner_entries (Leave _ ∷ past) = owner_entries past
+owner_entries (Retire _ ∷ past) = owner_entries past
 owner_entries (entry ∷ past) = entry ∷ owner_entries past
 
 -- the changes of the list: its loads and unloads. An unload names a node; to unload by a header, which takes the first

@@ -5,18 +5,8 @@
 
 mod entry;
 mod image;
-mod laws;
 mod limits;
-pub mod plain;
 
 pub use entry::Entry;
 pub use image::Image;
-pub use laws::{
-    ended_walk_is_lawful, freed_in_order, full_when_none_is_free, legal_is_kept, links_follow,
-    lists_stay, one_link_changes, paced_prefixes, readers_count, stale_links_lead_on,
-    worked_examples,
-};
 pub use limits::{MOST_CHANGES, MOST_NODES, MOST_PASSES};
-
-#[cfg(test)]
-mod tests;
