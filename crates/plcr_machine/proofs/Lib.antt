@@ -1,0 +1,15 @@
+pub mod Cases
+pub mod Under
+pub mod OnNodes
+pub mod Freedom
+pub mod Insiders
+pub mod Reach
+pub mod Followers
+pub mod Leads
+pub mod Rising
+pub mod Lawful
+pub mod Pace
+pub mod Full
+pub mod Loaded
+pub mod Growing
+pub mod Follows
