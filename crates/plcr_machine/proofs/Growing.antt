@@ -4,7 +4,8 @@ use Rattle.std.proofs.lemmas.Bool.{le-leb, lt-leb, leb-true}
 use Rattle.plcr_machine.specs.declared.image.Image.{Image}
 use Rattle.plcr_machine.specs.declared.entry.Entry.{Entry}
 use Rattle.plcr_machine.specs.declared.entry.Entry.TheVariants.{Announce, Enter, Leave, Retire, Load, Unload, Count, Look}
-use Rattle.plcr_machine.specs.Lists.{Grows, load_number, without, live, changes, list_after}
+use Rattle.plcr_machine.specs.Lists.{Grows, load_number, without, live, changes, loads, list_after}
+use Rattle.plcr_machine.specs.Passes.{counts}
 use Rattle.plcr_machine.specs.Parts.{change_entries}
 use Rattle.plcr_machine.specs.Walks.{is_listed, first_of_list, next_in, last_with, follow, last_met, Meets}
 use Rattle.plcr_machine.proofs.Cases.{by_cases}
@@ -105,6 +106,40 @@ list_after-grows past h j g le = subst (λ (l : List Entry). list_after l j ≡ 
 
 pub changes-grows : (past h : List Entry) → Grows past h → changes past ≤ changes h
 changes-grows past h g = subst (λ (l : List Entry). changes past ≤ changes l) (sym g.1) (changes_added g.0 past)
+
+counts-grow : (e : Entry) (past : List Entry) → counts past ≤ counts (e ∷ past)
+counts-grow Count past = omega arith
+counts-grow (Announce p seen) past = le_refl (counts past)
+counts-grow (Enter p) past = le_refl (counts past)
+counts-grow (Leave p) past = le_refl (counts past)
+counts-grow (Retire p) past = le_refl (counts past)
+counts-grow (Look p stamp) past = le_refl (counts past)
+counts-grow (Load m i a) past = le_refl (counts past)
+counts-grow (Unload m) past = le_refl (counts past)
+
+counts_added : (added past : List Entry) → counts past ≤ counts (added ++ past)
+counts_added [] past = le_refl (counts past)
+counts_added (e ∷ added) past = omega (arith, counts_added added past, counts-grow e (added ++ past))
+
+pub counts-grows : (past h : List Entry) → Grows past h → counts past ≤ counts h
+counts-grows past h g = subst (λ (l : List Entry). counts past ≤ counts l) (sym g.1) (counts_added g.0 past)
+
+loads-grow : (e : Entry) (past : List Entry) → loads past ≤ loads (e ∷ past)
+loads-grow (Load m i a) past = omega arith
+loads-grow (Announce p seen) past = le_refl (loads past)
+loads-grow (Enter p) past = le_refl (loads past)
+loads-grow (Leave p) past = le_refl (loads past)
+loads-grow (Retire p) past = le_refl (loads past)
+loads-grow (Look p stamp) past = le_refl (loads past)
+loads-grow Count past = le_refl (loads past)
+loads-grow (Unload m) past = le_refl (loads past)
+
+loads_added : (added past : List Entry) → loads past ≤ loads (added ++ past)
+loads_added [] past = le_refl (loads past)
+loads_added (e ∷ added) past = omega (arith, loads_added added past, loads-grow e (added ++ past))
+
+pub loads-grows : (past h : List Entry) → Grows past h → loads past ≤ loads h
+loads-grows past h g = subst (λ (l : List Entry). loads past ≤ loads l) (sym g.1) (loads_added g.0 past)
 
 pub meets-grows : (past h : List Entry) (i a b : ℕ) (met : List Image) → Grows past h → b ≤ changes past
     → Meets load_number (list_after past) i a b met → Meets load_number (list_after h) i a b met

@@ -92,6 +92,13 @@ module _ {A : Type 0} (number : A → ℕ) (lists : ℕ → List A) where
         contains_later x y met (meets_complete (number x) start m.0 b met from (was_met x start m.0 f.1.0 f.1.1 f.1.2 f.1.3) m.3 ends y all past))
         w.2
 
+    -- what a walk has met that has not ended
+    pub met_rise : (a b : ℕ) (met : List A) → Meets number lists 0 a b met → RisesAbove number 0 met
+    met_rise a b met m = meets_rise 0 a a b met (le_refl a) tt m
+
+    pub met_listed : (a b : ℕ) (met : List A) → Meets number lists 0 a b met → (y : A) → Contains met y → (j : ℕ) × (a ≤ j) × (j ≤ b) × Contains (lists j) y
+    met_listed a b met m = meets_listed 0 a a b met (le_refl a) tt m
+
     -- a walk that came to its end is lawful
     pub whole_walk_lawful : (a b : ℕ) (met : List A) → IsWholeWalk number lists a b met → IsLawfulWalk number lists a b met
     whole_walk_lawful a b met w =

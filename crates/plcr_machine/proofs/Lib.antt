@@ -13,3 +13,9 @@ pub mod Full
 pub mod Loaded
 pub mod Growing
 pub mod Follows
+pub mod ListsMade
+pub mod Counted
+pub mod Makers
+pub mod Staying
+pub mod Renaming
+pub mod EventsMade

@@ -1,5 +1,5 @@
 -- In a paced history there are as many changes as counts, or one more.
-use Rattle.std.proofs.Common.{◌≡◌, ◌⊎◌, inl, inr, suc, ◌+◌, List, [], ◌∷◌, ◌++◌, cond, refl, subst, arith}
+use Rattle.std.proofs.Common.{◌≡◌, ◌⊎◌, inl, inr, suc, ◌+◌, List, [], ◌∷◌, ◌++◌, cond, false, refl, subst, arith}
 use Rattle.plcr_machine.specs.declared.entry.Entry.{Entry}
 use Rattle.plcr_machine.specs.declared.entry.Entry.TheVariants.{Announce, Enter, Leave, Retire, Load, Unload, Count, Look}
 use Rattle.plcr_machine.specs.Lists.{Grows, changes}
@@ -38,3 +38,7 @@ pub paced_even : (past : List Entry) → IsPaced past → (changes past ≡ coun
 paced_even past t =
     let total = changes-paced past t in
     by_cases (owes_count past) (λ o. inr (let n = rw o at total in omega (arith, n))) (λ o. inl (let n = rw o at total in omega (arith, n)))
+
+-- at rest there are as many
+pub paced_rest : (h : List Entry) → IsPaced h → owes_count h ≡ false → changes h ≡ counts h
+paced_rest h t o = let total = rw o at (changes-paced h t) in omega (arith, total)

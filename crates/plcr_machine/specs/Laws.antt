@@ -7,7 +7,7 @@ use Rattle.plcr_machine.specs.declared.limits.TheConstants.{MOST_CHANGES}
 use Rattle.plcr_machine.specs.Lists.{Grows, load_number, has, live, loaded, changes, list_after}
 use Rattle.plcr_machine.specs.Parts.{change_entries}
 use Rattle.plcr_machine.specs.Walks.{RisesAbove, follow, IsWholeWalk, IsLawfulWalk}
-use Rattle.plcr_machine.specs.Passes.{is_inside, is_announced, stamp_of, counts, IsPaced}
+use Rattle.plcr_machine.specs.Passes.{is_inside, is_announced, stamp_of, counts, owes_count, IsPaced}
 use Rattle.plcr_machine.specs.Nodes.{is_removed, is_free, is_found_out, unloaded_at}
 use Rattle.plcr_machine.specs.Histories.{IsLegal}
 use Rattle.plcr_machine.specs.Holds.{may_reach, IsKept}
@@ -39,6 +39,10 @@ EndedWalkOfHistoryIsLawful = (nodes passes : ℕ) (history : List Entry) → IsL
 -- in a paced history each prefix has as many changes as counts, or one more
 abbrev pub PacedPrefixes : Type 0
 PacedPrefixes = (past history : List Entry) → IsPaced history → Grows past history → (changes past ≡ counts past) ⊎ (changes past ≡ suc (counts past))
+
+-- and where no change is left to be counted, as many changes as counts
+abbrev pub RestIsCounted : Type 0
+RestIsCounted = (history : List Entry) → IsPaced history → IsFalse (owes_count history) → changes history ≡ counts history
 
 -- where since the last change each pass was found with no stamp and no node is free, all nodes are in the list
 abbrev pub FullWhenNoneIsFree : Type 0

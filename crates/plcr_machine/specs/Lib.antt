@@ -6,5 +6,9 @@ pub mod Histories
 pub mod Parts
 pub mod Holds
 pub mod Links
+pub mod Changes
+pub mod Events
 pub mod Laws
+pub mod ChangeLaws
+pub mod EventLaws
 pub mod Examples

@@ -50,6 +50,12 @@ loads [] = 0
 loads (Load _ _ _ ∷ past) = suc (loads past)
 loads (_ ∷ past) = loads past
 
+-- how many unloads a history has
+abbrev pub unloads : List Entry → ℕ
+unloads [] = 0
+unloads (Unload _ ∷ past) = suc (unloads past)
+unloads (_ ∷ past) = unloads past
+
 -- the list after a number of changes, or after all where there are fewer
 abbrev pub list_after : List Entry → ℕ → List Image
 list_after [] j = []

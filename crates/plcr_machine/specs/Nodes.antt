@@ -1,10 +1,10 @@
 -- Which nodes are new, removed, let go and free, after a history with the newest entry first.
 -- As in epoch-based reclamation, a node that was removed is free once each pass was found with no stamp, or with one
 -- from after the count of the removal.
-use Rattle.std.specs.Prelude.{ℕ, suc, List, [], ◌∷◌, Bool, true, false, ◌==◌, ◌||◌, ◌&&◌, if◌then◌else◌, nat_lt, length}
+use Rattle.std.specs.Prelude.{ℕ, suc, List, [], ◌∷◌, Bool, true, false, not, ◌==◌, ◌||◌, ◌&&◌, if◌then◌else◌, nat_lt, length}
 use Rattle.plcr_machine.specs.declared.entry.Entry.{Entry}
 use Rattle.plcr_machine.specs.declared.entry.Entry.TheVariants.{Load, Unload, Look}
-use Rattle.plcr_machine.specs.Passes.{all_under, counts}
+use Rattle.plcr_machine.specs.Passes.{all_under, count_below, counts}
 
 -- whether a node was never loaded
 abbrev pub is_new : ℕ → List Entry → Bool
@@ -44,6 +44,17 @@ is_cleared passes node history = all_under (λ pass. is_let_go pass node history
 -- whether a node is free: never loaded, or removed and let go by each pass since
 abbrev pub is_free : ℕ → ℕ → List Entry → Bool
 is_free passes node history = is_new node history || (is_removed node history && is_cleared passes node history)
+
+-- whether a node waits: it was removed, and some pass has not let go of it
+abbrev pub is_waiting : ℕ → ℕ → List Entry → Bool
+is_waiting passes node history = is_removed node history && not (is_cleared passes node history)
+
+-- how many of the nodes are free, and how many wait
+abbrev pub free_count : ℕ → ℕ → List Entry → ℕ
+free_count nodes passes history = count_below (λ node. is_free passes (suc node) history) nodes
+
+abbrev pub waiting_count : ℕ → ℕ → List Entry → ℕ
+waiting_count nodes passes history = count_below (λ node. is_waiting passes (suc node) history) nodes
 
 -- whether a pass was found with no stamp since the last change
 abbrev pub is_found_out : ℕ → List Entry → Bool

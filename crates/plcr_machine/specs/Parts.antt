@@ -1,5 +1,5 @@
 -- The parts of a history that are made by one pass, or by the one writer, or that change the list. The newest entry stands first.
-use Rattle.std.specs.Prelude.{ℕ, List, [], ◌∷◌, ◌==◌, if◌then◌else◌}
+use Rattle.std.specs.Prelude.{ℕ, zero, suc, ◌+◌, List, [], ◌∷◌, ◌==◌, if◌then◌else◌}
 use Rattle.plcr_machine.specs.declared.entry.Entry.{Entry}
 use Rattle.plcr_machine.specs.declared.entry.Entry.TheVariants.{Announce, Enter, Leave, Retire, Load, Unload}
 
@@ -20,6 +20,11 @@ owner_entries (Enter _ ∷ past) = owner_entries past
 owner_entries (Leave _ ∷ past) = owner_entries past
 owner_entries (Retire _ ∷ past) = owner_entries past
 owner_entries (entry ∷ past) = entry ∷ owner_entries past
+
+-- what a number for each number below n sums up to
+abbrev pub total : (ℕ → ℕ) → ℕ → ℕ
+total number zero = 0
+total number (suc n) = number n + total number n
 
 -- the changes of the list: its loads and unloads. An unload names a node; to unload by a header, which takes the first
 -- image with that header, belongs to the writer, which chooses the node

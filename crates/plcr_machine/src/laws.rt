@@ -1,7 +1,7 @@
 //! What legal histories imply, each as the contract of a function that does nothing.
 
 ghost use Rattle.plcr_machine.specs.Examples.{WorkedHistory, WorkedNodes, WorkedLinks, WorkedWalk, Refused};
-ghost use Rattle.plcr_machine.specs.Laws.{LegalIsKept, ReachIsBusy, FreedInOrder, EndedWalkIsLawful, EndedWalkOfHistoryIsLawful, PacedPrefixes, FullWhenNoneIsFree, FullIsAsLong, StaleLinksLeadOn, LinksStayInReach, LinksFollow, LoadChangesOneLink, UnloadChangesOneLink, InsideIsAnnounced, CountsAreFew, ListsStay, ChangesMakeTheList};
+ghost use Rattle.plcr_machine.specs.Laws.{LegalIsKept, ReachIsBusy, FreedInOrder, EndedWalkIsLawful, EndedWalkOfHistoryIsLawful, PacedPrefixes, RestIsCounted, FullWhenNoneIsFree, FullIsAsLong, StaleLinksLeadOn, LinksStayInReach, LinksFollow, LoadChangesOneLink, UnloadChangesOneLink, InsideIsAnnounced, CountsAreFew, ListsStay, ChangesMakeTheList};
 
 /// No node is loaded that a pass may still reach.
 pub fn legal_is_kept()
@@ -22,7 +22,8 @@ pub fn ended_walk_is_lawful()
 
 /// Where counts and changes alternate, there are as many changes as counts, or one more.
 pub fn paced_prefixes()
-    ensures { PacedPrefixes }
+    ensures prefixes { PacedPrefixes }
+    ensures rest { RestIsCounted }
 {}
 
 /// Where no node is free though no pass is inside, all nodes are in the list.

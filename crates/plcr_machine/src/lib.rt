@@ -3,12 +3,21 @@
 //! entries; no table of words is in sight.
 #![tactic(auto)]
 
+mod change;
+mod change_laws;
 mod entry;
+mod event_laws;
 mod image;
 mod laws;
 mod limits;
 
+pub use change::{Change, Named};
+pub use change_laws::{
+    before_enter_stays, changes_leave_the_lists, each_entry_has_one_maker, ended_walks_stay,
+    met_finds_nobody, met_were_listed, nodes_are_counted, numbers_grow, walks_know_no_nodes,
+};
 pub use entry::Entry;
+pub use event_laws::{events_are_added, events_tell, held_is_waiting};
 pub use image::Image;
 pub use laws::{
     ended_walk_is_lawful, freed_in_order, full_when_none_is_free, inside_is_announced,
