@@ -19,3 +19,4 @@ pub mod Makers
 pub mod Staying
 pub mod Renaming
 pub mod EventsMade
+pub mod Prefixes

@@ -10,6 +10,7 @@ mod event_laws;
 mod image;
 mod laws;
 mod limits;
+pub mod plain;
 
 pub use change::{Change, Named};
 pub use change_laws::{
