@@ -20,3 +20,4 @@ pub mod Staying
 pub mod Renaming
 pub mod EventsMade
 pub mod Prefixes
+pub mod Judging

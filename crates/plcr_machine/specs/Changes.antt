@@ -1,6 +1,7 @@
 -- The changes of an image list by headers and names, and the lists that they leave. No node is in sight.
 -- The newest change stands first, and the names of all loads too.
-use Rattle.std.specs.Prelude.{◌≡◌, ℕ, suc, List, [], ◌∷◌, ◌++◌, length, map, nat_le, ◌==◌, if◌then◌else◌}
+use Rattle.std.specs.Prelude.{◌≡◌, ℕ, zero, suc, List, Vec, [], ◌∷◌, ◌++◌, length, map, nat_le, ◌==◌, if◌then◌else◌}
+use Rattle.std.specs.Global.{Global}
 use Rattle.plcr_machine.specs.declared.image.Image.{Image}
 use Rattle.plcr_machine.specs.declared.entry.Entry.{Entry}
 use Rattle.plcr_machine.specs.declared.entry.Entry.TheVariants.{Load, Unload}
@@ -62,3 +63,9 @@ first_changes j (change ∷ past) = if nat_le (suc (length past)) j then change 
 -- the list after j changes
 abbrev pub list_after_changes : List Change → ℕ → List Named
 list_after_changes changes j = list_of (first_changes j changes)
+
+-- the list that stands at a place, where lists stand one after the other; the empty list past the end
+abbrev pub lists_at : List (Vec Named Global) → ℕ → List Named
+lists_at [] j = []
+lists_at (list ∷ lists) zero = list.items
+lists_at (list ∷ lists) (suc j) = lists_at lists j

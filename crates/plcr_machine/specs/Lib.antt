@@ -12,3 +12,4 @@ pub mod Laws
 pub mod ChangeLaws
 pub mod EventLaws
 pub mod Examples
+pub mod inner
