@@ -12,4 +12,5 @@ pub mod Laws
 pub mod ChangeLaws
 pub mod EventLaws
 pub mod Examples
+pub mod ChangeExamples
 pub mod inner

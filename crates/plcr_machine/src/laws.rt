@@ -1,6 +1,7 @@
 //! What legal histories imply, each as the contract of a function that does nothing.
 
 ghost use Rattle.plcr_machine.specs.Examples.{WorkedHistory, WorkedNodes, WorkedLinks, WorkedWalk, Refused};
+ghost use Rattle.plcr_machine.specs.ChangeExamples.{WorkedChanges, WorkedEvents};
 ghost use Rattle.plcr_machine.specs.Laws.{LegalIsKept, ReachIsBusy, FreedInOrder, EndedWalkIsLawful, EndedWalkOfHistoryIsLawful, PacedPrefixes, RestIsCounted, FullWhenNoneIsFree, FullIsAsLong, StaleLinksLeadOn, LinksStayInReach, LinksFollow, LoadChangesOneLink, UnloadChangesOneLink, InsideIsAnnounced, CountsAreFew, ListsStay, ChangesMakeTheList};
 
 /// No node is loaded that a pass may still reach.
@@ -68,4 +69,6 @@ pub fn worked_examples()
     ensures links { WorkedLinks }
     ensures walk { WorkedWalk }
     ensures refused { Refused }
+    ensures changes { WorkedChanges }
+    ensures events { WorkedEvents }
 {}

@@ -26,3 +26,6 @@ pub use laws::{
     worked_examples,
 };
 pub use limits::{MOST_CHANGES, MOST_NODES, MOST_PASSES};
+
+#[cfg(test)]
+mod tests;

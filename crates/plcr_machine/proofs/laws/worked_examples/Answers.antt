@@ -4,6 +4,7 @@ use Rattle.plcr_machine.specs.declared.entry.Entry.TheVariants.{Load, Count}
 use Rattle.plcr_machine.specs.Lists.{load_number, list_after}
 use Rattle.plcr_machine.specs.Examples.{image_a, image_b, image_c, entered, looked, worked, overlapped}
 use Rattle.plcr_machine.specs.Histories.{IsLegal}
+use Rattle.plcr_machine.specs.Changes.{TakesFirst}
 use Rattle.plcr_machine.specs.Walks.{IsWholeWalk}
 use Rattle.plcr_machine.proofs.Loaded.{list_after_rises}
 use Rattle.plcr_machine.proofs.Lawful.{whole_walk_lawful}
@@ -140,4 +141,31 @@ returns-clause-refused c = record {
   empty = λ w. absurd (omega (arith, (w.complete image_a there_all_along).1));
   short = λ w. let lengths : 1 ≡ 2 = ap length (w.same refl) in absurd (omega arith);
   gone = λ w. let was = w.listed image_a (0, omega arith, refl) in gone_by_then was.0 was.1 was.2 was.3;
+}
+
+worked_first : TakesFirst worked
+worked_first = (refl, (refl, tt))
+
+pub returns-clause-changes : goal.returns-clause-changes
+returns-clause-changes c = record {
+  changes = refl;
+  named = (refl, refl);
+  first = (worked_first, (refl, tt), λ t. let one : 1 ≡ 2 = t.0 in absurd (omega arith));
+  nodes = (refl, refl, refl, refl);
+  without = (refl, refl);
+  prefix = (refl, refl);
+  lists = (refl, refl, refl, refl, refl);
+  follow = (refl, refl, refl);
+  numbers = (refl, refl, refl, refl, refl, refl);
+  makers = refl;
+}
+
+pub returns-clause-events : goal.returns-clause-events
+returns-clause-events c = record {
+  events = refl;
+  changes = refl;
+  noted = refl;
+  held = (refl, refl, refl, refl, refl);
+  looks = (refl, refl);
+  may = record { are = refl; legal = record { few_nodes = omega arith; few_passes = omega arith; legal = worked_legal; named = refl }; first = worked_first };
 }
