@@ -8,6 +8,7 @@ use Rattle.plcr_machine.specs.declared.entry.Entry.TheVariants.{Announce, Enter,
 use Rattle.plcr_machine.specs.declared.change.Named.{Named}
 use Rattle.plcr_machine.specs.Lists.{has, without, live, changes, list_after}
 use Rattle.plcr_machine.specs.Histories.{IsLegal}
+use Rattle.plcr_machine.specs.Parts.{owner_entries}
 use Rattle.plcr_machine.specs.Changes.{named, all_named, first_node, header_at, TakesFirst, changes_of, without_first, list_of, list_after_changes}
 use Rattle.plcr_machine.proofs.Cases.{by_cases, not_both}
 use Rattle.plcr_machine.proofs.OnNodes.{IsApart, without_absent}
@@ -85,3 +86,41 @@ module _ (nodes passes : ℕ) (names : List (List ℕ)) where
       by_cases (leb (suc (changes past)) j)
       (λ t. rw (changes_of-length names past, t) (lists_made (Unload n ∷ past) l f))
       (λ t. rw (changes_of-length names past, t) (lists_after past j l.1 f.1))
+
+-- the writer's entries tell the list
+live-owner : (h : List Entry) → live (owner_entries h) ≡ live h
+live-owner [] = refl
+live-owner (Announce p seen ∷ past) = live-owner past
+live-owner (Enter p ∷ past) = live-owner past
+live-owner (Leave p ∷ past) = live-owner past
+live-owner (Retire p ∷ past) = live-owner past
+live-owner (Count ∷ past) = live-owner past
+live-owner (Look p stamp ∷ past) = live-owner past
+live-owner (Load n i a ∷ past) = ap (λ (xs : List Image). xs ++ record { node = n; load = i; header = a } ∷ []) (live-owner past)
+live-owner (Unload n ∷ past) = ap (without n) (live-owner past)
+
+-- and which images the unloads took
+takes_owner : (h : List Entry) → TakesFirst h → TakesFirst (owner_entries h)
+takes_owner [] f = f
+takes_owner (Announce p seen ∷ past) f = takes_owner past f
+takes_owner (Enter p ∷ past) f = takes_owner past f
+takes_owner (Leave p ∷ past) f = takes_owner past f
+takes_owner (Retire p ∷ past) f = takes_owner past f
+takes_owner (Count ∷ past) f = takes_owner past f
+takes_owner (Look p stamp ∷ past) f = takes_owner past f
+takes_owner (Load n i a ∷ past) f = takes_owner past f
+takes_owner (Unload n ∷ past) f = (subst (λ (xs : List Image). first_node (header_at n xs) xs ≡ n) (sym (live-owner past)) f.0, takes_owner past f.1)
+
+owner_takes : (h : List Entry) → TakesFirst (owner_entries h) → TakesFirst h
+owner_takes [] f = f
+owner_takes (Announce p seen ∷ past) f = owner_takes past f
+owner_takes (Enter p ∷ past) f = owner_takes past f
+owner_takes (Leave p ∷ past) f = owner_takes past f
+owner_takes (Retire p ∷ past) f = owner_takes past f
+owner_takes (Count ∷ past) f = owner_takes past f
+owner_takes (Look p stamp ∷ past) f = owner_takes past f
+owner_takes (Load n i a ∷ past) f = owner_takes past f
+owner_takes (Unload n ∷ past) f = (subst (λ (xs : List Image). first_node (header_at n xs) xs ≡ n) (live-owner past) f.0, owner_takes past f.1)
+
+pub takes_same : (past h : List Entry) → owner_entries h ≡ owner_entries past → TakesFirst past → TakesFirst h
+takes_same past h same f = owner_takes h (subst (λ (xs : List Entry). TakesFirst xs) (sym same) (takes_owner past f))

@@ -83,7 +83,7 @@ own_cases p (Unload m) past = inl refl
 own_cases p Count past = inl refl
 own_cases p (Look q stamp) past = inl refl
 
-own_grow : (p : ℕ) (added past : List Entry) → length (own_entries p past) ≤ length (own_entries p (added ++ past))
+pub own_grow : (p : ℕ) (added past : List Entry) → length (own_entries p past) ≤ length (own_entries p (added ++ past))
 own_grow p [] past = le_refl (length (own_entries p past))
 own_grow p (e ∷ added) past =
     let before = own_grow p added past in

@@ -19,6 +19,10 @@ abbrev pub ChangesLeaveTheLists : Type 0
 ChangesLeaveTheLists = (nodes passes : ℕ) (names : List (List ℕ)) (history : List Entry) → IsLegal nodes passes history → TakesFirst history
     → (length (changes_of names history) ≡ changes history) × ((j : ℕ) → list_after_changes (changes_of names history) j ≡ all_named names (list_after history j))
 
+-- whether each unload took the first image with its header is told by the writer's entries, so it stays where others come between
+abbrev pub WriterTakesFirst : Type 0
+WriterTakesFirst = (past history : List Entry) → owner_entries history ≡ owner_entries past → TakesFirst past → TakesFirst history
+
 -- images are unloaded once, and each that was loaded and not unloaded is in the list
 abbrev pub UnloadsAreLoads : Type 0
 UnloadsAreLoads = (nodes passes : ℕ) (history : List Entry) → IsLegal nodes passes history → (length (live history) + unloads history ≡ loads history) × (loads history + unloads history ≡ changes history)

@@ -7,7 +7,7 @@ use Rattle.plcr_machine.specs.declared.limits.TheConstants.{MOST_CHANGES}
 use Rattle.plcr_machine.specs.Lists.{Grows, load_number, has, live, loaded, changes, list_after}
 use Rattle.plcr_machine.specs.Parts.{change_entries}
 use Rattle.plcr_machine.specs.Walks.{RisesAbove, follow, IsWholeWalk, IsLawfulWalk}
-use Rattle.plcr_machine.specs.Passes.{is_inside, is_announced, stamp_of, counts, owes_count, IsPaced}
+use Rattle.plcr_machine.specs.Passes.{is_inside, is_announced, stamp_of, announced_count, counts, owes_count, IsPaced}
 use Rattle.plcr_machine.specs.Nodes.{is_removed, is_free, is_found_out, unloaded_at}
 use Rattle.plcr_machine.specs.Histories.{IsLegal}
 use Rattle.plcr_machine.specs.Holds.{may_reach, IsKept}
@@ -91,9 +91,10 @@ abbrev pub InsideIsAnnounced : Type 0
 InsideIsAnnounced = (nodes passes pass : ℕ) (history : List Entry) → IsLegal nodes passes history → IsTrue (is_inside pass history)
     → IsTrue (is_announced pass history) × (pass < passes)
 
--- counts and stamps stay in their words: no more changes are counted than may be, and no pass announces more counts than there are
+-- counts and stamps stay in their words: no more changes are counted than may be, no pass announces more counts than
+-- there are, and no more passes are announced than there are
 abbrev pub CountsAreFew : Type 0
-CountsAreFew = (nodes passes pass : ℕ) (history : List Entry) → IsLegal nodes passes history → (counts history ≤ MOST_CHANGES) × (stamp_of pass history ≤ suc (counts history))
+CountsAreFew = (nodes passes pass : ℕ) (history : List Entry) → IsLegal nodes passes history → (counts history ≤ MOST_CHANGES) × (stamp_of pass history ≤ suc (counts history)) × (announced_count passes history ≤ passes)
 
 -- as a history goes on, the list after each number of changes that it has had stays
 abbrev pub ListsStay : Type 0

@@ -1,12 +1,13 @@
 //! What ties histories to their changes, walks to later and named lists, and entries to those who made them, each as
 //! the contract of a function that does nothing.
 
-ghost use Rattle.plcr_machine.specs.ChangeLaws.{ChangesLeaveTheLists, UnloadsAreLoads, NodesAreCounted, NoneIsFree, EachEntryHasOneMaker, NothingElse, MetFindsNobody, BeforeEnterStays, BeforeEnterIsEntered, NumbersGrow, EndedWalksStay, LawfulWhenWider, MetWereListed, FollowWithoutNodes, EndedWalkOfChangesIsLawful};
+ghost use Rattle.plcr_machine.specs.ChangeLaws.{ChangesLeaveTheLists, UnloadsAreLoads, WriterTakesFirst, NodesAreCounted, NoneIsFree, EachEntryHasOneMaker, NothingElse, MetFindsNobody, BeforeEnterStays, BeforeEnterIsEntered, NumbersGrow, EndedWalksStay, LawfulWhenWider, MetWereListed, FollowWithoutNodes, EndedWalkOfChangesIsLawful};
 
 /// The changes of a history, by headers and names, leave its lists.
 pub fn changes_leave_the_lists()
     ensures lists { ChangesLeaveTheLists }
     ensures loads { UnloadsAreLoads }
+    ensures writer { WriterTakesFirst }
 {}
 
 /// Each node is in the list, free or waiting.

@@ -25,7 +25,7 @@ pub use laws::{
     legal_is_kept, links_follow, lists_stay, one_link_changes, paced_prefixes, stale_links_lead_on,
     worked_examples,
 };
-pub use limits::{MOST_CHANGES, MOST_NODES, MOST_PASSES};
+pub use limits::{COUNT_UNIT, MOST_CHANGES, MOST_NODES, MOST_PASSES};
 
 #[cfg(test)]
 mod tests;
