@@ -1,10 +1,11 @@
 pub mod Entries
 pub mod Names
 pub mod Seeing
+pub mod Words
 pub mod Rule
-pub mod Plays
 pub mod Tokens
-pub mod Counting
-pub mod Unlinking
+pub mod Owning
+pub mod Opening
 pub mod Telling
 pub mod Knowing
+pub mod inner

@@ -21,6 +21,10 @@ payload_word header name zero = header
 payload_word header name (suc zero) = length name
 payload_word header name (suc (suc k)) = u64_in name (8 * k)
 
+-- the value x stored in word k of node n; word 0 is the link, and word k + 1 payload word k
+abbrev pub store : ℕ → ℕ → ℕ → Store
+store n k x = record { node = n; word = k; value = x }
+
 -- what was stored last in word k of the node, of stores with the newest first
 abbrev pub stored : ℕ → ℕ → List Store → Option ℕ
 stored n k [] = None

@@ -1,31 +1,24 @@
 -- The rule of the table: one legal history that the words show and that each seat knows a beginning of. Lists have the newest first, so a beginning in time is an end of the list.
-use Rattle.std.specs.Prelude.{◌≡◌, ◌⊎◌, ℕ, ◌+◌, ◌*◌, ◌<◌, ◌≤◌, Bool, true, false, List, [], ◌∷◌, length, slice_index, Some}
+use Rattle.std.specs.Prelude.{◌≡◌, ◌⊎◌, ℕ, ◌+◌, ◌<◌, ◌≤◌, Bool, true, false, List, [], ◌∷◌, length, slice_index, Some}
 use mathlib.Core.Option.{some}
 use lib.ListN.{get_elem?}
 use Rattle.atomic_table.specs.Table.{State}
 use Rattle.plcr_machine.specs.declared.entry.Entry.{Entry}
 use Rattle.plcr_machine.specs.Histories.{IsLegal}
 use Rattle.plcr_machine.specs.Lists.{loads, loaded, name_of}
-use Rattle.plcr_machine.specs.Passes.{counts, readers}
+use Rattle.plcr_machine.specs.Passes.{counts, stamp_of}
 use Rattle.plcr_machine.specs.Nodes.{is_free}
 use Rattle.plcr_machine.specs.Links.{link_of}
 use Rattle.plcr_machine.specs.Holds.{may_reach}
 use Rattle.plcr_machine.specs.Parts.{own_entries}
-use Rattle.plcr_machine.specs.declared.limits.TheConstants.{MOST_NODES, MOST_PASSES, MOST_CHANGES}
+use Rattle.plcr_machine.specs.declared.limits.TheConstants.{MOST_NODES, MOST_PASSES}
 use Rattle.plcr_nodes.specs.declared.view.View.{View}
 use Rattle.plcr_nodes.specs.declared.view.Heard.{Heard}
+use Rattle.plcr_nodes.specs.declared.words.TheConstants.{GATE, NUMBERS, NODE_WORDS, PAYLOAD_WORDS}
 use Rattle.plcr_nodes.specs.Entries.{among, WentOn}
 use Rattle.plcr_nodes.specs.Seeing.{AddsOthers}
 use Rattle.plcr_nodes.specs.Names.{payload_word, words_of, stored, AreNames}
-use Rattle.plcr_nodes.specs.declared.gate.TheConstants.{COUNT_UNIT}
-
--- Word 0 is the gate and word 1 counts the pass numbers. From `base n` on node n has its link and 130 payload words; node 0 is the head, which has a link alone
-abbrev pub base : ℕ → ℕ
-base n = 2 + 131 * n
-
--- the gate's word: the counts above, the readers below
-abbrev pub gate_of : ℕ → List Entry → ℕ
-gate_of passes h = counts h * COUNT_UNIT + readers passes h
+use Rattle.plcr_nodes.specs.Words.{base, stamp_place, table_words}
 
 -- the name of the last image that was loaded on the node
 abbrev pub name_on : ℕ → List Entry → List (List ℕ) → List ℕ
@@ -48,24 +41,28 @@ pub record Truth : Type 0 where
   pub owner : ℕ
   pub holder : ℕ → ℕ
 
--- a word of the table that readers may reach: the head's, and those of the nodes that aren't free
-abbrev pub IsHeld : ℕ → List Entry → Type 0
-IsHeld n h = (n ≡ 0) ⊎ (is_free n h ≡ false)
+-- a place whose link passes may follow: the head, and each node that isn't free
+abbrev pub IsHeld : ℕ → ℕ → List Entry → Type 0
+IsHeld passes n h = (n ≡ 0) ⊎ (is_free passes n h ≡ false)
+
+-- The words beside the nodes show the history: the gate is the number of counts, and each stamp is 0 where its pass isn't announced, and else one more than the counts that the pass had seen
+pub record ShowsBeside (nodes passes : ℕ) (words : List ℕ) (h : List Entry) : Type 0 where
+  pub gate : slice_index words GATE ≡ counts h
+  pub stamps : (p : ℕ) → p < passes → slice_index words (stamp_place nodes p) ≡ stamp_of p h
 
 -- the words show the history
 pub record Stands (nodes passes : ℕ) (t : Truth) : Type 0 where
   pub sizes : (nodes ≤ MOST_NODES) × (passes ≤ MOST_PASSES)
-  pub wide : length t.words ≡ base (nodes + 1)
+  pub wide : length t.words ≡ table_words nodes passes
   pub legal : IsLegal nodes passes t.history
   pub named : length t.names ≡ loads t.history
   pub short : AreNames t.names
-  pub few : counts t.history ≤ MOST_CHANGES
-  pub gate : slice_index t.words 0 ≡ gate_of passes t.history
-  pub number : slice_index t.words 1 ≡ t.numbered
+  pub beside : ShowsBeside nodes passes t.words t.history
+  pub number : slice_index t.words NUMBERS ≡ t.numbered
   pub enough : t.numbered ≤ passes
   pub unused : (p : ℕ) → t.numbered ≤ p → own_entries p t.history ≡ []
-  pub links : (n : ℕ) → n ≤ nodes → IsHeld n t.history → slice_index t.words (base n) ≡ link_of n t.history
-  pub payload : (n k : ℕ) → 0 < n → n ≤ nodes → is_free n t.history ≡ false → k < 130 → k < image_words n t.history t.names
+  pub links : (n : ℕ) → n ≤ nodes → IsHeld passes n t.history → slice_index t.words (base n) ≡ link_of n t.history
+  pub payload : (n k : ℕ) → 0 < n → n ≤ nodes → is_free passes n t.history ≡ false → k < PAYLOAD_WORDS → k < image_words n t.history t.names
       → slice_index t.words (base n + (k + 1)) ≡ image_word n t.history t.names k
 
 -- A beginning of the history that was seen, with the names of its loads. Who owns the list has seen all of the owner's entries, and who has a pass number all of that pass's
@@ -82,7 +79,7 @@ abbrev pub first_of : List ℕ → ℕ
 first_of [] = 0
 first_of (x ∷ xs) = x
 
--- the number under which a pass's seat enters and leaves
+-- the number under which a pass's seat steps
 abbrev pub number_of : View → ℕ
 number_of v = first_of v.numbers
 
@@ -93,7 +90,8 @@ pub record Fits (nodes passes : ℕ) (t : Truth) (j : ℕ) (v : View) : Type 0 w
   pub owns : v.owns ≡ true → (j ≡ t.owner) × (v.numbered ≡ t.numbered)
   pub holds : (p : ℕ) → among p v.numbers ≡ true → (p < t.numbered) × (t.holder p ≡ j)
   pub given : (n : ℕ) → among n v.given ≡ true → 0 < n → may_reach (number_of v) n v.history ≡ true
-  pub filled : v.owns ≡ true → (n k x : ℕ) → 0 < n → k < 131 → stored n k v.filled ≡ Some x → (n ≤ nodes) × (is_free n v.history ≡ true) × (slice_index t.words (base n + k) ≡ x)
+  pub filled : v.owns ≡ true → (n k x : ℕ) → 0 < n → k < NODE_WORDS → stored n k v.filled ≡ Some x
+      → (n ≤ nodes) × (is_free passes n v.history ≡ true) × (slice_index t.words (base n + k) ≡ x)
   pub heard : (k : ℕ) (w : Heard) → get_elem? v.heard k ≡ some w → Hears t j w
 
 pub record Holds (nodes passes : ℕ) (s : State Unit View) : Type 0 where

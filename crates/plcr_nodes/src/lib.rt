@@ -3,12 +3,12 @@
 #![tactic(auto)]
 
 mod counting;
-mod gate;
 mod laws;
 mod nodes;
 mod owner;
 mod pass;
 mod plays;
+mod stamps;
 mod telling;
 #[cfg(test)]
 mod telling_tests;
@@ -16,11 +16,12 @@ mod telling_tests;
 mod tests;
 mod unlinking;
 mod view;
+mod words;
 
-pub use gate::COUNT_UNIT;
 pub use laws::{owners_know_the_list, passes_keep_their_reach};
 pub use nodes::{Nodes, NodesError};
 pub use owner::Owner;
 pub use pass::NodePass;
 pub use telling::NodeNote;
 pub use view::{Heard, OneHistory, Sizes, Store, View};
+pub use words::{NODE_WORDS, PAYLOAD_WORDS, STAMP_SPACING};

@@ -1,12 +1,13 @@
 //! The table, and its opening.
-ghost use Rattle.std.specs.Prelude.{◌≡◌, ℕ, ◌+◌, ◌*◌, ◌<◌, ◌≤◌, [], ◌∷◌, ◌++◌, IfOk, IfErr, OnOk, IsErrOf};
-ghost use Rattle.plcr_nodes.specs.Rule.{base, owner_view};
-ghost use Rattle.plcr_nodes.specs.Tokens.{IsSized, IsOpening, IsOpened, opened_pass, opened_passes};
+ghost use Rattle.std.specs.Prelude.{◌≡◌, ◌+◌, ◌<◌, IfOk, IfErr, IsErrOf};
+ghost use Rattle.plcr_nodes.specs.Opening.{IsSized, IsOpened, FindsNothing, opened_pass, opened_passes};
+ghost use Rattle.plcr_nodes.specs.inner.Seats.{IsOpening};
 
 use crate::owner::Owner;
 use crate::pass::NodePass;
 use crate::plays::{Giving, Numbering};
 use crate::view::{OneHistory, Sizes, View};
+use crate::words::{NUMBERS, stamp_word};
 use atomic_table::{Seat, Table};
 use plcr_machine::{MOST_NODES, MOST_PASSES};
 use std::alloc::{AllocError, Global};
@@ -48,13 +49,6 @@ impl From<AllocError> for NodesError {
     }
 }
 
-/// The word in which a place's link lies.
-pub(crate) fn place_of(node: u32) -> usize
-    ensures { result ≡ base node }
-{
-    2 + 131 * node as usize
-}
-
 impl Nodes {
     /// A table with an empty list and the tokens for it: the owner, and as many passes, with the numbers from 0 on.
     /// `BadSize` comes exactly where there aren't 1 to 4,096 nodes and 1 to 1,024 passes.
@@ -64,6 +58,7 @@ impl Nodes {
         passes: u32,
     ) -> Result<(Nodes, Owner, Vec<NodePass>), NodesError>
         ensures opened { IfOk result (λ r. IsSized nodes passes × IsOpened nodes passes r.0 r.1 r.2.items) }
+        ensures first { IfOk result (λ r. FindsNothing r.1) }
         ensures bad { ¬ IsSized nodes passes → IsErrOf result (NodesError.BadSize nodes passes) }
         ensures memory { IsSized nodes passes → IfErr result (λ e. e ≡ NodesError.Memory) }
     {
@@ -81,7 +76,7 @@ impl Nodes {
         requires { IsSized nodes passes }
         ensures { IfOk result (λ r. (r.1.table_id ≡ r.0) × IsOpening nodes passes 0 r.0 r.1.me) }
     {
-        let words = vec![in alloc; 0; 2 + 131 * (nodes as usize + 1)]?;
+        let words = vec![in alloc; 0; stamp_word(nodes as usize + 1, passes)]?;
         let (table, seat) = Table::of_words(alloc, words.as_slice(), &Sizes { nodes, passes })?;
         Ok((Nodes { table }, seat))
     }
@@ -123,9 +118,10 @@ impl Nodes {
         ensures opening { IsOpening nodes passes (number + 1) self.now seat.new.me }
         ensures pass { result ≡ opened_pass self.now nodes passes number }
     {
-        self.table.shared.fetch_add::<Numbering>(seat, 1, 1);
+        self.table.shared.fetch_add::<Numbering>(seat, NUMBERS, 1);
         NodePass {
             seat: self.table.shared.split_seat::<Giving>(seat),
+            stamp: stamp_word(nodes as usize + 1, number),
         }
     }
 }

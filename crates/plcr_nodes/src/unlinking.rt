@@ -1,17 +1,11 @@
 //! The owner takes an image out of the list.
 ghost use Rattle.std.specs.Prelude.{◌≡◌};
-ghost use Rattle.plcr_nodes.specs.Unlinking.{Follows, unlinked, IsUnlinked};
+ghost use Rattle.plcr_nodes.specs.Owning.{Follows, IsUnlinked};
 
-use crate::nodes::{Nodes, place_of};
+use crate::nodes::Nodes;
 use crate::owner::{Owner, relink};
-use crate::view::View;
-use atomic_table::Play;
-
-pub(crate) struct Unlinking;
-
-impl Play<(), View> for Unlinking {
-    ghost then = { unlinked };
-}
+use crate::plays::Unlinking;
+use crate::words::place_of;
 
 impl Owner {
     /// Takes a node out of the list: makes the link of the place before it lead to the node after it.

@@ -37,7 +37,7 @@ pub struct View {
     pub owns: bool,
     /// How many pass numbers were given, if the seat owns.
     pub numbered: u32,
-    /// The pass numbers under which the seat may enter and leave. An owner has those of the passes that it has joined.
+    /// The pass numbers under which the seat may step. An owner has those of the passes that it has joined.
     pub numbers: LinkedList<u32>,
     /// The nodes that a walk was given since the last enter.
     pub given: LinkedList<u32>,
