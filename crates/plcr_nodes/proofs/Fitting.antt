@@ -1,5 +1,5 @@
 -- How a state under the rule becomes the next one: the words, the seat that steps, and all others.
-use Rattle.std.proofs.Common.{◌≡◌, ◌≢◌, ⊎_elim, ℕ, ◌+◌, ◌<◌, List, [], ◌++◌, Bool, true, false, refl, sym, ap, ◌∙◌, subst, length, append_assoc, get_or, set}
+use Rattle.std.proofs.Common.{◌≡◌, ◌≢◌, ⊎_elim, ℕ, ◌+◌, ◌<◌, ◌≤◌, List, [], ◌++◌, Bool, true, false, refl, sym, ap, ◌∙◌, subst, length, append_assoc, get_or, set}
 use Rattle.atomic_table.specs.Table.{State, keeps, stepped}
 use Rattle.atomic_table.proofs.Lists.{at_set}
 use Rattle.plcr_machine.specs.declared.entry.Entry.{Entry}
@@ -9,8 +9,10 @@ use Rattle.plcr_machine.specs.Parts.{own_entries, owner_entries}
 use Rattle.plcr_machine.proofs.Cases.{not_both}
 use Rattle.plcr_nodes.specs.declared.view.View.{View}
 use Rattle.plcr_nodes.specs.Entries.{among, WentOn}
-use Rattle.plcr_nodes.specs.Rule.{base, Truth, Stands, Sees, Fits, Holds}
-use Rattle.plcr_nodes.specs.Plays.{TakesIn}
+use Rattle.plcr_nodes.specs.declared.words.TheConstants.{NODE_WORDS}
+use Rattle.plcr_nodes.specs.Words.{base}
+use Rattle.plcr_nodes.specs.Rule.{Truth, Stands, Sees, Fits, Holds}
+use Rattle.plcr_nodes.specs.inner.Plays.{TakesIn}
 
 abbrev pub St : Type 0
 St = State Unit View
@@ -26,7 +28,7 @@ went_further : {A : Type 0} (old all added all' : List A) → all' ≡ added ++ 
 went_further old all added all' e w = (added ++ w.0, e ∙ ap (λ (l : List _). added ++ l) w.1 ∙ sym (append_assoc added w.0 old))
 
 -- t' came from t by more entries and names, and leaves what the seat j, with the view u, has a right to
-pub record Leaves (t t' : Truth) (j : ℕ) (u : View) : Type 0 where
+pub record Leaves (nodes : ℕ) (t t' : Truth) (j : ℕ) (u : View) : Type 0 where
   pub added : List Entry
   pub history : t'.history ≡ added ++ t.history
   pub new : List (List ℕ)
@@ -34,12 +36,12 @@ pub record Leaves (t t' : Truth) (j : ℕ) (u : View) : Type 0 where
   pub same_owner : t'.owner ≡ t.owner
   pub own : (p : ℕ) → p < t.numbered → t.holder p ≡ j → own_entries p t'.history ≡ own_entries p t.history
   pub owner : u.owns ≡ true → (owner_entries t'.history ≡ owner_entries t.history) × (t'.numbered ≡ t.numbered)
-      × ((n k : ℕ) → 0 < n → k < 131 → get_or t'.words (base n + k) 0 ≡ get_or t.words (base n + k) 0)
+      × ((n k : ℕ) → 0 < n → n ≤ nodes → k < NODE_WORDS → get_or t'.words (base n + k) 0 ≡ get_or t.words (base n + k) 0)
   pub holder : (p : ℕ) → p < t.numbered → t.holder p ≡ j → (p < t'.numbered) × (t'.holder p ≡ j)
 
-sees_left : (t t' : Truth) (j : ℕ) (u : View) (l : Leaves t t' j u) (history : List Entry) (names : List (List ℕ)) (owns : Bool) (numbers : List ℕ)
+sees_left : (nodes : ℕ) (t t' : Truth) (j : ℕ) (u : View) (l : Leaves nodes t t' j u) (history : List Entry) (names : List (List ℕ)) (owns : Bool) (numbers : List ℕ)
     → (owns ≡ true → u.owns ≡ true) → ((p : ℕ) → among p numbers ≡ true → (p < t.numbered) × (t.holder p ≡ j)) → Sees t history names owns numbers → Sees t' history names owns numbers
-sees_left t t' j u l history names owns numbers o n s = record {
+sees_left nodes t t' j u l history names owns numbers o n s = record {
   added = record {
     grows = went_further history t.history l.added t'.history l.history s.added.grows;
     owner = λ e. (l.owner (o e)).0 ∙ s.added.owner e;
@@ -58,8 +60,7 @@ module _ (nodes passes : ℕ) where
     legal = st.legal;
     named = st.named;
     short = st.short;
-    few = st.few;
-    gate = st.gate;
+    beside = st.beside;
     number = st.number;
     enough = st.enough;
     unused = st.unused;
@@ -68,23 +69,23 @@ module _ (nodes passes : ℕ) where
   }
 
   -- another seat's view agrees as before
-  pub still_fits : (t t' : Truth) (j : ℕ) (u : View) → Leaves t t' j u → Fits nodes passes t j u → Fits nodes passes t' j u
+  pub still_fits : (t t' : Truth) (j : ℕ) (u : View) → Leaves nodes t t' j u → Fits nodes passes t j u → Fits nodes passes t' j u
   still_fits t t' j u l f = record {
     sizes = f.sizes;
-    sees = sees_left t t' j u l u.history u.names u.owns u.numbers (λ e. e) f.holds f.sees;
+    sees = sees_left nodes t t' j u l u.history u.names u.owns u.numbers (λ e. e) f.holds f.sees;
     owns = λ e. let o = f.owns e in (o.0 ∙ sym l.same_owner, o.1 ∙ sym (l.owner e).1);
     holds = λ p a. let h = f.holds p a in l.holder p h.0 h.1;
     given = f.given;
-    filled = λ e n k x some_node word is. let g = f.filled e n k x some_node word is in (g.0, g.1, (l.owner e).2 n k some_node word ∙ g.2);
+    filled = λ e n k x some_node word is. let g = f.filled e n k x some_node word is in (g.0, g.1, (l.owner e).2 n k some_node g.0 word ∙ g.2);
     heard = λ k w at. let g = f.heard k w at in
-        (sees_left t t' j u l w.history w.names false w.numbers (λ e. not_both false e refl) g.1 g.0, λ p a. let h = g.1 p a in l.holder p h.0 h.1);
+        (sees_left nodes t t' j u l w.history w.names false w.numbers (λ e. not_both false e refl) g.1 g.0, λ p a. let h = g.1 p a in l.holder p h.0 h.1);
   }
 
   -- a seat steps: the words, its own view and all others' agree with what there is then
   pub moved : (s : St) (r : Holds nodes passes s) (id i x : ℕ) (c : List (ℕ × Unit)) (w : View) (h : List Entry) (names : List (List ℕ)) (numbered : ℕ) (holder : ℕ → ℕ)
       → Stands nodes passes (truth (set s.words i x) h names numbered r.owner holder)
       → Fits nodes passes (truth (set s.words i x) h names numbered r.owner holder) id w
-      → ((j : ℕ) (u : View) → j ≢ id → u.spent ≡ false → Fits nodes passes (there s r) j u → Leaves (there s r) (truth (set s.words i x) h names numbered r.owner holder) j u)
+      → ((j : ℕ) (u : View) → j ≢ id → u.spent ≡ false → Fits nodes passes (there s r) j u → Leaves nodes (there s r) (truth (set s.words i x) h names numbered r.owner holder) j u)
       → Holds nodes passes (stepped s i x id c w keeps)
   moved s r id i x c w h names numbered holder stands mine others = record {
     history = h;

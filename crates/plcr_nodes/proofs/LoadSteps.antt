@@ -17,8 +17,10 @@ use Rattle.plcr_machine.specs.Parts.{own_entries}
 use Rattle.plcr_nodes.specs.declared.view.View.{View}
 use Rattle.plcr_nodes.specs.Entries.{among}
 use Rattle.plcr_nodes.specs.Names.{words_of}
-use Rattle.plcr_nodes.specs.Rule.{base, name_on, image_word, image_words, first_of, number_of, Stands, Fits, Holds}
-use Rattle.plcr_nodes.specs.Plays.{Mine, view_at, followed, loaded_word}
+use Rattle.plcr_nodes.specs.declared.words.TheConstants.{GATE, PAYLOAD_WORDS}
+use Rattle.plcr_nodes.specs.Words.{base}
+use Rattle.plcr_nodes.specs.Rule.{name_on, image_word, image_words, first_of, number_of, Stands, Fits, Holds}
+use Rattle.plcr_nodes.specs.inner.Plays.{Mine, view_at, glanced, followed, loaded_word}
 use Rattle.plcr_nodes.proofs.Known.{inside_same, free_same, reach_grows, reach_bound, legal_older, link_bound, loaded_grows, loaded_most}
 use Rattle.plcr_nodes.proofs.NamesKept.{name-older}
 use Rattle.plcr_nodes.proofs.Fitting.{St, there, taken, sees_all}
@@ -38,7 +40,7 @@ module _ (nodes passes : ℕ) (s : St) (r : Holds nodes passes s) (id : ℕ) (v 
         owns = f.owns;
         holds = held;
         given = met;
-        filled = λ o n k y some_node word is. let g = f.filled o n k y some_node word is in (g.0, free_same n r.history v.history (f.sees.added.owner o) ∙ g.1, g.2);
+        filled = λ o n k y some_node word is. let g = f.filled o n k y some_node word is in (g.0, free_same passes n r.history v.history (f.sees.added.owner o) ∙ g.1, g.2);
         heard = λ k u z. cc;
       }
 
@@ -80,6 +82,19 @@ module _ (nodes passes slots id : ℕ) (me : Mine) (lives : me.0.spent ≡ false
       let o : own_entries (number_of me.0) (w.0 ++ me.0.history) ≡ own_entries (number_of me.0) me.0.history = subst (λ h. own_entries (number_of me.0) h ≡ own_entries (number_of me.0) me.0.history) w.1 (f.sees.added.own (number_of me.0) mine) in
       subst (λ h. may_reach (number_of me.0) n h ≡ true) (sym w.1) (reach_grows (number_of me.0) n w.0 me.0.history o m)
 
+  -- the gate is the number of counts
+  pub glances : Allows (Holds nodes passes) slots id me GATE (λ x. x) (glanced (step slots GATE 0 0 none) me)
+  glances s r _ at _ =
+      let v : View = me.0 in
+      let f : Fits nodes passes (there s r) id v = r.seats id v at lives in
+      let st : Stands nodes passes (there s r) = r.stands in (
+        view_at v r.history r.names,
+        keeps,
+        tt,
+        load_holds nodes passes s r id v at lives GATE me.1 v.given (λ n a some_node. given_reach s r at n (f.given n a some_node)),
+        (r.history, r.names, taken nodes passes (there s r) id v st f, st.beside.gate, refl),
+      )
+
   pub follows : (n : ℕ) → is_inside (number_of me.0) me.0.history ≡ true → (n ≡ 0) ⊎ (may_reach (number_of me.0) n me.0.history ≡ true)
       → Allows (Holds nodes passes) slots id me (base n) (λ x. x) (followed (step slots (base n) 0 0 none) me)
   follows n inn place s r _ at _ =
@@ -104,7 +119,7 @@ module _ (nodes passes slots id : ℕ) (me : Mine) (lives : me.0.spent ≡ false
         (h, r.names, taken nodes passes (there s r) id v st f, refl, (λ m e. let z : n ≡ m = omega arith in subst (λ k. x ≡ link_of k h) z word), omega arith, met, refl),
       )
 
-  pub reads : (n k : ℕ) → may_reach (number_of me.0) n me.0.history ≡ true → k < 130 → k < image_words n me.0.history me.0.names
+  pub reads : (n k : ℕ) → may_reach (number_of me.0) n me.0.history ≡ true → k < PAYLOAD_WORDS → k < image_words n me.0.history me.0.names
       → Allows (Holds nodes passes) slots id me (base n + (k + 1)) (λ x. x) (loaded_word (step slots (base n + (k + 1)) 0 0 none) me)
   reads n k m k_in k_words s r _ at _ =
       let v : View = me.0 in
@@ -132,6 +147,6 @@ module _ (nodes passes slots id : ℕ) (me : Mine) (lives : me.0.spent ≡ false
       → Allows (Holds nodes passes) slots id me i (λ x. x) (followed (step slots i 0 0 none) me)
   follows_at i n e inn place = subst (λ j. Allows (Holds nodes passes) slots id me j (λ x. x) (followed (step slots j 0 0 none) me)) (sym e) (follows n inn place)
 
-  pub reads_at : (i n k : ℕ) → i ≡ base n + (k + 1) → may_reach (number_of me.0) n me.0.history ≡ true → k < 130 → k < image_words n me.0.history me.0.names
+  pub reads_at : (i n k : ℕ) → i ≡ base n + (k + 1) → may_reach (number_of me.0) n me.0.history ≡ true → k < PAYLOAD_WORDS → k < image_words n me.0.history me.0.names
       → Allows (Holds nodes passes) slots id me i (λ x. x) (loaded_word (step slots i 0 0 none) me)
   reads_at i n k e m k_in k_words = subst (λ j. Allows (Holds nodes passes) slots id me j (λ x. x) (loaded_word (step slots j 0 0 none) me)) (sym e) (reads n k m k_in k_words)

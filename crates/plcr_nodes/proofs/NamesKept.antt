@@ -6,6 +6,7 @@ use Rattle.plcr_machine.specs.Lists.{name_of, loaded}
 use Rattle.plcr_nodes.specs.Rule.{name_on, image_words}
 use Rattle.plcr_base.specs.Bytes.{IsBytes}
 use Rattle.plcr_base.specs.Limits.{IsImageName}
+use Rattle.plcr_nodes.specs.declared.words.TheConstants.{PAYLOAD_WORDS}
 use Rattle.plcr_nodes.specs.Names.{AreNames}
 use Rattle.plcr_nodes.proofs.Spelling.{no_bytes}
 
@@ -26,6 +27,6 @@ pub bytes_named : (i : ℕ) (names : List (List ℕ)) → AreNames names → IsB
 bytes_named i [] s = no_bytes
 bytes_named i (x ∷ xs) s = cond_both (eqb i (suc (length xs))) x (name_of i xs) IsBytes (λ _. s.1) (λ _. bytes_named i xs s.2)
 
--- an image has at most 130 payload words
-pub image_most : (n : ℕ) (h : List Entry) (names : List (List ℕ)) → AreNames names → image_words n h names ≤ 130
+-- an image has no more payload words than a node
+pub image_most : (n : ℕ) (h : List Entry) (names : List (List ℕ)) → AreNames names → image_words n h names ≤ PAYLOAD_WORDS
 image_most n h names s = let b : IsImageName (name_on n h names) = name_short (loaded n h).load names s in omega arith

@@ -12,10 +12,11 @@ use Rattle.plcr_machine.proofs.Freedom.{live_bound}
 use Rattle.plcr_machine.proofs.OnNodes.{has-snoc, has-without, has-without_same}
 use Rattle.plcr_machine.proofs.Leads.{link_here, link-load, link-loaded, link_over, link_else}
 use Rattle.plcr_nodes.specs.Names.{header_in}
-use Rattle.plcr_nodes.specs.Tokens.{OwnerState, IsLinked}
-use Rattle.plcr_nodes.specs.Unlinking.{Follows, KnowsLinks, IsUnlinked}
+use Rattle.plcr_nodes.specs.Tokens.{OwnerState}
+use Rattle.plcr_nodes.specs.Owning.{Follows, IsLinked, IsUnlinked}
+use Rattle.plcr_nodes.specs.inner.Seats.{KnowsLinks}
 use Rattle.plcr_nodes.proofs.Known.{live_same}
-use Rattle.plcr_nodes.proofs.Owning.{last_bound}
+use Rattle.plcr_nodes.proofs.LastPlace.{last_bound}
 use Rattle.plcr_nodes.proofs.UnlinkStep.{follows_same, follower_listed, link_told}
 
 -- a number that was read within a list, whatever the default

@@ -5,16 +5,19 @@ use Rattle.std.proofs.lemmas.List.{length-replicate}
 use mathlib.Core.Option.{some, none, some-injective, some-ne-none}
 use lib.ListN.{get_elem?}
 use Rattle.atomic_table.specs.Table.{keeps, step, opening, Allows, Splits}
+use Rattle.atomic_table.specs.Seated.{TableId}
 use Rattle.atomic_table.proofs.Lists.{at_set}
-use Rattle.plcr_machine.specs.Passes.{readers}
 use Rattle.plcr_machine.specs.Parts.{own_entries}
 use Rattle.plcr_machine.specs.declared.limits.TheConstants.{MOST_NODES, MOST_PASSES}
 use Rattle.plcr_machine.proofs.Cases.{not_both, eqb_same}
 use Rattle.plcr_nodes.specs.declared.view.View.{View}
 use Rattle.plcr_nodes.specs.declared.view.Heard.{Heard}
 use Rattle.plcr_nodes.specs.Entries.{among}
-use Rattle.plcr_nodes.specs.Rule.{base, first_of, Truth, Stands, Fits, Holds, first_view}
-use Rattle.plcr_nodes.specs.Plays.{Mine, numbered, giving, given_view}
+use Rattle.plcr_nodes.specs.Words.{base, stamp_place, table_words}
+use Rattle.plcr_nodes.specs.Rule.{first_of, Truth, Stands, Fits, Holds, owner_view, first_view}
+use Rattle.plcr_nodes.specs.Opening.{IsSized}
+use Rattle.plcr_nodes.specs.inner.Seats.{IsPassing}
+use Rattle.plcr_nodes.specs.inner.Plays.{Mine, numbered, giving, given_view}
 use Rattle.plcr_nodes.proofs.Known.{no_own}
 use Rattle.plcr_nodes.proofs.Fitting.{truth, there, stands_held, still_fits, moved, sees_all}
 
@@ -23,18 +26,14 @@ zero_word zero k = refl
 zero_word (suc n) zero = refl
 zero_word (suc n) (suc k) = zero_word n k
 
-none_inside : (passes : ℕ) → readers passes [] ≡ 0
-none_inside zero = refl
-none_inside (suc n) = omega (arith, none_inside n)
-
 only_first : (x y : View) (j : ℕ) → get_elem? (x ∷ []) j ≡ some y → (j ≡ 0) × (x ≡ y)
 only_first x y zero e = (refl, some-injective x y e)
 only_first x y (suc j) e = cc
 
 -- the rule holds at the start
-pub opens : (nodes passes : ℕ) (ws : List ℕ) → nodes ≤ MOST_NODES → passes ≤ MOST_PASSES → ws ≡ replicate (base (nodes + 1)) 0 → Holds nodes passes (opening ws [] (first_view nodes passes))
+pub opens : (nodes passes : ℕ) (ws : List ℕ) → nodes ≤ MOST_NODES → passes ≤ MOST_PASSES → ws ≡ replicate (table_words nodes passes) 0 → Holds nodes passes (opening ws [] (first_view nodes passes))
 opens nodes passes ws few_nodes few_passes is =
-    let words : (k : ℕ) → get_or ws k 0 ≡ 0 = λ k. ap (λ (l : List ℕ). get_or l k 0) is ∙ zero_word (base (nodes + 1)) k in
+    let words : (k : ℕ) → get_or ws k 0 ≡ 0 = λ k. ap (λ (l : List ℕ). get_or l k 0) is ∙ zero_word (table_words nodes passes) k in
     let t : Truth = truth ws [] [] 0 0 (λ p. 0) in
     record {
       history = [];
@@ -44,12 +43,11 @@ opens nodes passes ws few_nodes few_passes is =
       holder = λ p. 0;
       stands = record {
         sizes = (few_nodes, few_passes);
-        wide = ap length is ∙ length-replicate (base (nodes + 1)) 0;
+        wide = ap length is ∙ length-replicate (table_words nodes passes) 0;
         legal = tt;
         named = refl;
         short = tt;
-        few = omega arith;
-        gate = let z = none_inside passes in let w = words 0 in omega arith;
+        beside = record { gate = words 0; stamps = λ p _. words (stamp_place nodes p) };
         number = words 1;
         enough = omega arith;
         unused = λ p _. refl;
@@ -99,8 +97,10 @@ module _ (nodes passes slots id : ℕ) (me : Mine) (lives : me.0.spent ≡ false
         legal = st.legal;
         named = st.named;
         short = st.short;
-        few = st.few;
-        gate = get_or-set_other ws 1 0 x 0 (λ z. omega arith) ∙ st.gate;
+        beside = record {
+          gate = get_or-set_other ws 1 0 x 0 (λ z. omega arith) ∙ st.beside.gate;
+          stamps = λ p b. get_or-set_other ws 1 (stamp_place nodes p) x 0 (λ z. omega arith) ∙ st.beside.stamps p b;
+        };
         number = get_or-set_same ws 1 x 0 (omega arith) ∙ next;
         enough = omega arith;
         unused = λ p b. st.unused p (omega arith);
@@ -206,10 +206,29 @@ gives nodes passes id v lives owns one quiet s r at =
             names = refl;
             same_owner = refl;
             own = λ q _ _. refl;
-            owner = λ o. (refl, refl, λ n k _ _. refl);
+            owner = λ o. (refl, refl, λ n k _ _ _. refl);
             holder = λ q below held. (below, rw (ne_eqb p q (λ z. d.0 (sym held ∙ (ap r.holder (sym z) ∙ (f.holds p has_p).1)))) held);
           }) g)
           (at_set s.views id j (giving v) u e.1))
           (λ e. subst (λ (z : ℕ × View). Fits nodes passes t' z.0 z.1) (λ k. (sym (e.0 ∙ length-set s.views id (giving v)) k, e.1 k)) right)
           (at_snoc_place (set s.views id (giving v)) (given_view v) u j a);
     }
+
+-- a pass of a table that is being opened
+pub opened_passing : (nodes passes number : ℕ) (z : TableId) (stamp : ℕ) → IsSized nodes passes → number < passes → z.words ≡ table_words nodes passes → stamp ≡ stamp_place nodes number
+    → IsPassing z (given_view (record (owner_view nodes passes number) { numbered = number + 1; numbers = number ∷ []; given = [] }), []) stamp
+opened_passing nodes passes number z stamp sized few wide is = record {
+  pass = record {
+    seat = record {
+      wide = wide;
+      lives = refl;
+      light = refl;
+      known = record { few_nodes = sized.0.1; few_passes = sized.1.1; legal = tt; named = refl };
+      short = tt;
+    };
+    one = refl;
+    few = few;
+    given = λ n a _. not_both false a refl;
+  };
+  stamped = is;
+}

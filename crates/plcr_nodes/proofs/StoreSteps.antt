@@ -9,11 +9,14 @@ use Rattle.plcr_machine.specs.Nodes.{is_free}
 use Rattle.plcr_machine.proofs.Cases.{not_both, by_cases}
 use Rattle.plcr_nodes.specs.declared.view.View.{View}
 use Rattle.plcr_nodes.specs.declared.view.Store.{Store}
-use Rattle.plcr_nodes.specs.Names.{stored, stored_elsewhere}
-use Rattle.plcr_nodes.specs.Rule.{base, Truth, Stands, Fits, Holds}
-use Rattle.plcr_nodes.specs.Plays.{Mine, store, filled}
+use Rattle.plcr_nodes.specs.declared.words.TheConstants.{NODE_WORDS}
+use Rattle.plcr_nodes.specs.Names.{store, stored, stored_elsewhere}
+use Rattle.plcr_nodes.specs.Words.{base}
+use Rattle.plcr_nodes.specs.Rule.{Truth, Stands, Fits, Holds}
+use Rattle.plcr_nodes.specs.inner.Plays.{Mine, filled}
 use Rattle.plcr_nodes.proofs.Known.{free_same}
 use Rattle.plcr_nodes.proofs.Fitting.{St, truth, there, moved}
+use Rattle.plcr_nodes.proofs.Beside.{shows_within}
 
 -- the last of several stores of a word counts
 pub stored_new : (n k x m j y : ℕ) (ss : List Store) → stored m j (store n k x ∷ ss) ≡ Some y → ((n ≡ m) × (k ≡ j) × (x ≡ y)) ⊎ ((eqb n m && eqb k j ≡ false) × (stored m j ss ≡ Some y))
@@ -36,7 +39,7 @@ module _ (nodes passes slots id : ℕ) (me : Mine) (lives : me.0.spent ≡ false
   pub owned_else : (s : St) (r : Holds nodes passes s) → get_elem? s.views id ≡ some me.0 → {P : Type 0} → (j : ℕ) (u : View) → j ≢ id → Fits nodes passes (there s r) j u → u.owns ≡ true → P
   owned_else s r at j u apart g o = absurd (apart ((g.owns o).0 ∙ sym ((r.seats id me.0 at lives).owns owns).0))
 
-  pub fills : (n k x : ℕ) → 0 < n → n ≤ me.0.nodes → is_free n me.0.history ≡ true → k < 131
+  pub fills : (n k x : ℕ) → 0 < n → n ≤ me.0.nodes → is_free me.0.passes n me.0.history ≡ true → k < NODE_WORDS
       → Allows (Holds nodes passes) slots id me (base n + k) (λ _. x) (λ _. filled (step slots (base n + k) x 0 none) me x)
   fills n k x some_node in_view free k_in s r _ at _ =
       let v : View = me.0 in
@@ -47,19 +50,19 @@ module _ (nodes passes slots id : ℕ) (me : Mine) (lives : me.0.spent ≡ false
       let h : List Entry = r.history in
       let ws : List ℕ = s.words in
       let wide = st.wide in
-      let free' : is_free n h ≡ true = free_same n h v.history (f.sees.added.owner owns) ∙ free in
+      let own_free : is_free passes n v.history ≡ true = subst (λ p. is_free p n v.history ≡ true) sizes.1 free in
+      let free' : is_free passes n h ≡ true = free_same passes n h v.history (f.sees.added.owner owns) ∙ own_free in
       let i : ℕ = base n + k in
       let t' : Truth = truth (set ws i x) h r.names r.numbered r.owner r.holder in
       let w : View = record v { filled = store n k x ∷ v.filled } in
-      let away : (m : ℕ) → is_free m h ≡ false → m ≢ n = λ m busy z. not_both (is_free n h) free' (subst (λ q. is_free q h ≡ false) z busy) in
+      let away : (m : ℕ) → is_free passes m h ≡ false → m ≢ n = λ m busy z. not_both (is_free passes n h) free' (subst (λ q. is_free passes q h ≡ false) z busy) in
       let stands : Stands nodes passes t' = record {
         sizes = st.sizes;
         wide = length-set ws i x ∙ st.wide;
         legal = st.legal;
         named = st.named;
         short = st.short;
-        few = st.few;
-        gate = get_or-set_other ws i 0 x 0 (λ z. omega arith) ∙ st.gate;
+        beside = shows_within nodes passes ws i x h h (omega arith, omega arith) refl (λ p. refl) st.beside;
         number = get_or-set_other ws i 1 x 0 (λ z. omega arith) ∙ st.number;
         enough = st.enough;
         unused = st.unused;
@@ -75,7 +78,7 @@ module _ (nodes passes slots id : ℕ) (me : Mine) (lives : me.0.spent ≡ false
         filled = λ o m j y some_m j_in is. ⊎_elim
             (λ e. (
               subst (λ q. q ≤ nodes) e.0 in_table,
-              subst (λ q. is_free q v.history ≡ true) e.0 free,
+              subst (λ q. is_free passes q v.history ≡ true) e.0 own_free,
               subst (λ (q : ℕ × ℕ). get_or (set ws i x) (base q.0 + q.1) 0 ≡ y) (λ d. (e.0 d, e.1 d)) (get_or-set_same ws i x 0 (omega arith) ∙ e.2),
             ))
             (λ e. let g = f.filled o m j y some_m j_in e.1 in

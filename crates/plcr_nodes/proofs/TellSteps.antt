@@ -10,8 +10,8 @@ use Rattle.plcr_nodes.specs.declared.view.View.{View}
 use Rattle.plcr_nodes.specs.declared.view.Heard.{Heard}
 use Rattle.plcr_nodes.specs.Entries.{among}
 use Rattle.plcr_nodes.specs.Rule.{number_of, Truth, Fits, Hears, Holds}
-use Rattle.plcr_nodes.specs.Plays.{Mine, view_at}
-use Rattle.plcr_nodes.specs.Telling.{noted_view, heard_of, hearing_view, spent_view, gained, TakesAllOver, learned, gathered}
+use Rattle.plcr_nodes.specs.inner.Plays.{Mine, view_at}
+use Rattle.plcr_nodes.specs.inner.Telling.{noted_view, heard_of, hearing_view, spent_view, gained, TakesAllOver, learned, gathered}
 use Rattle.plcr_nodes.proofs.Fitting.{St, truth, there, stands_held, still_fits, taken}
 use Rattle.plcr_nodes.proofs.LoadSteps.{loads_as, load_holds, given_reach}
 use Rattle.plcr_nodes.proofs.Opening.{at_snoc_place}
@@ -112,7 +112,7 @@ module _ (nodes passes id : ℕ) (v : View) (lives : v.spent ≡ false) where
               names = refl;
               same_owner = refl;
               own = λ q _ _. refl;
-              owner = λ _. (refl, refl, λ n k _ _. refl);
+              owner = λ _. (refl, refl, λ n k _ _ _. refl);
               holder = λ q below held. (below, by_cases (among q w.numbers) (λ c. absurd (e.0 (sym held ∙ (g.holds q c).1))) (λ c. rw c held));
             }) (r.seats j u d.1 lives'))
             (at_set s.views id j b u e.1))

@@ -6,13 +6,13 @@ use Rattle.plcr_machine.specs.declared.entry.Entry.{Entry}
 use Rattle.plcr_nodes.specs.declared.view.View.{View}
 use Rattle.plcr_nodes.specs.Seeing.{AddsOthers}
 use Rattle.plcr_nodes.specs.Rule.{number_of}
-use Rattle.plcr_nodes.specs.Plays.{Mine, TakesIn, view_at}
-use Rattle.plcr_nodes.specs.Tokens.{pass_state, owner_state, IsPass}
-use Rattle.plcr_nodes.specs.Unlinking.{IsOwning}
-use Rattle.plcr_nodes.specs.Telling.{heard_of, hearing_view, learned, gathered, IsGathered, note_state, IsPassTold, IsOwnerTold, IsJoined}
+use Rattle.plcr_nodes.specs.Telling.{IsPassTold, IsOwnerTold, IsJoined}
+use Rattle.plcr_nodes.specs.inner.Plays.{Mine, TakesIn, view_at}
+use Rattle.plcr_nodes.specs.inner.Seats.{pass_state, owner_state, note_state, IsPassing, IsOwning}
+use Rattle.plcr_nodes.specs.inner.Telling.{heard_of, hearing_view, learned, gathered, IsGathered}
 use Rattle.plcr_nodes.proofs.Known.{free_same, live_same}
 use Rattle.plcr_nodes.proofs.Noting.{knows_same}
-use Rattle.plcr_nodes.proofs.Owning.{sees}
+use Rattle.plcr_nodes.proofs.OwnerKnows.{sees}
 use Rattle.plcr_nodes.proofs.Passing.{still_reached, seen_after}
 use Rattle.plcr_nodes.proofs.Passing as passing
 
@@ -40,7 +40,7 @@ module _ (z : TableId) (m : Mine) (notes : List ℕ) (g : IsOwning z m notes) (w
             short = known.short;
           };
           owns = g.owner.owns;
-          filled = λ j i x some_j i_in is. let f = g.owner.filled j i x some_j i_in is in (f.0, free_same j t.past m.0.history same ∙ f.1);
+          filled = λ j i x some_j i_in is. let f = g.owner.filled j i x some_j i_in is in (f.0, free_same m.0.passes j t.past m.0.history same ∙ f.1);
         };
         links = knows_same m.0.nodes m.0.nodes t.past m.0.history notes refl (live_same t.past m.0.history same) g.links;
       } in
@@ -71,15 +71,15 @@ module _ (z : TableId) (m : Mine) (notes : List ℕ) (g : IsOwning z m notes) (w
       })
 
 -- a pass that was told keeps what it was given
-pub pass_told : (z y : TableId) (m : Mine) (g : IsPass z m) (w : View) (st : Step Unit) (found : ℕ) (m' : Mine) → learned st (hearing_view m.0 w, m.1) found m'
-    → IsPass z m' × IsPassTold (pass_state z m.0) (note_state y w) (pass_state z m'.0)
-pass_told z y m g w st found m' told =
+pub pass_told : (z y : TableId) (m : Mine) (stamp : ℕ) (g : IsPassing z m stamp) (w : View) (st : Step Unit) (found : ℕ) (m' : Mine) → learned st (hearing_view m.0 w, m.1) found m'
+    → IsPassing z m' stamp × IsPassTold (pass_state z m.0) (note_state y w) (pass_state z m'.0)
+pass_told z y m stamp g w st found m' told =
     let past : List Entry = told.0 in
     let names : List (List ℕ) = told.1 in
     let t : TakesIn m.0 past names = told.2 in
     let over = told.3 0 (heard_of w) refl in
     let same : m' ≡ (view_at m.0 past names, m.1) = λ i. (told.4 i, told.5 i) in
-    subst (λ (q : Mine). IsPass z q × IsPassTold (pass_state z m.0) (note_state y w) (pass_state z q.0)) (sym same) (
-      seen_after z m g past names m.0.given t (λ n a some_node. still_reached z m g past names t n (g.given n a some_node)),
-      record { past = past; names = names; sees = passing.sees z m g past names t; now = refl; told = over.added.grows; named = over.named },
+    subst (λ (q : Mine). IsPassing z q stamp × IsPassTold (pass_state z m.0) (note_state y w) (pass_state z q.0)) (sym same) (
+      seen_after z m stamp g past names m.0.given t (λ n a some_node. still_reached z m stamp g past names t n (g.pass.given n a some_node)),
+      record { past = past; names = names; sees = passing.sees z m stamp g past names t; now = refl; told = over.added.grows; named = over.named },
     )

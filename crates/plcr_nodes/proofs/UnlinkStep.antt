@@ -16,14 +16,16 @@ use Rattle.plcr_machine.proofs.Freedom.{listed_busy, live_bound}
 use Rattle.plcr_machine.proofs.Followers.{after_listed}
 use Rattle.plcr_machine.proofs.Leads.{link_here, link_over, link_else}
 use Rattle.plcr_nodes.specs.declared.view.View.{View}
-use Rattle.plcr_nodes.specs.Rule.{base, IsHeld, Truth, Stands, Fits, Holds}
-use Rattle.plcr_nodes.specs.Plays.{Mine, TakesIn, view_at}
-use Rattle.plcr_nodes.specs.Tokens.{owner_state, IsOwner}
-use Rattle.plcr_nodes.specs.Unlinking.{Follows, unlinked, IsUnlinked}
+use Rattle.plcr_nodes.specs.Words.{base}
+use Rattle.plcr_nodes.specs.Rule.{IsHeld, Truth, Stands, Fits, Holds}
+use Rattle.plcr_nodes.specs.Owning.{Follows, IsUnlinked}
+use Rattle.plcr_nodes.specs.inner.Plays.{Mine, TakesIn, view_at, unlinked}
+use Rattle.plcr_nodes.specs.inner.Seats.{owner_state, IsOwner}
 use Rattle.plcr_nodes.proofs.Known.{free_same, live_same}
-use Rattle.plcr_nodes.proofs.Owning.{sees}
+use Rattle.plcr_nodes.proofs.OwnerKnows.{sees}
 use Rattle.plcr_nodes.proofs.Fitting.{truth, there, moved, taken, sees_all}
 use Rattle.plcr_nodes.proofs.StoreSteps.{owned_else}
+use Rattle.plcr_nodes.proofs.Beside.{shows_within}
 
 -- what follows a place is in the list
 pub follower_listed : (before node : ℕ) (h : List Entry) → Follows before node h → has node (live h) ≡ true
@@ -44,37 +46,37 @@ link_told node g h same there =
     link_here node g (or_right (eqb node 0) (has node (live g)) there') ∙ ap (after 0 node) same ∙ sym (link_here node h (or_right (eqb node 0) (has node (live h)) there))
 
 -- a node that is free after an unload was free before it, or is none that was not
-pub free_left : (n node : ℕ) (h : List Entry) → node ≢ n → is_free n (Unload node ∷ h) ≡ is_free n h
-free_left n node h d = rw (ne_eqb node n d) refl
+pub free_left : (passes n node : ℕ) (h : List Entry) → node ≢ n → is_free passes n (Unload node ∷ h) ≡ is_free passes n h
+free_left passes n node h d = rw (ne_eqb node n d) refl
 
 module _ (nodes passes : ℕ) (t : Truth) (before node : ℕ) (st : Stands nodes passes t) (f : Follows before node t.history) where
   listed : has node (live t.history) ≡ true
   listed = follower_listed before node t.history f
 
   -- the place before is one of the table's, whose link readers may load
-  pub before_held : (before ≤ nodes) × IsHeld before t.history
+  pub before_held : (before ≤ nodes) × IsHeld passes before t.history
   before_held =
       ⊎_elim (λ (z : eqb before 0 ≡ true). let zero : before ≡ 0 = eqb-true before 0 z in (omega arith, inl zero))
-      (λ (b : has before (live t.history) ≡ true). ((live_bound nodes passes before t.history st.legal b).1, inr (listed_busy before t.history b)))
+      (λ (b : has before (live t.history) ≡ true). ((live_bound nodes passes before t.history st.legal b).1, inr (listed_busy passes before t.history b)))
       (or_cases (eqb before 0) (has before (live t.history)) f.place)
 
   pub unlink_legal : IsLegal nodes passes (Unload node ∷ t.history)
   unlink_legal = (listed, st.legal)
 
   -- who is reachable after it was before
-  held_before : (n : ℕ) → IsHeld n (Unload node ∷ t.history) → IsHeld n t.history
+  held_before : (n : ℕ) → IsHeld passes n (Unload node ∷ t.history) → IsHeld passes n t.history
   held_before n held =
       ⊎_elim (λ z. inl z)
-      (λ (b : is_free n (Unload node ∷ t.history) ≡ false). inr (at_or_else node n (λ e. subst (λ k. is_free k t.history ≡ false) e (listed_busy node t.history listed)) (λ e. rw e at b))) held
+      (λ (b : is_free passes n (Unload node ∷ t.history) ≡ false). inr (at_or_else node n (λ e. subst (λ k. is_free passes k t.history ≡ false) e (listed_busy passes node t.history listed)) (λ e. rw e at b))) held
 
   -- a free node is not the place before
-  pub before_else : (n : ℕ) → 0 < n → is_free n t.history ≡ true → before ≢ n
+  pub before_else : (n : ℕ) → 0 < n → is_free passes n t.history ≡ true → before ≢ n
   before_else n positive free e =
       ⊎_elim (λ (z : eqb before 0 ≡ true). let zero = eqb-true before 0 z in omega arith)
-      (λ (b : has before (live t.history) ≡ true). not_both (is_free n t.history) free (subst (λ k. is_free k t.history ≡ false) e (listed_busy before t.history b)))
+      (λ (b : has before (live t.history) ≡ true). not_both (is_free passes n t.history) free (subst (λ k. is_free passes k t.history ≡ false) e (listed_busy passes before t.history b)))
       (or_cases (eqb before 0) (has before (live t.history)) f.place)
 
-  pub unlinked_links : (x : ℕ) → x ≡ link_of node t.history → (n : ℕ) → n ≤ nodes → IsHeld n (Unload node ∷ t.history)
+  pub unlinked_links : (x : ℕ) → x ≡ link_of node t.history → (n : ℕ) → n ≤ nodes → IsHeld passes n (Unload node ∷ t.history)
       → get_or (set t.words (base before) x) (base n) 0 ≡ link_of n (Unload node ∷ t.history)
   unlinked_links x is n b held =
       let wide = st.wide in
@@ -94,15 +96,14 @@ module _ (nodes passes : ℕ) (t : Truth) (before node : ℕ) (st : Stands nodes
     legal = unlink_legal;
     named = st.named;
     short = st.short;
-    few = st.few;
-    gate = get_or-set_other t.words (base before) 0 x 0 (λ z. omega arith) ∙ st.gate;
+    beside = shows_within nodes passes t.words (base before) x t.history (Unload node ∷ t.history) (let b = before_held.0 in (omega arith, omega arith)) refl (λ p. refl) st.beside;
     number = get_or-set_other t.words (base before) 1 x 0 (λ z. omega arith) ∙ st.number;
     enough = st.enough;
     unused = st.unused;
     links = unlinked_links x is;
     payload = λ n k some_node b busy k_in k_words.
         get_or-set_other t.words (base before) (base n + (k + 1)) x 0 (λ z. omega arith)
-        ∙ st.payload n k some_node b (⊎_elim (λ z. absurd (omega arith)) (λ (q : is_free n t.history ≡ false). q) (held_before n (inr busy))) k_in k_words;
+        ∙ st.payload n k some_node b (⊎_elim (λ z. absurd (omega arith)) (λ (q : is_free passes n t.history ≡ false). q) (held_before n (inr busy))) k_in k_words;
   }
 
 module _ (nodes passes slots id : ℕ) (me : Mine) (lives : me.0.spent ≡ false) (owns : me.0.owns ≡ true) where
@@ -134,10 +135,10 @@ module _ (nodes passes slots id : ℕ) (me : Mine) (lives : me.0.spent ≡ false
         given = λ m z _. not_both false z refl;
         filled = λ o m k y some_m k_in stored.
             let g = f.filled o m k y some_m k_in stored in
-            let m_free : is_free m h ≡ true = free_same m h v.history same ∙ g.1 in
-            let busy : is_free node h ≡ false = listed_busy node h (follower_listed before node h follows') in (
+            let m_free : is_free passes m h ≡ true = free_same passes m h v.history same ∙ g.1 in
+            let busy : is_free passes node h ≡ false = listed_busy passes node h (follower_listed before node h follows') in (
               g.0,
-              free_left m node h (λ z. not_both (is_free m h) m_free (subst (λ q. is_free q h ≡ false) z busy)) ∙ m_free,
+              free_left passes m node h (λ z. not_both (is_free passes m h) m_free (subst (λ q. is_free passes q h ≡ false) z busy)) ∙ m_free,
               get_or-set_other ws (base before) (base m + k) x 0 (λ z. before_else nodes passes t before node st follows' m some_m m_free (omega arith)) ∙ g.2,
             );
         heard = λ q u a. cc;
@@ -157,7 +158,10 @@ module _ (nodes passes slots id : ℕ) (me : Mine) (lives : me.0.spent ≡ false
               owner = λ o. owned_else nodes passes slots id me lives owns s r at j u apart g o;
               holder = λ q b held. (b, held);
             })),
-        (h, r.names, taken nodes passes t id v st f, refl, (λ n e. let b : before ≡ n = omega arith in subst (λ q. Follows q (get_or ws (base before) 0) h) b (subst (λ q. Follows before q h) (sym found) follows')), refl),
+        (
+          record { past = h; names = r.names; takes = taken nodes passes t id v st f; now = refl },
+          λ n e. let b : before ≡ n = omega arith in subst (λ q. Follows q (get_or ws (base before) 0) h) b (subst (λ q. Follows before q h) (sym found) follows'),
+        ),
       )
 
   -- the same at a word and a number that are known by equations
@@ -176,20 +180,21 @@ before_bound nodes passes before node h l f =
 pub owner_unlinked : (z : TableId) (m : Mine) → IsOwner z m → (st : Step Unit) (found before node : ℕ) (m' : Mine) → st.word ≡ base before → Follows before node m.0.history → unlinked st m found m'
     → IsOwner z m' × IsUnlinked (owner_state z m.0) node (owner_state z m'.0)
 owner_unlinked z m g st found before node m' word follows told =
-    let past : List Entry = told.0 in
-    let names : List (List ℕ) = told.1 in
-    let t : TakesIn m.0 past names = told.2 in
+    let made = told.0 in
+    let past : List Entry = made.past in
+    let names : List (List ℕ) = made.names in
+    let t : TakesIn m.0 past names = made.takes in
     let known = g.seat.known in
     let same = t.added.owner g.owns in
     let lists : live past ≡ live m.0.history = live_same past m.0.history same in
     let follows' : Follows before node past = follows_same before node past m.0.history lists follows in
-    let is : found ≡ node = sym (told.4 before word).next ∙ follows'.next in
+    let is : found ≡ node = sym (told.1 before word).next ∙ follows'.next in
     let listed_now : has node (live past) ≡ true = follower_listed before node past follows' in
     let w : View = record (view_at m.0 (Unload node ∷ past) names) { given = [] } in
-    let at : m'.0 ≡ w = subst (λ n. m'.0 ≡ record (view_at m.0 (Unload n ∷ past) names) { given = [] }) is told.3 in
-    let moved_to : m' ≡ (w, m.1) = λ i. (at i, told.5 i) in
+    let moved_to : m' ≡ (w, m.1) = subst (λ n. m' ≡ (record (view_at m.0 (Unload n ∷ past) names) { given = [] }, m.1)) is made.now in
     let after : IsHistory w.nodes w.passes w.history w.names =
     record { few_nodes = known.few_nodes; few_passes = known.few_passes; legal = (listed_now, t.legal.legal); named = t.legal.named } in
+    let passes : ℕ = m.0.passes in
     subst (λ (q : Mine). IsOwner z q × IsUnlinked (owner_state z m.0) node (owner_state z q.0)) (sym moved_to) (
       record {
         seat = record {
@@ -202,8 +207,8 @@ owner_unlinked z m g st found before node m' word follows told =
         owns = g.owns;
         filled = λ j i x some_j i_in stored.
             let f = g.filled j i x some_j i_in stored in
-            let free : is_free j past ≡ true = free_same j past m.0.history same ∙ f.1 in
-            (f.0, free_left j node past (λ e. not_both (is_free j past) free (subst (λ q. is_free q past ≡ false) e (listed_busy node past listed_now))) ∙ free);
+            let free : is_free passes j past ≡ true = free_same passes j past m.0.history same ∙ f.1 in
+            (f.0, free_left passes j node past (λ e. not_both (is_free passes j past) free (subst (λ q. is_free passes q past ≡ false) e (listed_busy passes node past listed_now))) ∙ free);
       },
       record { past = past; names = names; sees = sees z m g past names t; now = refl; legal = after },
     )

@@ -2,7 +2,7 @@ use Rattle.std.proofs.Common.{sym, ap, ◌∙◌, subst, arith}
 use mathlib.Core.Option.{none}
 use Rattle.atomic_table.specs.Table.{Me, step}
 use Rattle.plcr_nodes.specs.declared.view.View.{View}
-use Rattle.plcr_nodes.specs.Telling.{gathered}
+use Rattle.plcr_nodes.specs.inner.Telling.{gathered}
 use Rattle.plcr_nodes.proofs.TellSteps.{hears, gathers}
 use Rattle.plcr_nodes.proofs.Told.{gathered_of}
 use Rattle.plcr_nodes.proofs.telling.gather.Goals as goal

@@ -1,10 +1,9 @@
-use Rattle.std.proofs.Common.{ap}
-use Rattle.plcr_machine.specs.Passes.{counts}
-use Rattle.plcr_nodes.proofs.Joining.{none_inside}
+use Rattle.std.proofs.Common.{sym, subst}
+use Rattle.plcr_nodes.specs.Owning.{IsLooked}
+use Rattle.plcr_nodes.proofs.Joining.{joined_quiet}
 use Rattle.plcr_nodes.proofs.telling_tests.join_and_look.Goals as goal
 
 pub returns : goal.returns
 returns c =
-    let owner = c.requires.owner in
     let pass = c.requires.pass in
-    record { none = none_inside _ _ _ _ _ c.join.ensures.joined c.look.ensures.entry owner.1 pass.1 (ap counts owner.2) pass.0.1 }
+    record { none = joined_quiet _ _ _ _ _ c.join.ensures.joined (subst (λ n. IsLooked c.join.new.self n c.look.result c.look.new.self) (sym pass.1) c.look.ensures.looked) pass.0.1 }

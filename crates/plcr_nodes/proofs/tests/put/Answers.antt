@@ -11,7 +11,8 @@ returns-clause-tail c = linked_last _ _ _ c.link.ensures.entry
 pub returns-clause-free : goal.returns-clause-free
 returns-clause-free c =
     let same = ap (λ (s : OwnerState). s.history) c.end_link.ensures.stored ∙ (ap (λ (s : OwnerState). s.history) c.fill-2.ensures.stored ∙ ap (λ (s : OwnerState). s.history) c.fill.ensures.stored) in
-    λ m d f. linked_free _ _ _ c.link.ensures.entry m d (ap (is_free m) same ∙ f)
+    let sizes = ap (λ (s : OwnerState). s.passes) c.end_link.ensures.stored ∙ (ap (λ (s : OwnerState). s.passes) c.fill-2.ensures.stored ∙ ap (λ (s : OwnerState). s.passes) c.fill.ensures.stored) in
+    λ m d f. linked_free _ _ _ c.link.ensures.entry m d ((λ i. is_free (sizes i) m (same i)) ∙ f)
 
 pub returns-clause-loads : goal.returns-clause-loads
 returns-clause-loads c =

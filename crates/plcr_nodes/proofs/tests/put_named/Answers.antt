@@ -3,8 +3,7 @@ use Rattle.plcr_base.specs.Bytes.{IsBytes}
 use Rattle.plcr_base.specs.Numbers.{u64_in}
 use Rattle.plcr_nodes.specs.declared.view.Store.{Store}
 use Rattle.plcr_base.specs.Limits.{IsImageName}
-use Rattle.plcr_nodes.specs.Names.{IsFilled, words_of, stored, value_or, name_in}
-use Rattle.plcr_nodes.specs.Plays.{store}
+use Rattle.plcr_nodes.specs.Names.{store, IsFilled, words_of, stored, value_or, name_in}
 use Rattle.plcr_nodes.specs.Tokens.{OwnerState}
 use Rattle.plcr_nodes.proofs.Spelling.{spelled}
 use Rattle.plcr_nodes.proofs.tests.put_named.Goals as goal

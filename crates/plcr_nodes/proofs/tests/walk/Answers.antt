@@ -1,13 +1,13 @@
 use Rattle.std.proofs.Common.{◌∙◌, ap, inr}
 use Rattle.plcr_nodes.specs.Tokens.{PassState}
-use Rattle.plcr_nodes.proofs.Going.{entered_inside, followed_inside, followed_given, read_inside}
+use Rattle.plcr_nodes.proofs.Going.{followed_inside, followed_given, read_inside}
 use Rattle.plcr_nodes.proofs.tests.walk.Goals as goal
 
 pub loop-turn-init : goal.loop-turn-init
 loop-turn-init c =
     let link = c.next_link-node.ensures.link in (
-      ap (λ (s : PassState). s.table) link.now ∙ (ap (λ (s : PassState). s.table) c.enter.ensures.entry.now ∙ c.requires.fresh.0),
-      followed_inside _ _ _ _ link (entered_inside _ _ _ c.enter.ensures.entry),
+      ap (λ (s : PassState). s.table) link.now ∙ (c.go_in.ensures.table.0 ∙ c.requires.fresh.0),
+      followed_inside _ _ _ _ link c.go_in.ensures.inside,
       inr (followed_given _ _ _ _ link),
     )
 

@@ -1,5 +1,6 @@
 use Rattle.std.proofs.Common.{◌≡◌}
-use Rattle.plcr_nodes.specs.Tokens.{IsOpening, opened_passes}
+use Rattle.plcr_nodes.specs.Opening.{opened_passes}
+use Rattle.plcr_nodes.specs.inner.Seats.{IsOpening}
 use Rattle.plcr_nodes.proofs.nodes.Nodes.give_numbers.Given as goal
 
 abbrev pub invariant-loop-number : goal.invariant-loop-number

@@ -2,11 +2,12 @@ use Rattle.std.proofs.Common.{◌≡◌, ◌≤◌, ◌+◌, ◌∷◌, ℕ, tru
 use mathlib.Core.Option.{none}
 use Rattle.atomic_table.specs.Table.{step}
 use Rattle.plcr_machine.specs.Nodes.{is_free}
-use Rattle.plcr_nodes.specs.Plays.{store}
-use Rattle.plcr_nodes.specs.Tokens.{OwnerState, owner_state, IsOwner}
+use Rattle.plcr_nodes.specs.Names.{store}
+use Rattle.plcr_nodes.specs.Tokens.{OwnerState}
+use Rattle.plcr_nodes.specs.inner.Seats.{owner_state, IsOwner}
 use Rattle.plcr_machine.specs.Lists.{live}
 use Rattle.plcr_nodes.proofs.Noting.{knows_same}
-use Rattle.plcr_nodes.proofs.Owning.{owner_filled, fills_at}
+use Rattle.plcr_nodes.proofs.OwnerKnows.{owner_filled, fills_at}
 use Rattle.plcr_nodes.proofs.owner.Owner.fill.Goals as goal
 
 pub store-requires : goal.store-requires
@@ -17,7 +18,7 @@ store-requires c =
     let node = c.requires.node in
     let few = c.self.invariant.owner.seat.known.few_nodes in
     let in_table : c.args.node ≤ c.self.inside.seat.me.0.nodes = subst (λ (s : OwnerState). c.args.node ≤ s.nodes) (sym c.self.view_is) node.1 in
-    let free = subst (λ (s : OwnerState). is_free c.args.node s.history ≡ true) (sym c.self.view_is) c.requires.free in
+    let free = subst (λ (s : OwnerState). is_free s.passes c.args.node s.history ≡ true) (sym c.self.view_is) c.requires.free in
     let place = c.place_of.ensures in
     let k_in = c.requires.word in (
       table,
@@ -30,7 +31,7 @@ invariant_of-self c =
     let node = c.requires.node in
     let few = c.self.invariant.owner.seat.known.few_nodes in
     let in_table : c.args.node ≤ c.self.inside.seat.me.0.nodes = subst (λ (s : OwnerState). c.args.node ≤ s.nodes) (sym c.self.view_is) node.1 in
-    let free = subst (λ (s : OwnerState). is_free c.args.node s.history ≡ true) (sym c.self.view_is) c.requires.free in
+    let free = subst (λ (s : OwnerState). is_free s.passes c.args.node s.history ≡ true) (sym c.self.view_is) c.requires.free in
     let old = c.self.inside.seat in
     let new = c.store.new.seat in
     let k_in = c.requires.word in let told = (owner_filled old.table_id old.me c.self.invariant.owner (step c.nodes.inside.table.shared.table_id.slots (c.place_of.result + (c.args.word + 1)) c.args.value 0 none) c.args.value c.args.node (c.args.word + 1) new.me (ap (λ (n : ℕ). n + (c.args.word + 1)) c.place_of.ensures) (omega arith) in_table free c.store.ensures.2) in
@@ -41,7 +42,7 @@ returns c =
     let node = c.requires.node in
     let few = c.self.invariant.owner.seat.known.few_nodes in
     let in_table : c.args.node ≤ c.self.inside.seat.me.0.nodes = subst (λ (s : OwnerState). c.args.node ≤ s.nodes) (sym c.self.view_is) node.1 in
-    let free = subst (λ (s : OwnerState). is_free c.args.node s.history ≡ true) (sym c.self.view_is) c.requires.free in
+    let free = subst (λ (s : OwnerState). is_free s.passes c.args.node s.history ≡ true) (sym c.self.view_is) c.requires.free in
     let old = c.self.inside.seat in
     let new = c.store.new.seat in
     let k_in = c.requires.word in let told = (owner_filled old.table_id old.me c.self.invariant.owner (step c.nodes.inside.table.shared.table_id.slots (c.place_of.result + (c.args.word + 1)) c.args.value 0 none) c.args.value c.args.node (c.args.word + 1) new.me (ap (λ (n : ℕ). n + (c.args.word + 1)) c.place_of.ensures) (omega arith) in_table free c.store.ensures.2).1 in

@@ -2,9 +2,9 @@ use Rattle.std.proofs.Common.{sym, ap, ◌∙◌, subst, arith}
 use Rattle.atomic_table.specs.Table.{Me}
 use Rattle.atomic_table.specs.Seated.{TableId}
 use Rattle.plcr_nodes.specs.declared.view.View.{View}
-use Rattle.plcr_nodes.specs.Tokens.{OwnerState, owner_state}
-use Rattle.plcr_nodes.specs.Unlinking.{IsOwning}
-use Rattle.plcr_nodes.specs.Telling.{note_state, note_of_owner}
+use Rattle.plcr_nodes.specs.Tokens.{OwnerState}
+use Rattle.plcr_nodes.specs.Telling.{note_of_owner}
+use Rattle.plcr_nodes.specs.inner.Seats.{owner_state, note_state, IsOwning}
 use Rattle.plcr_nodes.proofs.TellSteps.{notes}
 use Rattle.plcr_nodes.proofs.owner.Owner.note.Goals as goal
 

@@ -1,7 +1,7 @@
 use Rattle.std.proofs.Common.{sym, subst}
-use Rattle.plcr_nodes.specs.Tokens.{OwnerState, NoteState, owner_state}
-use Rattle.plcr_nodes.specs.Unlinking.{IsOwning}
-use Rattle.plcr_nodes.specs.Telling.{note_state, IsOwnerTold}
+use Rattle.plcr_nodes.specs.Tokens.{OwnerState, NoteState}
+use Rattle.plcr_nodes.specs.Telling.{IsOwnerTold}
+use Rattle.plcr_nodes.specs.inner.Seats.{owner_state, note_state, IsOwning}
 use Rattle.plcr_nodes.proofs.Told.{owning_gathered, owner_told}
 use Rattle.plcr_nodes.proofs.owner.Owner.told.Goals as goal
 

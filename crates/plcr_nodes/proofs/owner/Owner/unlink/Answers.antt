@@ -2,8 +2,9 @@ use Rattle.std.proofs.Common.{sym, ap, ◌∙◌, subst, arith, slice_set}
 use mathlib.Core.Option.{none}
 use Rattle.atomic_table.specs.Table.{step}
 use Rattle.plcr_machine.proofs.Freedom.{live_bound}
-use Rattle.plcr_nodes.specs.Tokens.{OwnerState, owner_state, IsOwner}
-use Rattle.plcr_nodes.specs.Unlinking.{Follows, IsUnlinked}
+use Rattle.plcr_nodes.specs.Tokens.{OwnerState}
+use Rattle.plcr_nodes.specs.Owning.{Follows, IsUnlinked}
+use Rattle.plcr_nodes.specs.inner.Seats.{owner_state, IsOwner}
 use Rattle.plcr_nodes.proofs.Noting.{knows_unlinked, noted_next}
 use Rattle.plcr_nodes.proofs.UnlinkStep.{follower_listed, unlinks_at, before_bound, owner_unlinked}
 use Rattle.plcr_nodes.proofs.owner.Owner.unlink.Goals as goal

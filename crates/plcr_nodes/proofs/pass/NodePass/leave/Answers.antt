@@ -2,31 +2,42 @@ use Rattle.std.proofs.Common.{◌≡◌, true, sym, ap, ◌∙◌, subst, arith}
 use mathlib.Core.Option.{none}
 use Rattle.atomic_table.specs.Table.{step}
 use Rattle.plcr_machine.specs.Passes.{is_inside}
-use Rattle.plcr_nodes.specs.Tokens.{PassState, pass_state, IsPass, IsLeft}
-use Rattle.plcr_nodes.proofs.GateSteps.{leaves}
+use Rattle.plcr_nodes.specs.declared.words.TheConstants.{GATE}
+use Rattle.plcr_nodes.specs.Tokens.{PassState, IsLeft}
+use Rattle.plcr_nodes.specs.inner.Seats.{pass_state, IsPassing}
+use Rattle.plcr_nodes.proofs.PassSteps.{leaves}
+use Rattle.plcr_nodes.proofs.Known.{counts_small}
 use Rattle.plcr_nodes.proofs.Passing.{has_number, pass_left}
 use Rattle.plcr_nodes.proofs.pass.NodePass.leave.Goals as goal
 
-pub fetch_sub-requires : goal.fetch_sub-requires
-fetch_sub-requires c =
+pub load-requires : goal.load-requires
+load-requires c =
     let table = ap (λ (s : PassState). s.table) c.self.view_is ∙ (c.requires.table ∙ sym c.nodes.view_is) in
-    let wide = c.self.invariant.seat.wide in
+    let wide = c.self.invariant.pass.seat.wide in
     let words = ap (λ t. t.words) table in
-    (table, omega arith, leaves _ _ _ _ _ c.self.invariant.seat.lives (has_number _ _ c.self.invariant) (subst (λ (s : PassState). is_inside s.number s.history ≡ true) (sym c.self.view_is) c.requires.inside))
+    let inn = subst (λ (s : PassState). is_inside s.number s.history ≡ true) (sym c.self.view_is) c.requires.inside in
+    (table, omega arith, leaves _ _ _ _ _ c.self.invariant.pass.seat.lives (has_number _ _ _ c.self.invariant) inn)
+
+pub overflow_cast-result : goal.overflow_cast-result
+overflow_cast-result c =
+    let told = c.load.ensures.2 in
+    let small = counts_small _ _ _ told.0.past told.0.names told.0.takes.legal told.1 in omega arith
 
 pub invariant_of-self : goal.invariant_of-self
 invariant_of-self c =
     let old = c.self.inside.seat in
-    let new = c.fetch_sub.new.seat in
-    subst (λ z. IsPass z new.me) (sym c.fetch_sub.ensures.0)
-    (pass_left old.table_id old.me c.self.invariant (step c.nodes.inside.table.shared.table_id.slots 0 1 0 none) c.fetch_sub.result new.me (subst (λ (s : PassState). is_inside s.number s.history ≡ true) (sym c.self.view_is) c.requires.inside) c.fetch_sub.ensures.2).0
+    let new = c.load.new.seat in
+    let inn = subst (λ (s : PassState). is_inside s.number s.history ≡ true) (sym c.self.view_is) c.requires.inside in
+    subst (λ z. IsPassing z new.me c.self.inside.stamp) (sym c.load.ensures.0)
+    (pass_left old.table_id old.me c.self.inside.stamp c.self.invariant (step c.nodes.inside.table.shared.table_id.slots GATE 0 0 none) c.load.result new.me inn c.load.ensures.2).0
 
 pub returns : goal.returns
 returns c =
     let old = c.self.inside.seat in
-    let new = c.fetch_sub.new.seat in
-    let told = pass_left old.table_id old.me c.self.invariant (step c.nodes.inside.table.shared.table_id.slots 0 1 0 none) c.fetch_sub.result new.me (subst (λ (s : PassState). is_inside s.number s.history ≡ true) (sym c.self.view_is) c.requires.inside) c.fetch_sub.ensures.2 in
+    let new = c.load.new.seat in
+    let inn = subst (λ (s : PassState). is_inside s.number s.history ≡ true) (sym c.self.view_is) c.requires.inside in
+    let told = pass_left old.table_id old.me c.self.inside.stamp c.self.invariant (step c.nodes.inside.table.shared.table_id.slots GATE 0 0 none) c.load.result new.me inn c.load.ensures.2 in
     record {
-      entry = subst (λ (s : PassState). IsLeft s c.fetch_sub.result (pass_state new.table_id new.me.0)) c.self.view_is
-          (subst (λ z. IsLeft (pass_state old.table_id old.me.0) c.fetch_sub.result (pass_state z new.me.0)) (sym c.fetch_sub.ensures.0) told.1);
+      left = subst (λ (s : PassState). IsLeft s c.load.result (pass_state new.table_id new.me.0)) c.self.view_is
+          (subst (λ z. IsLeft (pass_state old.table_id old.me.0) c.load.result (pass_state z new.me.0)) (sym c.load.ensures.0) told.1);
     }

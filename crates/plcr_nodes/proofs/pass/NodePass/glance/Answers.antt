@@ -1,0 +1,39 @@
+use Rattle.std.proofs.Common.{sym, ap, ◌∙◌, subst, arith}
+use mathlib.Core.Option.{none}
+use Rattle.atomic_table.specs.Table.{step}
+use Rattle.plcr_nodes.specs.declared.words.TheConstants.{GATE}
+use Rattle.plcr_nodes.specs.Tokens.{PassState, IsGlanced}
+use Rattle.plcr_nodes.specs.inner.Seats.{pass_state, IsPassing}
+use Rattle.plcr_nodes.proofs.LoadSteps.{glances}
+use Rattle.plcr_nodes.proofs.Known.{counts_small}
+use Rattle.plcr_nodes.proofs.Passing.{has_number, pass_glanced}
+use Rattle.plcr_nodes.proofs.pass.NodePass.glance.Goals as goal
+
+pub load-requires : goal.load-requires
+load-requires c =
+    let table = ap (λ (s : PassState). s.table) c.self.view_is ∙ (c.requires.table ∙ sym c.nodes.view_is) in
+    let wide = c.self.invariant.pass.seat.wide in
+    let words = ap (λ t. t.words) table in
+    (table, omega arith, glances _ _ _ _ _ c.self.invariant.pass.seat.lives (has_number _ _ _ c.self.invariant))
+
+pub overflow_cast-result : goal.overflow_cast-result
+overflow_cast-result c =
+    let told = c.load.ensures.2 in
+    let small = counts_small _ _ _ told.0 told.1 told.2.legal told.3 in omega arith
+
+pub invariant_of-self : goal.invariant_of-self
+invariant_of-self c =
+    let old = c.self.inside.seat in
+    let new = c.load.new.seat in
+    subst (λ z. IsPassing z new.me c.self.inside.stamp) (sym c.load.ensures.0)
+    (pass_glanced old.table_id old.me c.self.inside.stamp c.self.invariant (step c.nodes.inside.table.shared.table_id.slots GATE 0 0 none) c.load.result new.me c.load.ensures.2).0
+
+pub returns : goal.returns
+returns c =
+    let old = c.self.inside.seat in
+    let new = c.load.new.seat in
+    let told = pass_glanced old.table_id old.me c.self.inside.stamp c.self.invariant (step c.nodes.inside.table.shared.table_id.slots GATE 0 0 none) c.load.result new.me c.load.ensures.2 in
+    record {
+      seen = subst (λ (s : PassState). IsGlanced s c.load.result (pass_state new.table_id new.me.0)) c.self.view_is
+          (subst (λ z. IsGlanced (pass_state old.table_id old.me.0) c.load.result (pass_state z new.me.0)) (sym c.load.ensures.0) told.1);
+    }
