@@ -23,8 +23,8 @@ impl Owner {
     }
 
     /// Looks at the stamp of a pass, and gives it: 0 where the pass is not announced, else one more than the number of
-    /// counts that it announced. A removed node is free once each pass was found with 0, or with a stamp from after the
-    /// count of the node's unload.
+    /// counts that it announced. A removed node is free once each pass was found, since the node's unload, with 0 or
+    /// with a stamp from after the count of that unload.
     pub fn look(&mut self, nodes: &Nodes, pass: u32) -> u64
         requires table { self.old.table ≡ nodes.now }
         requires pass { pass < self.old.passes }

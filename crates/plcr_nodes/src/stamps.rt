@@ -22,9 +22,9 @@ impl NodePass {
         nodes.table.shared.load::<Glancing>(&mut self.seat, GATE) as u32
     }
 
-    /// Announces that the pass may go in, with a number of counts that it has seen, as a glance gives it. A node whose
-    /// unload is not among these counts does not become free until the pass has retired. A pass that is not announced
-    /// is out.
+    /// Announces that the pass may go in, with a number of counts that it has seen, as a glance gives it. While the
+    /// stamp stands, a look at it lets go of no node whose unload is not among these counts. A pass that is not
+    /// announced is out.
     pub fn announce(&mut self, nodes: &Nodes, seen: u32)
         requires table { self.old.table ≡ nodes.now }
         requires retired { is_announced self.old.number self.old.history ≡ false }
