@@ -1,5 +1,5 @@
 -- What a seat knows of the history from its own entries, and from the owner's.
-use Rattle.std.proofs.Common.{◌≡◌, ◌⊎◌, ⊎_elim, inl, inr, ℕ, suc, ◌<◌, ◌≤◌, List, [], ◌∷◌, ◌++◌, true, false, cond, ◌||◌, ◌&&◌, eqb, refl, sym, ap, ◌∙◌, subst, arith, length, le_refl}
+use Rattle.std.proofs.Common.{◌≡◌, ⊎_elim, ℕ, suc, ◌<◌, ◌≤◌, List, [], ◌∷◌, ◌++◌, true, false, cond, ◌||◌, ◌&&◌, eqb, refl, sym, ap, ◌∙◌, subst, arith, length}
 use Rattle.std.proofs.lemmas.Bool.{cases_eq, and_parts, and_from, or_right, or_cases, cond_both}
 use Rattle.plcr_machine.specs.declared.image.Image.{Image}
 use Rattle.plcr_machine.specs.declared.entry.Entry.{Entry}
@@ -16,7 +16,7 @@ use Rattle.plcr_machine.proofs.Freedom.{live_bound}
 use Rattle.plcr_machine.proofs.Followers.{after_listed}
 use Rattle.plcr_machine.proofs.Insiders.{counts_few}
 use Rattle.plcr_machine.proofs.Leads.{link_here, link_before}
-use Rattle.plcr_machine.proofs.Makers.{own_split, announced-own}
+use Rattle.plcr_machine.proofs.Makers.{own_grow, own_split, announced-own}
 use Rattle.plcr_machine.proofs.Reach.{reach_inside, reach_busy}
 use Rattle.plcr_nodes.specs.Knowing.{StandsAsBefore}
 
@@ -57,25 +57,9 @@ seen_same p g h e = sym (seen-own p g) ∙ ap (seen_by p) e ∙ seen-own p h
 pub stands_as_before : (p : ℕ) (old all : List Entry) → own_entries p all ≡ own_entries p old → StandsAsBefore p old all
 stands_as_before p old all e = record { inside = inside_same p all old e; announced = announced_same p all old e; seen = seen_same p all old e }
 
-own_cons : (p : ℕ) (e : Entry) (past : List Entry) → (own_entries p (e ∷ past) ≡ own_entries p past) ⊎ (length (own_entries p (e ∷ past)) ≡ suc (length (own_entries p past)))
-own_cons p (Enter q) past = by_cases (eqb q p) (λ e. rw e (inr refl)) (λ e. rw e (inl refl))
-own_cons p (Announce q s) past = by_cases (eqb q p) (λ e. rw e (inr refl)) (λ e. rw e (inl refl))
-own_cons p (Leave q) past = by_cases (eqb q p) (λ e. rw e (inr refl)) (λ e. rw e (inl refl))
-own_cons p (Retire q) past = by_cases (eqb q p) (λ e. rw e (inr refl)) (λ e. rw e (inl refl))
-own_cons p (Load n i a) past = inl refl
-own_cons p (Unload n) past = inl refl
-own_cons p Count past = inl refl
-own_cons p (Look w x) past = inl refl
-
 none_of : (xs : List Entry) → length xs ≤ 0 → xs ≡ []
 none_of [] h = refl
 none_of (x ∷ xs) h = absurd (omega arith)
-
-pub own_longer : (p : ℕ) (added past : List Entry) → length (own_entries p past) ≤ length (own_entries p (added ++ past))
-own_longer p [] past = le_refl (length (own_entries p past))
-own_longer p (e ∷ added) past =
-    let m = own_longer p added past in
-    ⊎_elim (λ s. let z = ap length s in omega arith) (λ s. omega arith) (own_cons p e (added ++ past))
 
 -- an entry that is no own one of the pass leaves whether it is inside
 own_step : (p : ℕ) (e : Entry) (past : List Entry) → own_entries p (e ∷ past) ≡ own_entries p past → is_inside p (e ∷ past) ≡ is_inside p past
@@ -92,13 +76,9 @@ reach_grows p n (e ∷ added) past s r =
     (own_step p e (added ++ past) t.0 ∙ reach_inside p n (added ++ past) m) (or_right (has n (live (e ∷ added ++ past))) (may_reach p n (added ++ past)) m)
 
 pub no_own : (p : ℕ) (added past : List Entry) → own_entries p (added ++ past) ≡ [] → own_entries p past ≡ []
-no_own p added past e = let m = own_longer p added past in let z = ap length e in none_of (own_entries p past) (omega arith)
+no_own p added past e = let m = own_grow p added past in let z = ap length e in none_of (own_entries p past) (omega arith)
 
 module _ (nodes passes : ℕ) where
-  pub legal_older : (added past : List Entry) → IsLegal nodes passes (added ++ past) → IsLegal nodes passes past
-  legal_older [] past l = l
-  legal_older (e ∷ added) past l = legal_older added past l.1
-
   -- a node that a pass may reach is one of the table's
   pub reach_bound : (p n : ℕ) (h : List Entry) → IsLegal nodes passes h → may_reach p n h ≡ true → (0 < n) × (n ≤ nodes)
   reach_bound p n [] l r = not_both false r refl

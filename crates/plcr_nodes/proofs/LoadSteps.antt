@@ -21,10 +21,11 @@ use Rattle.plcr_nodes.specs.declared.words.TheConstants.{GATE, PAYLOAD_WORDS}
 use Rattle.plcr_nodes.specs.Words.{base}
 use Rattle.plcr_nodes.specs.Rule.{name_on, image_word, image_words, first_of, number_of, Stands, Fits, Holds}
 use Rattle.plcr_nodes.specs.inner.Plays.{Mine, view_at, glanced, followed, loaded_word}
-use Rattle.plcr_nodes.proofs.Known.{inside_same, free_same, reach_grows, reach_bound, legal_older, link_bound, loaded_grows, loaded_most}
+use Rattle.plcr_nodes.proofs.Known.{inside_same, free_same, reach_grows, reach_bound, link_bound, loaded_grows, loaded_most}
 use Rattle.plcr_nodes.proofs.NamesKept.{name-older}
 use Rattle.plcr_nodes.proofs.Fitting.{St, there, taken, sees_all}
 use Rattle.plcr_machine.proofs.Leads.{link_reach, head_reach}
+use Rattle.plcr_machine.proofs.Makers.{legal_tail}
 use Rattle.plcr_machine.proofs.Reach.{reach_busy}
 
 module _ (nodes passes : ℕ) (s : St) (r : Holds nodes passes s) (id : ℕ) (v : View) (at : get_elem? s.views id ≡ some v) (lives : v.spent ≡ false) where
@@ -69,7 +70,7 @@ module _ (nodes passes : ℕ) (s : St) (r : Holds nodes passes s) (id : ℕ) (v 
 pub name_grows : (nodes passes : ℕ) (p n : ℕ) (added past : List Entry) (new names : List (List ℕ)) → IsLegal nodes passes (added ++ past) → own_entries p (added ++ past) ≡ own_entries p past
     → may_reach p n past ≡ true → length names ≡ loads past → name_on n (added ++ past) (new ++ names) ≡ name_on n past names
 name_grows nodes passes p n added past new names l s r e =
-    let m = loaded_most nodes passes n past (legal_older nodes passes added past l) in
+    let m = loaded_most nodes passes n past (legal_tail nodes passes added past l) in
     ap (λ (x : Image). name_of x.load (new ++ names)) (loaded_grows nodes passes p n added past l s r) ∙ name-older (loaded n past).load new names (omega arith)
 
 module _ (nodes passes slots id : ℕ) (me : Mine) (lives : me.0.spent ≡ false) (mine : among (number_of me.0) me.0.numbers ≡ true) where
