@@ -225,3 +225,15 @@ free_same passes n g h e = sym (free-owner passes n g) ∙ ap (is_free passes n)
 -- a number of counts takes no more than 32 bits
 pub counts_small : (nodes passes found : ℕ) (past : List Entry) (names : List (List ℕ)) → IsHistory nodes passes past names → found ≡ counts past → found < 4294967296
 counts_small nodes passes found past names known is = let few = counts_few nodes passes past known.legal in omega arith
+
+pub new_same : (n : ℕ) (g h : List Entry) → owner_entries g ≡ owner_entries h → is_new n g ≡ is_new n h
+new_same n g h e = sym (new-owner n g) ∙ ap (is_new n) e ∙ new-owner n h
+
+pub removed_same : (n : ℕ) (g h : List Entry) → owner_entries g ≡ owner_entries h → is_removed n g ≡ is_removed n h
+removed_same n g h e = sym (removed-owner n g) ∙ ap (is_removed n) e ∙ removed-owner n h
+
+pub before_same : (n : ℕ) (g h : List Entry) → owner_entries g ≡ owner_entries h → counts_before n g ≡ counts_before n h
+before_same n g h e = sym (before-owner n g) ∙ ap (counts_before n) e ∙ before-owner n h
+
+pub let_go_same : (p n : ℕ) (g h : List Entry) → owner_entries g ≡ owner_entries h → is_let_go p n g ≡ is_let_go p n h
+let_go_same p n g h e = sym (let_go-owner p n g) ∙ ap (is_let_go p n) e ∙ let_go-owner p n h
