@@ -2,7 +2,7 @@
 use Rattle.std.proofs.Common.{◌≡◌, ◌≢◌, ℕ, zero, suc, ◌+◌, ◌-◌, ◌<◌, ◌≤◌, List, [], ◌∷◌, ◌++◌, length, get_or, Bool, true, false, eqb, refl, ap, ◌∙◌, subst, arith, Option, Some, ne_eqb, ltb, option_to_list}
 use Rattle.std.proofs.lemmas.Bool.{ltb-true, ltb-false, lt-ltb, le-ltb, eqb-true, eqb-false}
 use Rattle.plcr_machine.proofs.Cases.{by_cases, eqb_same, not_both}
-use Rattle.plcr_imagelist.specs.Keeping.{times, is_node, once_where, last_of}
+use Rattle.plcr_imagelist.specs.inner.Keeping.{times, is_node, once_where, last_of}
 
 pub times-append : (n : ℕ) (xs ys : List ℕ) → times n (xs ++ ys) ≡ times n xs + times n ys
 times-append n [] ys = omega arith

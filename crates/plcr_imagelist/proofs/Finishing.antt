@@ -4,12 +4,11 @@ use Rattle.std.proofs.lemmas.Bool.{cases_eq}
 use Rattle.plcr_machine.specs.declared.entry.Entry.TheVariants.{Load}
 use Rattle.plcr_machine.proofs.Cases.{eqb_same}
 use Rattle.plcr_nodes.specs.declared.view.Store.{Store}
-use Rattle.plcr_nodes.specs.Names.{stored_elsewhere}
-use Rattle.plcr_nodes.specs.Plays.{store}
-use Rattle.plcr_imagelist.specs.States.{WriterState, Doing, Loads, Unloads, change_step, steps_of, ChangeState}
-use Rattle.plcr_imagelist.specs.Making.{IsAtRest, MakesStore, OnlyStores, word_stored, value_stored}
+use Rattle.plcr_nodes.specs.Names.{stored_elsewhere, store}
+use Rattle.plcr_imagelist.specs.States.{WriterState, Doing, Loads, Unloads, change_step, steps_of, ChangeState, IsAtRest}
+use Rattle.plcr_imagelist.specs.Steps.{MakesStore, word_stored, value_stored, Advances}
+use Rattle.plcr_imagelist.specs.inner.Making.{OnlyStores, HasCome, IsFinished}
 use Rattle.plcr_imagelist.specs.Changes.{IsChangedAt, IsCountedAt, IsLoadedAt, IsUnloadedAt}
-use Rattle.plcr_imagelist.specs.Answers.{Advances, HasCome, IsFinished}
 
 some_steps : (doing : Doing) → 0 < change_step doing
 some_steps (Loads header name) = omega arith

@@ -1,5 +1,9 @@
 pub mod Counted
 pub mod Placed
+pub mod Taking
+pub mod Bounding
+pub mod Freeing
+pub mod Looking
 pub mod Kept
 pub mod Resting
 pub mod Storing
@@ -8,6 +12,7 @@ pub mod Finishing
 pub mod Whole
 pub mod Meeting
 pub mod Walking
+pub mod Passing
 pub mod Opened
 pub mod Told
 pub mod Reread

@@ -3,18 +3,18 @@ use Rattle.std.proofs.Common.{◌≡◌, ◌≢◌, ◌⊎◌, inl, inr, ℕ, ze
 use Rattle.std.proofs.lemmas.Bool.{or_left, or_right, or_cases, eqb-true, eqb-false, false_from_ne_true}
 use Rattle.plcr_machine.specs.declared.image.Image.{Image}
 use Rattle.plcr_machine.specs.declared.entry.Entry.{Entry}
-use Rattle.plcr_machine.specs.declared.entry.Entry.TheVariants.{Enter, Leave, Load, Unload, Count, Look}
 use Rattle.plcr_machine.specs.Lists.{Grows, load_number, loaded, changes, list_after}
 use Rattle.plcr_machine.specs.Walks.{RisesAbove, last_with, follow, last_met, IsWholeWalk, IsLawfulWalk}
 use Rattle.plcr_machine.specs.Passes.{count_below}
 use Rattle.plcr_machine.specs.Histories.{IsLegal}
-use Rattle.plcr_machine.specs.Holds.{may_reach}
+use Rattle.plcr_machine.specs.Holds.{may_reach, before_enter}
 use Rattle.plcr_machine.specs.Links.{link_of, image_at}
-use Rattle.plcr_machine.specs.Parts.{own_entries}
+use Rattle.plcr_machine.proofs.Makers.{before_enter-stays}
 use Rattle.plcr_machine.proofs.Cases.{by_cases, eqb_same, not_both}
 use Rattle.plcr_machine.proofs.Insiders.{count_below-more, count_below-most}
 use Rattle.plcr_machine.proofs.Rising.{first_rises, next_rises}
-use Rattle.plcr_machine.proofs.Growing.{follow-same, list_after-grows, changes-grows, meets-grows}
+use Rattle.plcr_machine.proofs.Growing.{changes-grows}
+use Rattle.plcr_machine.proofs.Staying.{whole_stays, lawful_stays}
 use Rattle.plcr_machine.proofs.Lawful.{whole_walk_lawful}
 use Rattle.plcr_machine.proofs.Loaded.{list_after_rises}
 use Rattle.plcr_machine.proofs.Follows.{link-follow, head-follow}
@@ -22,31 +22,14 @@ use Rattle.plcr_machine.proofs.Reach.{reach_busy}
 use Rattle.plcr_nodes.specs.Entries.{among}
 use Rattle.plcr_nodes.specs.Seeing.{AddsOthers, GoesOn}
 use Rattle.plcr_nodes.proofs.Seeing.{own_of}
-use Rattle.plcr_nodes.proofs.Known.{own_apart}
 use Rattle.plcr_nodes.proofs.Staying.{image_stays}
-use Rattle.plcr_imagelist.specs.Keeping.{last_of}
-use Rattle.plcr_imagelist.specs.Holds.{images_on, before_enter, HasEnded}
+use Rattle.plcr_imagelist.specs.inner.Keeping.{last_of}
+use Rattle.plcr_imagelist.specs.inner.Holding.{images_on}
+use Rattle.plcr_imagelist.specs.Holds.{HasEnded}
 
 -- entries of others leave the hold's enter where it was
-before_enter-step : (p : ℕ) (e : Entry) (past : List Entry) → own_entries p (e ∷ past) ≡ own_entries p past → before_enter p (e ∷ past) ≡ before_enter p past
-before_enter-step p (Enter q) past s =
-    by_cases (eqb q p)
-    (λ t. let longer : Enter q ∷ own_entries p past ≡ own_entries p past = rw t at s in let size = ap length longer in absurd (omega arith))
-    (λ t. rw t refl)
-before_enter-step p (Leave q) past s = refl
-before_enter-step p (Load n i a) past s = refl
-before_enter-step p (Unload n) past s = refl
-before_enter-step p (Count k) past s = refl
-before_enter-step p (Look k) past s = refl
-
-before_enter-added : (p : ℕ) (added past : List Entry) → own_entries p (added ++ past) ≡ own_entries p past → before_enter p (added ++ past) ≡ before_enter p past
-before_enter-added p [] past s = refl
-before_enter-added p (e ∷ added) past s = let t = own_apart p e added past s in before_enter-step p e (added ++ past) t.0 ∙ before_enter-added p added past t.1
-
 pub before_enter-same : (p : ℕ) (old all : List Entry) → AddsOthers false (p ∷ []) old all → before_enter p all ≡ before_enter p old
-before_enter-same p old all a =
-    let own = subst (λ (h : List Entry). own_entries p h ≡ own_entries p old) a.grows.1 (own_of p old all a) in
-    subst (λ (h : List Entry). before_enter p h ≡ before_enter p old) (sym a.grows.1) (before_enter-added p a.grows.0 old own)
+before_enter-same p old all a = before_enter-stays p old all a.grows (own_of p old all a)
 
 -- what follows has a greater number
 pub follow_rises : (nodes passes : ℕ) (h : List Entry) → IsLegal nodes passes h → (i j : ℕ) (x : Image) → follow load_number (list_after h) i j ≡ Some x → i < x.load
@@ -152,9 +135,6 @@ images_stay nodes passes p old all old_names names g (n ∷ ns) reach =
 pub lawful_whole : (nodes passes : ℕ) (h : List Entry) → IsLegal nodes passes h → (a b : ℕ) (met : List Image) → IsWholeWalk load_number (list_after h) a b met → IsLawfulWalk load_number (list_after h) a b met
 lawful_whole nodes passes h l a b met w = whole_walk_lawful load_number (list_after h) (list_after_rises nodes passes h l) a b met w
 
-follow_stays : (old all : List Entry) (i j : ℕ) → Grows old all → j ≤ changes old → follow load_number (list_after all) i j ≡ follow load_number (list_after old) i j
-follow_stays old all i j g le = follow-same load_number (list_after all) (list_after old) i j (λ k below. list_after-grows old all k g (omega arith))
-
 -- a walk that ended has ended there still, as the history grows
 pub ended_on : (nodes passes p : ℕ) (old all : List Entry) (old_met met : List Image) (b : ℕ) → IsLegal nodes passes all → Grows old all → before_enter p all ≡ before_enter p old → met ≡ old_met
     → HasEnded old (changes (before_enter p old)) b old_met → HasEnded all (changes (before_enter p all)) b met
@@ -162,7 +142,6 @@ ended_on nodes passes p old all old_met met b l g start same k =
     let a : ℕ = changes (before_enter p old) in
     let later = changes-grows old all g in
     let within = k.within in
-    let walk : IsWholeWalk load_number (list_after all) a b old_met =
-    record { meets = meets-grows old all 0 a b old_met g within k.whole.meets; ends = follow_stays old all (last_met load_number 0 old_met) b g within ∙ k.whole.ends } in
     subst (λ (xs : List Image). HasEnded all (changes (before_enter p all)) b xs) (sym same)
-    (subst (λ (s : List Entry). HasEnded all (changes s) b old_met) (sym start) (record { within = omega arith; whole = walk; lawful = lawful_whole nodes passes all l a b old_met walk }))
+    (subst (λ (s : List Entry). HasEnded all (changes s) b old_met) (sym start)
+    (record { within = omega arith; whole = whole_stays old all a b old_met g within k.whole; lawful = lawful_stays old all a b old_met g within k.lawful }))

@@ -3,7 +3,6 @@ use Rattle.std.proofs.Common.{◌≡◌, ◌≢◌, ◌⊎◌, inl, inr, ℕ, ze
 use Rattle.std.proofs.lemmas.Bool.{or_left, or_right}
 use Rattle.plcr_machine.specs.declared.image.Image.{Image}
 use Rattle.plcr_machine.specs.declared.entry.Entry.{Entry}
-use Rattle.plcr_machine.specs.declared.entry.Entry.TheVariants.{Enter, Leave, Load, Unload, Count, Look}
 use Rattle.plcr_machine.specs.Lists.{has, without, live, loads, changes}
 use Rattle.plcr_machine.specs.Links.{after, last_place}
 use Rattle.plcr_machine.specs.Histories.{IsLegal}
@@ -11,8 +10,9 @@ use Rattle.plcr_machine.proofs.Cases.{by_cases, eqb_same, not_both}
 use Rattle.plcr_machine.proofs.OnNodes.{IsApart, without_absent}
 use Rattle.plcr_machine.proofs.Freedom.{live_apart, live_bound, head_absent}
 use Rattle.plcr_machine.proofs.Leads.{link_here}
-use Rattle.plcr_nodes.specs.Unlinking.{Follows}
-use Rattle.plcr_imagelist.specs.Keeping.{first_with, without_first}
+use Rattle.plcr_machine.proofs.Counted.{loads-unloads}
+use Rattle.plcr_nodes.specs.Owning.{Follows}
+use Rattle.plcr_imagelist.specs.Finding.{first_with, without_first}
 
 last_at : (p : ℕ) (xs : List Image) (i : ℕ) (x : Image) → i < length xs → x ≡ get_or xs i x → last_place p (take (suc i) xs) ≡ x.node
 last_at p [] i x below is = absurd (omega arith)
@@ -82,13 +82,7 @@ follows_before nodes passes h i x l below is =
 
 -- there are no more loads than changes
 pub loads_most : (h : List Entry) → loads h ≤ changes h
-loads_most [] = omega arith
-loads_most (Enter q ∷ past) = loads_most past
-loads_most (Leave q ∷ past) = loads_most past
-loads_most (Load n i a ∷ past) = omega (arith, loads_most past)
-loads_most (Unload n ∷ past) = omega (arith, loads_most past)
-loads_most (Count k ∷ past) = loads_most past
-loads_most (Look k ∷ past) = loads_most past
+loads_most h = let all = loads-unloads h in omega arith
 
 -- the first image with a header, from a place on
 pub first_skip : (header i : ℕ) (xs : List Image) (x : Image) → x ≡ get_or xs i x → i < length xs → x.header ≢ header → first_with header (drop (i + 1) xs) ≡ first_with header (drop i xs)
@@ -104,7 +98,7 @@ first_none header (x ∷ xs) zero h = absurd (omega arith)
 first_none header (x ∷ xs) (suc i) h = first_none header xs i (omega arith)
 
 -- the list without the node of the first image with a header is the list without that image
-has_first : (header : ℕ) (xs : List Image) (x : Image) → first_with header xs ≡ Some x → has x.node xs ≡ true
+pub has_first : (header : ℕ) (xs : List Image) (x : Image) → first_with header xs ≡ Some x → has x.node xs ≡ true
 has_first header [] x e = cc
 has_first header (y ∷ ys) x e =
     by_cases (eqb y.header header)

@@ -17,7 +17,7 @@ use Rattle.plcr_nodes.specs.Rule.{name_on, image_word, image_words}
 use Rattle.plcr_nodes.specs.Seeing.{GoesOn}
 use Rattle.plcr_nodes.specs.Tokens.{PassState, IsRead}
 use Rattle.plcr_nodes.proofs.Staying.{image_stays, name_stays}
-use Rattle.plcr_imagelist.specs.Holds.{images_on, IsHolding}
+use Rattle.plcr_imagelist.specs.inner.Holding.{images_on, IsHolding}
 use Rattle.plcr_imagelist.specs.Walk.{with_name, all_named, IsSameWalk}
 use Rattle.plcr_imagelist.proofs.Meeting.{images_stay, before_enter-same, ended_on}
 use Rattle.plcr_imagelist.proofs.Walking.{holding_stays, hold_of}

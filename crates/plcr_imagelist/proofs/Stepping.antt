@@ -6,27 +6,27 @@ use Rattle.plcr_machine.specs.declared.image.Image.{Image}
 use Rattle.plcr_machine.specs.Lists.{live, loads, changes}
 use Rattle.plcr_machine.specs.Passes.{owes_count}
 use Rattle.plcr_machine.proofs.Cases.{eqb_same}
+use Rattle.plcr_machine.proofs.Pace.{paced_rest}
 use Rattle.plcr_machine.specs.declared.limits.TheConstants.{MOST_CHANGES}
-use Rattle.plcr_nodes.specs.Names.{words_of}
-use Rattle.plcr_nodes.specs.Plays.{store}
-use Rattle.plcr_nodes.specs.Tokens.{IsLinked}
-use Rattle.plcr_nodes.specs.Unlinking.{IsUnlinked}
+use Rattle.plcr_nodes.specs.Names.{words_of, store}
+use Rattle.plcr_nodes.specs.Owning.{IsLinked, IsUnlinked}
 use Rattle.plcr_nodes.proofs.Spelling.{no_bytes}
 use Rattle.plcr_imagelist.specs.declared.change.Task.{Task}
 use Rattle.plcr_imagelist.specs.declared.change.Task.TheVariants.{Load, Unload}
-use Rattle.plcr_imagelist.specs.Keeping.{BooksState, first_with}
-use Rattle.plcr_imagelist.specs.States.{WriterState, writer_state, change_step, ChangeState}
-use Rattle.plcr_imagelist.specs.Changes.{IsBegunLoad, begun_load, IsFreeIn}
-use Rattle.plcr_imagelist.specs.Refusing.{FindsRoom}
-use Rattle.plcr_imagelist.specs.Making.{IsMaking, MakesStep, AreStored, doing_of, word_stored, value_stored, IsAtRest}
-use Rattle.plcr_imagelist.proofs.Resting.{loaded_at, unloaded_at, due_linked, due_unlinked, counts-rest}
+use Rattle.plcr_imagelist.specs.inner.Keeping.{BooksState, writer_state}
+use Rattle.plcr_imagelist.specs.Finding.{first_with, IsFreeIn}
+use Rattle.plcr_imagelist.specs.States.{WriterState, change_step, ChangeState, IsAtRest}
+use Rattle.plcr_imagelist.specs.Changes.{IsBegunLoad, begun_load, FindsNode}
+use Rattle.plcr_imagelist.specs.inner.Making.{FindsRoom, IsMaking, MakesStep, AreStored, doing_of}
+use Rattle.plcr_imagelist.specs.Steps.{word_stored, value_stored}
+use Rattle.plcr_imagelist.proofs.Resting.{loaded_at, unloaded_at, due_linked, due_unlinked}
 use Rattle.plcr_imagelist.proofs.Storing.{stored_more, IsWhole, whole}
 
 -- before the change itself, none is to be counted, and there is room for one more
 pub making_rest : (b : BooksState) (task : Task) (name : List ℕ) (load made : ℕ) → IsMaking b task name load made → made < change_step (doing_of task name) → (owes_count b.owner.history ≡ false) × (changes b.owner.history < MOST_CHANGES)
 making_rest b task name load made m early =
     let due : owes_count b.owner.history ≡ false = m.owes ∙ ne_eqb made (change_step (doing_of task name)) (λ e. omega arith) in
-    let same = counts-rest b.owner.history m.paced due in
+    let same = paced_rest b.owner.history m.paced due in
     let few = m.fewer in
     (due, omega arith)
 
@@ -45,6 +45,7 @@ making_stored b b' header name load made m early e =
       making = record {
         known = m.known;
         paced = m.paced;
+        first = m.first;
         short = m.short;
         bytes = m.bytes;
         most = omega arith;
@@ -68,12 +69,13 @@ pub making_linked : (b b' : BooksState) (header : ℕ) (name : List ℕ) (load m
 making_linked b b' header name load made m e k =
     let w : ℕ = words_of (length name) in
     let full = making_whole b header name load made m e in
-    let due = due_linked b.owner b.spare b'.owner k m.paced (making_rest b (Load header) name load made m (omega arith)).0 m.fewer in
+    let due = due_linked b.owner b.spare b'.owner k m.paced m.first (making_rest b (Load header) name load made m (omega arith)).0 m.fewer in
     let last : made + 1 ≡ 4 + w = omega arith in
     record {
       making = record {
         known = k.legal;
         paced = due.paced;
+        first = due.first;
         short = m.short;
         bytes = m.bytes;
         most = omega arith;
@@ -89,12 +91,13 @@ making_linked b b' header name load made m e k =
 pub making_unlinked : (b b' : BooksState) (at : ℕ) (image : Image) (name : List ℕ) (load made : ℕ) → IsMaking b (Unload at image) name load made → made < 1
     → IsUnlinked b.owner image.node b'.owner → MakesStep b b' (Unload at image) name load made
 making_unlinked b b' at image name load made m early k =
-    let due = due_unlinked b.owner image.node b'.owner k m.paced (making_rest b (Unload at image) name load made m early).0 m.fewer in
+    let due = due_unlinked b.owner image b'.owner k m.paced m.first (making_rest b (Unload at image) name load made m early).0 m.fewer (m.ready early).2 in
     let last : made + 1 ≡ 1 = omega arith in
     record {
       making = record {
         known = k.legal;
         paced = due.paced;
+        first = due.first;
         short = m.short;
         bytes = m.bytes;
         most = omega arith;
@@ -110,11 +113,12 @@ making_unlinked b b' at image name load made m early k =
 pub making_begun_load : (b : BooksState) (header : ℕ) (name : List ℕ) (load : ℕ) → IsAtRest (writer_state b.owner) → changes b.owner.history < MOST_CHANGES → b.spare ≢ 0 → IsImageName name
     → IsBytes name → load ≡ suc (loads b.owner.history) → IsMaking b (Load header) name load 0
 making_begun_load b header name load r few some short bytes number =
-    let same = counts-rest b.owner.history r.paced r.counted in
+    let same = paced_rest b.owner.history r.paced r.counted in
     let w : ℕ = words_of (length name) in
     record {
       known = r.known;
       paced = r.paced;
+      first = r.first;
       short = short;
       bytes = bytes;
       most = omega arith;
@@ -126,10 +130,11 @@ making_begun_load b header name load r few some short bytes number =
 pub making_begun_unload : (b : BooksState) (at : ℕ) (image : Image) (load : ℕ) → IsAtRest (writer_state b.owner) → changes b.owner.history < MOST_CHANGES
     → at < length (live b.owner.history) → image ≡ get_or (live b.owner.history) at image → first_with image.header (live b.owner.history) ≡ Some image → IsMaking b (Unload at image) [] load 0
 making_begun_unload b at image load r few below is first =
-    let same = counts-rest b.owner.history r.paced r.counted in
+    let same = paced_rest b.owner.history r.paced r.counted in
     record {
       known = r.known;
       paced = r.paced;
+      first = r.first;
       short = omega arith;
       bytes = no_bytes;
       most = omega arith;
@@ -141,9 +146,5 @@ making_begun_unload b at image load r few below is first =
 pub begun : (old : WriterState) (b b' : BooksState) (header : ℕ) (name : List ℕ) (change : ChangeState) → writer_state b.owner ≡ old → FindsRoom b b' → change ≡ begun_load (writer_state b'.owner) header name b'.spare
     → IsBegunLoad old header name change
 begun old b b' header name change view r e =
-    subst (λ (s : WriterState). IsBegunLoad s header name change) view
-    (subst (λ (c : ChangeState). IsBegunLoad (writer_state b.owner) header name c) (sym e)
-    (elim r.how [
-      | inl p ↦ inl (subst (λ (s : BooksState). IsFreeIn (writer_state b.owner) s.spare) (sym p.1) p.0, ap (λ (s : BooksState). begun_load (writer_state s.owner) header name b'.spare) p.1)
-      | inr q ↦ inr (q.0, q.1, r.free, refl)
-    ]))
+    subst (λ (c : ChangeState). IsBegunLoad old header name c) (sym e)
+    (record { finds = subst (λ (s : WriterState). FindsNode s b'.spare (writer_state b'.owner)) view r.finds; begun = refl })

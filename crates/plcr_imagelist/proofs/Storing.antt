@@ -6,10 +6,10 @@ use Rattle.plcr_base.specs.Numbers.{u64_in}
 use Rattle.plcr_base.specs.Limits.{IsImageName}
 use Rattle.plcr_machine.proofs.Cases.{by_cases, eqb_same}
 use Rattle.plcr_nodes.specs.declared.view.Store.{Store}
-use Rattle.plcr_nodes.specs.Names.{words_of, payload_word, stored, value_or, header_in, name_in, IsFilled, IsEnded}
-use Rattle.plcr_nodes.specs.Plays.{store}
+use Rattle.plcr_nodes.specs.Names.{words_of, payload_word, stored, value_or, header_in, name_in, IsFilled, IsEnded, store}
 use Rattle.plcr_nodes.proofs.Spelling.{spelled}
-use Rattle.plcr_imagelist.specs.Making.{word_stored, value_stored, AreStored}
+use Rattle.plcr_imagelist.specs.Steps.{word_stored, value_stored}
+use Rattle.plcr_imagelist.specs.inner.Making.{AreStored}
 
 -- different steps store different words
 word_apart : (name : List ℕ) (j k : ℕ) → j < k → k < 3 + words_of (length name) → word_stored name j ≢ word_stored name k

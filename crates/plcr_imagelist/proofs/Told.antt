@@ -1,61 +1,68 @@
 -- What a token keeps as it is told.
-use Rattle.std.proofs.Common.{◌≡◌, ℕ, suc, ◌<◌, Bool, List, ◌∷◌, length, Some, not, ◌&&◌, refl, sym, ap, ◌∙◌, subst, get_or}
+use Rattle.std.proofs.Common.{◌≡◌, ℕ, suc, ◌<◌, Bool, List, ◌∷◌, length, Some, ◌&&◌, refl, sym, ap, ◌∙◌, subst, get_or}
 use Rattle.plcr_machine.specs.declared.image.Image.{Image}
 use Rattle.plcr_machine.specs.declared.entry.Entry.{Entry}
-use Rattle.plcr_machine.specs.Lists.{has, live}
+use Rattle.plcr_machine.specs.Lists.{live}
 use Rattle.plcr_machine.specs.Histories.{IsHistory}
 use Rattle.plcr_machine.specs.Parts.{owner_entries}
 use Rattle.plcr_machine.specs.declared.limits.TheConstants.{MOST_CHANGES}
 use Rattle.plcr_nodes.specs.Tokens.{OwnerState, PassState, NoteState}
 use Rattle.plcr_nodes.specs.Telling.{IsOwnerTold, IsPassTold, IsJoined}
-use Rattle.plcr_nodes.proofs.Known.{inside_same, live_same, loads_same, free_same}
+use Rattle.plcr_nodes.proofs.Known.{inside_same, announced_same, live_same, loads_same, free_same, before_same, counts_same}
 use Rattle.plcr_nodes.proofs.Seeing.{own_of}
 use Rattle.plcr_imagelist.specs.declared.change.Task.{Task}
 use Rattle.plcr_imagelist.specs.declared.change.Task.TheVariants.{Load, Unload}
-use Rattle.plcr_imagelist.specs.Keeping.{BooksState, Agrees, is_node, once_where, first_with}
-use Rattle.plcr_imagelist.specs.States.{writer_state}
-use Rattle.plcr_imagelist.specs.Making.{IsAtRest, IsMaking, IsReady}
-use Rattle.plcr_imagelist.specs.Holds.{walker_state, images_on, IsHolding, IsOut, EndedAt}
+use Rattle.plcr_imagelist.specs.inner.Keeping.{BooksState, Agrees, is_node, once_where, writer_state}
+use Rattle.plcr_imagelist.specs.Finding.{first_with}
+use Rattle.plcr_imagelist.specs.States.{IsAtRest}
+use Rattle.plcr_imagelist.specs.inner.Making.{IsMaking, IsReady}
+use Rattle.plcr_imagelist.specs.inner.Holding.{walker_state, images_on, IsHolding}
+use Rattle.plcr_imagelist.specs.Holds.{IsOut, EndedAt}
 use Rattle.plcr_imagelist.specs.Tellings.{IsWriterTold, IsWalkerTold, IsHoldTold, IsMet}
-use Rattle.plcr_nodes.proofs.CountStep.{counts_same}
 use Rattle.plcr_nodes.proofs.Pacing.{changes_same, owes_same, paced_same}
+use Rattle.plcr_imagelist.specs.declared.bounds.Removed.{Removed}
+use Rattle.plcr_machine.proofs.ListsMade.{takes_same}
+use Rattle.plcr_imagelist.proofs.Bounding.{bounds_seen}
+use Rattle.plcr_imagelist.proofs.Freeing.{told_seen}
+use Rattle.plcr_imagelist.proofs.Kept.{waiting_same}
 use Rattle.plcr_imagelist.proofs.Meeting.{images_stay, before_enter-same, ended_on}
 use Rattle.plcr_imagelist.proofs.Walking.{holding_stays, hold_of}
 
 -- books that agree with a history agree with one that went on by entries of others
-agrees_seen : (o : OwnerState) (past : List Entry) (names : List (List ℕ)) (joined : List ℕ) (spares gone : List ℕ) (listed : List Image) (c l : ℕ) → owner_entries past ≡ owner_entries o.history → IsHistory o.nodes o.passes past names
-    → Agrees o spares gone listed c l → Agrees (record o { history = past; names = names; joined = joined }) spares gone listed c l
-agrees_seen o past names joined spares gone listed c l own legal a =
-    let lists : live past ≡ live o.history = live_same past o.history own in
-    record {
-      known = legal;
-      paced = paced_same past o.history own a.paced;
-      images = a.images ∙ sym lists;
-      free = λ n. a.free n ∙ ap (λ b. once_where (is_node o.nodes n && b)) (sym (free_same n past o.history own));
-      removed = λ n. a.removed n ∙ (λ i. once_where (is_node o.nodes n && (not (has n (sym lists i)) && not (sym (free_same n past o.history own) i))));
-      all = a.all;
-      changes_are = a.changes_are ∙ sym (changes_same past o.history own);
-      loads_are = a.loads_are ∙ sym (loads_same past o.history own);
-    }
+agrees_seen : (o : OwnerState) (past : List Entry) (names : List (List ℕ)) (joined bounds spares : List ℕ) (gone : List Removed) (listed : List Image) (c l : ℕ) → owner_entries past ≡ owner_entries o.history → IsHistory o.nodes o.passes past names
+    → Agrees o bounds spares gone listed c l → Agrees (record o { history = past; names = names; joined = joined }) bounds spares gone listed c l
+agrees_seen o past names joined bounds spares gone listed c l own legal a = record {
+  known = legal;
+  paced = paced_same past o.history own a.paced;
+  some = a.some;
+  images = a.images ∙ sym (live_same past o.history own);
+  bounded = bounds_seen o.passes past o.history bounds own a.bounded;
+  free = λ n. a.free n ∙ ap (λ b. once_where (is_node o.nodes n && b)) (sym (free_same o.passes n past o.history own));
+  removed = λ n. a.removed n ∙ ap (λ b. once_where (is_node o.nodes n && b)) (sym (waiting_same o.passes n past o.history own));
+  told = told_seen past o.history (λ n. before_same n past o.history own) gone a.told;
+  all = a.all;
+  changes_are = a.changes_are ∙ sym (changes_same past o.history own);
+  loads_are = a.loads_are ∙ sym (loads_same past o.history own);
+}
 
-pub agrees_told : (old : OwnerState) (note : NoteState) (new : OwnerState) (spares gone : List ℕ) (listed : List Image) (c l : ℕ) → IsOwnerTold old note new → Agrees old spares gone listed c l → Agrees new spares gone listed c l
-agrees_told old note new spares gone listed c l k a =
-    subst (λ (s : OwnerState). Agrees s spares gone listed c l) (sym k.now) (agrees_seen old k.past k.names old.joined spares gone listed c l (k.sees.added.owner refl) k.sees.legal a)
+pub agrees_told : (old : OwnerState) (note : NoteState) (new : OwnerState) (bounds spares : List ℕ) (gone : List Removed) (listed : List Image) (c l : ℕ) → IsOwnerTold old note new → Agrees old bounds spares gone listed c l → Agrees new bounds spares gone listed c l
+agrees_told old note new bounds spares gone listed c l k a =
+    subst (λ (s : OwnerState). Agrees s bounds spares gone listed c l) (sym k.now) (agrees_seen old k.past k.names old.joined bounds spares gone listed c l (k.sees.added.owner refl) k.sees.legal a)
 
-pub agrees_joined : (old : OwnerState) (pass : PassState) (new : OwnerState) (spares gone : List ℕ) (listed : List Image) (c l : ℕ) → IsJoined old pass new → Agrees old spares gone listed c l → Agrees new spares gone listed c l
-agrees_joined old pass new spares gone listed c l k a =
-    subst (λ (s : OwnerState). Agrees s spares gone listed c l) (sym k.now) (agrees_seen old k.past k.names (pass.number ∷ old.joined) spares gone listed c l (k.sees.added.owner refl) k.sees.legal a)
+pub agrees_joined : (old : OwnerState) (pass : PassState) (new : OwnerState) (bounds spares : List ℕ) (gone : List Removed) (listed : List Image) (c l : ℕ) → IsJoined old pass new → Agrees old bounds spares gone listed c l → Agrees new bounds spares gone listed c l
+agrees_joined old pass new bounds spares gone listed c l k a =
+    subst (λ (s : OwnerState). Agrees s bounds spares gone listed c l) (sym k.now) (agrees_seen old k.past k.names (pass.number ∷ old.joined) bounds spares gone listed c l (k.sees.added.owner refl) k.sees.legal a)
 
 -- a writer at rest stays so
 pub rest_told : (old : OwnerState) (note : NoteState) (new : OwnerState) → IsOwnerTold old note new → IsAtRest (writer_state old) → IsAtRest (writer_state new)
 rest_told old note new k r =
     let own = k.sees.added.owner refl in
-    subst (λ (s : OwnerState). IsAtRest (writer_state s)) (sym k.now) (record { known = k.sees.legal; paced = paced_same k.past old.history own r.paced; counted = owes_same k.past old.history own ∙ r.counted })
+    subst (λ (s : OwnerState). IsAtRest (writer_state s)) (sym k.now) (record { known = k.sees.legal; paced = paced_same k.past old.history own r.paced; first = takes_same old.history k.past own r.first; counted = owes_same k.past old.history own ∙ r.counted })
 
 pub rest_joined : (old : OwnerState) (pass : PassState) (new : OwnerState) → IsJoined old pass new → IsAtRest (writer_state old) → IsAtRest (writer_state new)
 rest_joined old pass new k r =
     let own = k.sees.added.owner refl in
-    subst (λ (s : OwnerState). IsAtRest (writer_state s)) (sym k.now) (record { known = k.sees.legal; paced = paced_same k.past old.history own r.paced; counted = owes_same k.past old.history own ∙ r.counted })
+    subst (λ (s : OwnerState). IsAtRest (writer_state s)) (sym k.now) (record { known = k.sees.legal; paced = paced_same k.past old.history own r.paced; first = takes_same old.history k.past own r.first; counted = owes_same k.past old.history own ∙ r.counted })
 
 pub writer_told : (old : OwnerState) (note : NoteState) (new : OwnerState) → IsOwnerTold old note new → IsWriterTold (writer_state old) note (writer_state new)
 writer_told old note new k = record { past = k.past; names = k.names; sees = k.sees; now = ap writer_state k.now; told = k.told; named = k.named }
@@ -80,6 +87,7 @@ making_told b new note task name load made k m =
     (record {
       known = k.sees.legal;
       paced = paced_same k.past h own m.paced;
+      first = takes_same h k.past own m.first;
       short = m.short;
       bytes = m.bytes;
       most = m.most;
@@ -95,7 +103,7 @@ walker_told old note new k = record { past = k.past; names = k.names; sees = k.s
 pub out_told : (old : PassState) (note : NoteState) (new : PassState) → IsPassTold old note new → IsOut (walker_state old) → IsOut (walker_state new)
 out_told old note new k o =
     subst (λ (s : PassState). IsOut (walker_state s)) (sym k.now)
-    (record { known = k.sees.legal; outside = inside_same old.number k.past old.history (own_of old.number old.history k.past k.sees.added) ∙ o.outside })
+    (record { known = k.sees.legal; outside = inside_same old.number k.past old.history (own_of old.number old.history k.past k.sees.added) ∙ o.outside; retired = announced_same old.number k.past old.history (own_of old.number old.history k.past k.sees.added) ∙ o.retired })
 
 pub holding_told : (old : PassState) (note : NoteState) (new : PassState) (met : List ℕ) (ended : Bool) (low : ℕ) → IsPassTold old note new → IsHolding old met ended low → IsHolding new met ended low
 holding_told old note new met ended low k h =

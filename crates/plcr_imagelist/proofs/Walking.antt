@@ -8,19 +8,18 @@ use Rattle.plcr_machine.specs.Lists.{Grows, load_number, loaded, changes, list_a
 use Rattle.plcr_machine.specs.Walks.{RisesAbove, follow, last_met, Meets, IsWholeWalk}
 use Rattle.plcr_machine.specs.Passes.{is_inside, counts}
 use Rattle.plcr_machine.specs.Histories.{IsLegal, IsHistory}
-use Rattle.plcr_machine.specs.Holds.{may_reach}
+use Rattle.plcr_machine.specs.Holds.{may_reach, before_enter}
 use Rattle.plcr_machine.specs.Links.{image_at}
 use Rattle.plcr_machine.proofs.Cases.{eqb_same, not_both}
-use Rattle.plcr_machine.proofs.Insiders.{readers_most}
 use Rattle.plcr_machine.proofs.Growing.{meets_until, meets-snoc, changes-grows, meets-grows}
 use Rattle.plcr_nodes.specs.Entries.{among}
 use Rattle.plcr_nodes.specs.Tokens.{PassState, SeesMore, IsEntered, IsLeft, IsFollowed}
 use Rattle.plcr_nodes.proofs.Seeing.{own_of, grows_again}
 use Rattle.plcr_nodes.proofs.Known.{inside_same, reach_bound}
 use Rattle.plcr_nodes.proofs.Staying.{reach_stays}
-use Rattle.plcr_nodes.specs.declared.gate.TheConstants.{COUNT_UNIT}
-use Rattle.plcr_imagelist.specs.Keeping.{last_of}
-use Rattle.plcr_imagelist.specs.Holds.{walker_state, HoldState, images_on, before_enter, start_of, HasEnded, EndedAt, IsHolding, IsHeld, IsNext, IsReleased, IsOut}
+use Rattle.plcr_imagelist.specs.inner.Keeping.{last_of}
+use Rattle.plcr_imagelist.specs.inner.Holding.{walker_state, images_on, IsHolding}
+use Rattle.plcr_imagelist.specs.Holds.{HoldState, start_of, HasEnded, EndedAt, IsHeld, IsNext, IsReleased, IsOut}
 use Rattle.plcr_imagelist.proofs.Meeting.{before_enter-same, follow_rises, rises-snoc, few_met, images_on-snoc, among-snoc, follows_last, images_stay, lawful_whole, ended_on}
 
 -- a pass that has seen more
@@ -59,11 +58,9 @@ holding_stays old past names given met ended low g more h =
     }
 
 -- a pass that went in has a hold that has met nothing
-pub holding_entered : (old : PassState) (found : ℕ) (new : PassState) (low : ℕ) → IsEntered old found new → low ≡ found / COUNT_UNIT → IsHolding new [] false low
-holding_entered old found new low e is =
-    let few = e.sees.legal.few_passes in
-    let most = readers_most old.passes e.past in
-    let gate = e.gate in
+pub holding_entered : (old : PassState) (low : ℕ) (new : PassState) → IsEntered old low new → IsHolding new [] false low
+holding_entered old low new k =
+    let e = k.entry in
     let start : before_enter old.number (Enter old.number ∷ e.past) ≡ e.past = rw (eqb_same old.number) refl in
     subst (λ (s : PassState). IsHolding s [] false low) (sym e.now)
     (record {
@@ -77,40 +74,8 @@ holding_entered old found new low e is =
         whole = λ z. not_both false z refl;
       };
       given = λ n t. not_both false t refl;
-      low_is = let l : low ≡ counts e.past = omega arith in l ∙ ap counts (sym start);
+      low_is = k.gate ∙ ap counts (sym start);
     })
-
-pub held_entered : (old : PassState) (found : ℕ) (new : PassState) → IsEntered old found new → IsHeld (walker_state old) (hold_of new [] false)
-held_entered old found new e = record { past = e.past; names = e.names; sees = e.sees; now = ap (λ (s : PassState). hold_of s [] false) e.now; legal = e.legal }
-
--- after a hold the pass is out
-pub out_left : (old : PassState) (found : ℕ) (new : PassState) → IsLeft old found new → IsOut (walker_state new)
-out_left old found new e = record { known = e.legal; outside = subst (λ (s : PassState). is_inside s.number s.history ≡ false) (sym e.now) (rw (eqb_same old.number) refl) }
-
-ended_out : (old : PassState) (found : ℕ) (new : PassState) (met : List Image) (b : ℕ) → IsLeft old found new → HasEnded old.history (start_of (walker_state old)) b met → HasEnded new.history (start_of (walker_state new)) b met
-ended_out old found new met b e k =
-    let h : List Entry = Leave old.number ∷ e.past in
-    let grows : Grows old.history h = grows_again old.history e.past h e.sees.added.grows (Leave old.number ∷ [], refl) in
-    let legal : IsLegal old.nodes old.passes h = subst (λ (s : PassState). IsLegal s.nodes s.passes s.history) e.now e.legal.legal in
-    subst (λ (s : PassState). HasEnded s.history (start_of (walker_state s)) b met) (sym e.now)
-    (ended_on old.nodes old.passes old.number old.history h met met b legal grows (before_enter-same old.number old.history e.past e.sees.added) refl k)
-
-pub released_left : (old : PassState) (found : ℕ) (new : PassState) (met : List ℕ) (ended : Bool) (low high : ℕ) → IsLeft old found new → IsHolding old met ended low → high ≡ found / COUNT_UNIT
-    → IsReleased (hold_of old met ended) (walker_state new) low high
-released_left old found new met ended low high e h is =
-    let few = e.sees.legal.few_passes in
-    let most = readers_most old.passes e.past in
-    let gate = e.gate in
-    record {
-      past = e.past;
-      names = e.names;
-      sees = e.sees;
-      now = ap walker_state e.now;
-      legal = e.legal;
-      low_is = h.low_is;
-      high_is = omega arith;
-      ends = λ b k. ended_out old found new (images_on met old.history) b e k;
-    }
 
 image_at-some : (n : ℕ) (h : List Entry) → n ≢ 0 → image_at n h ≡ Some (loaded n h)
 image_at-some zero h some = absurd (some refl)

@@ -1,38 +1,39 @@
 -- What each call of the writer and of a change says.
-use Rattle.std.specs.Prelude.{◌≡◌, ◌⊎◌, ℕ, suc, ◌<◌, ◌≤◌, true, List, ◌∷◌}
+use Rattle.std.specs.Prelude.{◌≡◌, ◌⊎◌, ℕ, zero, suc, ◌+◌, true, List, ◌∷◌, ◌==◌, if◌then◌else◌}
 use Rattle.plcr_machine.specs.declared.image.Image.{Image}
 use Rattle.plcr_machine.specs.declared.entry.Entry.{Entry}
 use Rattle.plcr_machine.specs.declared.entry.Entry.TheVariants.{Load, Unload, Count, Look}
 use Rattle.plcr_machine.specs.Lists.{live, loads, changes}
 use Rattle.plcr_machine.specs.Histories.{IsHistory}
-use Rattle.plcr_machine.specs.Nodes.{is_free}
-use Rattle.plcr_machine.specs.Passes.{readers}
 use Rattle.plcr_machine.specs.declared.limits.TheConstants.{MOST_CHANGES}
 use Rattle.plcr_nodes.specs.Names.{stored_elsewhere}
 use Rattle.plcr_nodes.specs.Seeing.{GoesOn}
-use Rattle.plcr_nodes.specs.Rule.{gate_of}
-use Rattle.plcr_imagelist.specs.Keeping.{NoneFree, without_first}
+use Rattle.plcr_imagelist.specs.Finding.{NoneFree, IsFreeIn, without_first}
 use Rattle.plcr_imagelist.specs.States.{WriterState, Doing, Loads, Unloads, ChangeState}
 
 -- the writer saw more of the history, none of it an entry of a writer or of a pass that it had met
 abbrev pub WriterSeesMore : WriterState → List Entry → List (List ℕ) → Type 0
 WriterSeesMore old past names = GoesOn old.nodes old.passes true old.joined old.history old.names past names
 
--- the gate was looked at
-pub record IsLookedAt (old : WriterState) (found : ℕ) (new : WriterState) : Type 0 where
+-- the stamp of a pass was looked at, and this is it
+pub record IsLookedAt (old : WriterState) (pass stamp : ℕ) (new : WriterState) : Type 0 where
   pub past : List Entry
   pub names : List (List ℕ)
   pub sees : WriterSeesMore old past names
-  pub now : new ≡ record old { history = Look (readers old.passes past) ∷ past; names = names }
+  pub now : new ≡ record old { history = Look pass stamp ∷ past; names = names }
   pub legal : IsHistory new.nodes new.passes new.history new.names
-  pub gate : found ≡ gate_of old.passes past
+
+-- each of the first passes was looked at once, in rising order, and so many of them had a stamp
+abbrev pub Looks : ℕ → WriterState → ℕ → WriterState → Type 0
+Looks zero old found new = (new ≡ old) × (found ≡ 0)
+Looks (suc pass) old found new = (mid : WriterState) × (less : ℕ) × (stamp : ℕ) × Looks pass old less mid × IsLookedAt mid pass stamp new × (found ≡ less + (if stamp == 0 then 0 else 1))
 
 -- the change was counted
 pub record IsCountedAt (old : WriterState) (new : WriterState) : Type 0 where
   pub past : List Entry
   pub names : List (List ℕ)
   pub sees : WriterSeesMore old past names
-  pub now : new ≡ record old { history = Count (readers old.passes past) ∷ past; names = names }
+  pub now : new ≡ record old { history = Count ∷ past; names = names }
   pub legal : IsHistory new.nodes new.passes new.history new.names
 
 -- an image with this name stands at the end of the list, on a node that was free: the change of a load. What was stored in the node is no longer among the stores in free nodes
@@ -40,7 +41,7 @@ pub record IsLoadedAt (old : WriterState) (header : ℕ) (name : List ℕ) (load
   pub past : List Entry
   pub names : List (List ℕ)
   pub sees : WriterSeesMore old past names
-  pub free : (0 < node) × (node ≤ old.nodes) × (is_free node past ≡ true)
+  pub free : IsFreeIn (record old { history = past; names = names }) node
   pub number : load ≡ suc (loads past)
   pub now : new ≡ record old { history = Load node load header ∷ past; names = name ∷ names; stores = stored_elsewhere node old.stores }
   pub legal : IsHistory new.nodes new.passes new.history new.names
@@ -59,10 +60,6 @@ abbrev pub IsChangedAt : WriterState → Doing → ℕ → ℕ → WriterState �
 IsChangedAt old (Loads header name) load node new = IsLoadedAt old header name load node new
 IsChangedAt old (Unloads image) load node new = IsUnloadedAt old image new
 
--- the number is that of a node that is free in what the writer has seen
-abbrev pub IsFreeIn : WriterState → ℕ → Type 0
-IsFreeIn s node = (0 < node) × (node ≤ s.nodes) × (is_free node s.history ≡ true)
-
 -- as many changes were made as a list takes
 abbrev pub IsWorn : WriterState → Type 0
 IsWorn s = changes s.history ≡ MOST_CHANGES
@@ -71,8 +68,12 @@ IsWorn s = changes s.history ≡ MOST_CHANGES
 abbrev pub begun_load : WriterState → ℕ → List ℕ → ℕ → ChangeState
 begun_load s header name node = record { writer = s; doing = Loads header name; load = suc (loads s.history); made = 0; node = node }
 
--- a load began, on a node that was free at once, or else, where none was, on one that is free after one look at the gate
-abbrev pub IsBegunLoad : WriterState → ℕ → List ℕ → ChangeState → Type 0
-IsBegunLoad old header name change =
-    (IsFreeIn old change.node × (change ≡ begun_load old header name change.node))
-    ⊎ (NoneFree old.nodes old.history × ((found : ℕ) × IsLookedAt old found change.writer) × IsFreeIn change.writer change.node × (change ≡ begun_load change.writer header name change.node))
+-- a node for a load was free at once, or else, where none was, after a look at each pass
+pub data FindsNode (old : WriterState) (node : ℕ) (ready : WriterState) : Type 0 where
+  AtOnce : IsFreeIn old node → ready ≡ old → FindsNode old node ready
+  AfterLooks : NoneFree old.nodes old.passes old.history → (found : ℕ) → Looks old.passes old found ready → IsFreeIn ready node → FindsNode old node ready
+
+-- a load began, on such a node
+pub record IsBegunLoad (old : WriterState) (header : ℕ) (name : List ℕ) (change : ChangeState) : Type 0 where
+  pub finds : FindsNode old change.node change.writer
+  pub begun : change ≡ begun_load change.writer header name change.node

@@ -1,9 +1,8 @@
 pub mod States
-pub mod Keeping
+pub mod Finding
 pub mod Changes
 pub mod Refusing
-pub mod Making
-pub mod Answers
+pub mod Steps
 pub mod Loading
 pub mod Holds
 pub mod Opening
@@ -11,3 +10,4 @@ pub mod Tellings
 pub mod Walk
 pub mod SameWalk
 pub mod Lending
+pub mod inner

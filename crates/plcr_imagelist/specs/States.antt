@@ -1,11 +1,13 @@
 -- What contracts see of the writer and of a change.
-use Rattle.std.specs.Prelude.{ℕ, suc, ◌+◌, List, length}
+use Rattle.std.specs.Prelude.{ℕ, suc, ◌+◌, List, length, Bool, true, false, IsFalse}
 use Rattle.atomic_table.specs.Seated.{TableId}
 use Rattle.plcr_machine.specs.declared.entry.Entry.{Entry}
 use Rattle.plcr_machine.specs.declared.image.Image.{Image}
+use Rattle.plcr_machine.specs.Passes.{owes_count, IsPaced}
+use Rattle.plcr_machine.specs.Histories.{IsHistory}
+use Rattle.plcr_machine.specs.Changes.{TakesFirst}
 use Rattle.plcr_nodes.specs.declared.view.Store.{Store}
 use Rattle.plcr_nodes.specs.Names.{words_of}
-use Rattle.plcr_nodes.specs.Tokens.{OwnerState}
 
 -- what the writer knows: its list with its sizes, the history that it has seen with the names of its loads, the numbers of the passes that it has met, and what it has stored in nodes that are still free, the last first
 pub record WriterState : Type 0 where
@@ -17,13 +19,21 @@ pub record WriterState : Type 0 where
   pub joined : List ℕ
   pub stores : List Store
 
-abbrev pub writer_state : OwnerState → WriterState
-writer_state o = record { table = o.table; nodes = o.nodes; passes = o.passes; history = o.history; names = o.names; joined = o.joined; stores = o.filled }
+-- no change is open: each one was counted, and each unload took the first image with its header
+pub record IsAtRest (s : WriterState) : Type 0 where
+  pub known : IsHistory s.nodes s.passes s.history s.names
+  pub paced : IsPaced s.history
+  pub first : TakesFirst s.history
+  pub counted : IsFalse (owes_count s.history)
 
 -- what a change does: it loads an image with a header and a name, or unloads an image of the list
 pub data Doing : Type 0 where
   Loads : (header : ℕ) (name : List ℕ) → Doing
   Unloads : (image : Image) → Doing
+
+abbrev pub is_load : Doing → Bool
+is_load (Loads header name) = true
+is_load (Unloads image) = false
 
 -- the step that makes the change: of a load after its words and the end link, of an unload the first
 abbrev pub change_step : Doing → ℕ

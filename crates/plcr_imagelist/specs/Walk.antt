@@ -5,7 +5,8 @@ use Rattle.plcr_machine.specs.Lists.{name_of}
 use Rattle.plcr_macho.specs.Images.{Listed}
 use Rattle.plcr_nodes.specs.Entries.{WentOn}
 use Rattle.plcr_nodes.specs.Seeing.{AddsOthers}
-use Rattle.plcr_imagelist.specs.Holds.{HoldState, before_enter, IsWalking, EndedAt}
+use Rattle.plcr_imagelist.specs.Holds.{HoldState, IsWalking, EndedAt}
+use Rattle.plcr_machine.specs.Holds.{before_enter}
 
 -- an image with the name of its load
 abbrev pub with_name : List (List ℕ) → Image → Listed

@@ -1,24 +1,25 @@
 //! The writer's books: the owner of the table, the nodes that are free, those that wait to become free, and the list.
 ghost use Rattle.std.specs.Prelude.{◌≡◌, ◌≢◌, ℕ, suc, ◌+◌, ◌<◌, ◌≤◌, ◌∷◌, true, false, length, take, slice_index_or, vec_len, vec_capacity, IfOk, IfSome, IfNone};
 ghost use Rattle.plcr_machine.specs.Lists.{live, loads, changes};
-ghost use Rattle.plcr_machine.specs.Passes.{counts, is_inside, owes_count};
+ghost use Rattle.plcr_machine.specs.Passes.{counts, is_announced, owes_count};
 ghost use Rattle.plcr_machine.specs.Nodes.{is_free};
 ghost use Rattle.plcr_machine.specs.Links.{last_place};
 ghost use Rattle.plcr_machine.specs.declared.limits.TheConstants.{MOST_CHANGES};
-ghost use Rattle.plcr_nodes.specs.Names.{IsFilled, IsEnded, header_in};
-ghost use Rattle.plcr_nodes.specs.Plays.{store};
-ghost use Rattle.plcr_nodes.specs.Tokens.{IsSized, IsLinked, opened_owner};
-ghost use Rattle.plcr_nodes.specs.Unlinking.{IsUnlinked};
-ghost use Rattle.plcr_nodes.specs.Counting.{IsCounted, IsLooked};
+ghost use Rattle.plcr_nodes.specs.Names.{IsFilled, IsEnded, header_in, store};
+ghost use Rattle.plcr_nodes.specs.Opening.{IsSized, opened_owner};
+ghost use Rattle.plcr_nodes.specs.Owning.{IsLinked, IsUnlinked, IsCounted};
 ghost use Rattle.plcr_nodes.specs.Telling.{note_of_owner, IsOwnerTold, IsJoined};
-ghost use Rattle.plcr_imagelist.specs.States.{writer_state};
-ghost use Rattle.plcr_imagelist.specs.Making.{IsAtRest};
-ghost use Rattle.plcr_imagelist.specs.Refusing.{RefusesFull, FindsRoom};
-ghost use Rattle.plcr_imagelist.specs.Keeping.{NoneFree, Settles, readers_in, last_of, times, once_where, is_node, first_with};
+ghost use Rattle.plcr_imagelist.specs.States.{IsAtRest};
+ghost use Rattle.plcr_imagelist.specs.Finding.{NoneFree, first_with};
+ghost use Rattle.plcr_imagelist.specs.Changes.{Looks};
+ghost use Rattle.plcr_imagelist.specs.Refusing.{RefusesFull};
+ghost use Rattle.plcr_imagelist.specs.Loading.{HasMade};
+ghost use Rattle.plcr_imagelist.specs.inner.Keeping.{writer_state, last_of, times, once_where, is_node};
+ghost use Rattle.plcr_imagelist.specs.inner.Making.{FindsRoom};
 
-use crate::gate::readers_in;
+use crate::bounds::{Removed, least_of, let_go, look_at_all};
 use crate::refusals::LoadRefused;
-use plcr_machine::Image;
+use plcr_machine::{COUNT_UNIT, Image};
 use plcr_nodes::{NodeNote, NodePass, Nodes, Owner};
 use std::alloc::{AllocError, Global};
 use std::marker::Model;
@@ -29,7 +30,9 @@ pub(crate) struct Books {
     /// The free nodes. The last is taken next.
     free: Vec<u32>,
     /// Nodes that were taken out of the list and aren't free yet.
-    removed: Vec<u32>,
+    removed: Vec<Removed>,
+    /// For each pass, the bound of what it has let go of.
+    bounds: Vec<u64>,
     /// The list.
     images: Vec<Image>,
     changes: u32,
@@ -38,28 +41,35 @@ pub(crate) struct Books {
 
 impl Model for Books {
     ghost use Rattle.std.specs.Prelude.{◌≤◌, vec_capacity};
-    ghost use Rattle.plcr_imagelist.specs.Keeping.{BooksState, Agrees, last_of};
+    ghost use Rattle.plcr_imagelist.specs.inner.Keeping.{BooksState, Agrees, last_of};
 
     ghost Value = { BooksState };
 
     ghost view = { λ b. record { owner = b.owner; spare = last_of b.free.items } };
 
-    ghost invariant = { λ b. Agrees b.owner b.free.items b.removed.items b.images.items b.changes b.loads × ((b.owner.nodes ≤ vec_capacity b.free) × (b.owner.nodes ≤ vec_capacity b.removed) × (b.owner.nodes ≤ vec_capacity b.images)) };
+    ghost invariant = { λ b. Agrees b.owner b.bounds.items b.free.items b.removed.items b.images.items b.changes b.loads × ((b.owner.nodes ≤ vec_capacity b.free) × (b.owner.nodes ≤ vec_capacity b.removed) × (b.owner.nodes ≤ vec_capacity b.images)) };
 }
 
 impl Books {
     /// The books of a table that was just opened. All room is taken here.
-    pub(crate) fn open(alloc: Global, owner: Owner, nodes: u32) -> Result<Books, AllocError>
-        requires { IsSized nodes owner.passes × (owner ≡ opened_owner owner.table nodes owner.passes) }
+    pub(crate) fn open(
+        alloc: Global,
+        owner: Owner,
+        nodes: u32,
+        passes: u32,
+    ) -> Result<Books, AllocError>
+        requires { IsSized nodes passes × (owner ≡ opened_owner owner.table nodes passes) }
         ensures { IfOk result (λ b. b.owner ≡ owner) }
     {
         let free = all_nodes(alloc, nodes)?;
         let removed = Vec::with_capacity(alloc, nodes as usize)?;
+        let bounds = Vec::from_elem(alloc, 0, passes as usize)?;
         let images = Vec::with_capacity(alloc, nodes as usize)?;
         Ok(Books {
             owner,
             free,
             removed,
+            bounds,
             images,
             changes: 0,
             loads: 0,
@@ -69,8 +79,8 @@ impl Books {
     /// The node that the next load takes, 0 where none is free.
     pub(crate) fn spare(&self) -> u32
         ensures node { result ≡ self.now.spare }
-        ensures none { result ≡ 0 → NoneFree self.now.owner.nodes self.now.owner.history }
-        ensures free { result ≢ 0 → (result ≤ self.now.owner.nodes) × (is_free result self.now.owner.history ≡ true) }
+        ensures none { result ≡ 0 → NoneFree self.now.owner.nodes self.now.owner.passes self.now.owner.history }
+        ensures free { result ≢ 0 → (result ≤ self.now.owner.nodes) × (is_free self.now.owner.passes result self.now.owner.history ≡ true) }
     {
         last_of(&self.free)
     }
@@ -141,49 +151,64 @@ impl Books {
         let node = image.node;
         self.owner.unlink(nodes, before, node);
         let _ = self.images.remove(at);
-        self.removed.push_reserved(node);
+        let before = self.changes;
+        self.removed.push_reserved(Removed { node, before });
         self.changes += 1;
     }
 
-    /// Counts the change. Where no pass is inside, the nodes that wait are free.
+    /// Counts the change.
     pub(crate) fn count(&mut self, nodes: &Nodes)
         requires table { self.old.owner.table ≡ nodes.now }
         requires owes { owes_count self.old.owner.history ≡ true }
         requires fewer { counts self.old.owner.history < MOST_CHANGES }
-        ensures { (found : ℕ) × IsCounted self.old.owner found self.new.owner }
+        ensures counted { (found : ℕ) × IsCounted self.old.owner found self.new.owner }
     {
-        let word = self.owner.count(nodes);
-        settle(&mut self.free, &mut self.removed, word);
+        self.owner.count(nodes);
     }
 
-    /// Looks at the gate. Where no pass is inside, the nodes that wait are free.
-    pub(crate) fn look(&mut self, nodes: &Nodes) -> u64
+    /// Looks at each pass, makes the nodes free that each of them has let go of by now, and says how many passes were
+    /// announced.
+    pub(crate) fn look(&mut self, nodes: &Nodes) -> u32
         requires table { self.old.owner.table ≡ nodes.now }
-        ensures entry { IsLooked self.old.owner result self.new.owner }
-        ensures free { readers_in result ≡ 0 → self.new.spare ≡ 0 → length (live self.new.owner.history) ≡ self.new.owner.nodes }
+        requires rest { IsAtRest (writer_state self.old.owner) }
+        ensures looks { Looks self.old.owner.passes (writer_state self.old.owner) result (writer_state self.new.owner) }
+        ensures few { result ≤ self.old.owner.passes }
+        ensures rest { IsAtRest (writer_state self.new.owner) }
+        ensures same { self.new.owner ≡ record self.old.owner { history = self.new.owner.history; names = self.new.owner.names } }
     {
-        let word = self.owner.look(nodes);
-        settle(&mut self.free, &mut self.removed, word);
-        word
+        let passes = self.bounds.len() as u32;
+        let announced = look_at_all(
+            &mut self.owner,
+            &mut self.bounds,
+            nodes,
+            passes,
+            self.changes,
+        );
+        let least = least_of(&self.bounds);
+        let_go(&mut self.free, &mut self.removed, least);
+        announced
     }
 
-    /// Looks at the gate where no node is free, and says no where none is free after that either.
+    /// Looks at each pass where no node is free, and says no where none is free after that either.
     pub(crate) fn find_room(&mut self, nodes: &Nodes) -> Option<LoadRefused>
         requires table { self.old.owner.table ≡ nodes.now }
+        requires rest { IsAtRest (writer_state self.old.owner) }
         ensures none { IfNone result (FindsRoom self.old self.new) }
         ensures some { IfSome result (RefusesFull (writer_state self.old.owner) (writer_state self.new.owner)) }
-        ensures rest { IsAtRest (writer_state self.old.owner) → IsAtRest (writer_state self.new.owner) }
-        ensures same { changes self.new.owner.history ≡ changes self.old.owner.history }
+        ensures rest { IsAtRest (writer_state self.new.owner) }
+        ensures made { HasMade (writer_state self.old.owner) 0 (writer_state self.new.owner) }
+        ensures list { self.new.owner.table ≡ self.old.owner.table }
     {
         if self.spare() != 0 {
             return None;
         }
-        let seen = self.look(nodes);
+        let announced = self.look(nodes);
         if self.spare() != 0 {
             return None;
         }
         let live = self.live();
         let held = self.held();
+        let seen = self.changes as u64 * COUNT_UNIT + announced as u64;
         Some(LoadRefused::Full { live, held, seen })
     }
 
@@ -205,11 +230,11 @@ impl Books {
         self.owner.told(nodes, note);
     }
 
-    /// Joins a pass that is out.
+    /// Joins a pass that is neither in nor announced.
     pub(crate) fn join(&mut self, nodes: &Nodes, pass: NodePass)
         requires table { (self.old.owner.table ≡ nodes.now) × (pass.table ≡ nodes.now) }
-        requires out { is_inside pass.number pass.history ≡ false }
-        ensures { IsJoined self.old.owner pass self.new.owner }
+        requires retired { is_announced pass.number pass.history ≡ false }
+        ensures joined { IsJoined self.old.owner pass self.new.owner }
     {
         self.owner.join(nodes, pass);
     }
@@ -262,22 +287,6 @@ pub(crate) fn last_of(numbers: &[u32]) -> u32
         Some(number) => *number,
         None => 0,
     }
-}
-
-/// Makes the nodes that wait free, where the gate's word tells that no pass is inside.
-fn settle(free: &mut Vec<u32>, removed: &mut Vec<u32>, word: u64)
-    requires { vec_len free.old + vec_len removed.old ≤ vec_capacity free.old }
-    ensures settles { Settles (readers_in word) free.old.items removed.old.items free.new.items removed.new.items }
-    ensures room { (vec_capacity free.old ≤ vec_capacity free.new) × (vec_capacity removed.new ≡ vec_capacity removed.old) }
-{
-    if readers_in(word) != 0 {
-        return;
-    }
-    match free.extend_from_slice(removed.as_slice()) {
-        Ok(()) => {}
-        Err(_) => unreachable!(),
-    }
-    removed.clear();
 }
 
 /// The first image with a header, with its place.

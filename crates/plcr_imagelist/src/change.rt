@@ -2,12 +2,11 @@
 ghost use Rattle.std.specs.Prelude.{◌≡◌, ◌≢◌, ℕ, suc, ◌+◌, ◌<◌, ◌≤◌, ◌∷◌, false, true, length, slice_index_or};
 ghost use Rattle.plcr_base.specs.Limits.{IsImageName};
 ghost use Rattle.plcr_machine.specs.Passes.{IsPaced};
-ghost use Rattle.plcr_nodes.specs.Names.{words_of};
-ghost use Rattle.plcr_nodes.specs.Plays.{store};
-ghost use Rattle.plcr_imagelist.specs.States.{Loads, change_step, steps_of};
+ghost use Rattle.plcr_nodes.specs.Names.{words_of, store};
+ghost use Rattle.plcr_imagelist.specs.States.{IsAtRest, Loads, is_load, change_step, steps_of};
 ghost use Rattle.plcr_imagelist.specs.Changes.{IsCountedAt};
-ghost use Rattle.plcr_imagelist.specs.Making.{word_stored, value_stored, doing_of, IsMaking, MakesStep, IsAtRest};
-ghost use Rattle.plcr_imagelist.specs.Answers.{IsStepped, Advances, IsFinished, table_of, history_of};
+ghost use Rattle.plcr_imagelist.specs.Steps.{word_stored, value_stored, IsStepped, Advances, table_of, history_of};
+ghost use Rattle.plcr_imagelist.specs.inner.Making.{doing_of, IsMaking, MakesStep, IsFinished};
 
 use crate::books::Books;
 use crate::list::ImageList;
@@ -39,11 +38,12 @@ pub struct Change {
 impl Model for Change {
     ghost use Rattle.std.specs.Prelude.{◌≤◌, vec_capacity};
     ghost use Rattle.plcr_base.specs.declared.limits.TheConstants.{IMAGE_NAME_BYTES};
-    ghost use Rattle.plcr_imagelist.specs.States.{ChangeState, writer_state};
+    ghost use Rattle.plcr_imagelist.specs.States.{ChangeState};
+    ghost use Rattle.plcr_imagelist.specs.inner.Keeping.{writer_state};
 
     ghost Value = { ChangeState };
 
-    ghost use Rattle.plcr_imagelist.specs.Making.{IsMaking, doing_of};
+    ghost use Rattle.plcr_imagelist.specs.inner.Making.{IsMaking, doing_of};
 
     ghost view = { λ c. record { writer = writer_state c.books.owner; doing = doing_of c.task c.name.items; load = c.load; made = c.made; node = c.books.spare } };
 
@@ -149,6 +149,13 @@ impl Change {
         ensures { result ≡ self.now.load }
     {
         self.load
+    }
+
+    /// Whether it loads its image, and doesn't unload it.
+    pub fn is_load(&self) -> bool
+        ensures { result ≡ is_load self.now.doing }
+    {
+        matches!(self.task, Task::Load { .. })
     }
 
     /// Makes one step. The last gives the writer back.

@@ -1,9 +1,9 @@
 //! Passes, and the holds in which they walk the list.
-ghost use Rattle.std.specs.Prelude.{◌≡◌, All, map, IfOk};
-ghost use Rattle.plcr_imagelist.specs.Holds.{walker_state, IsReady, IsHeld, IsNext, IsReleased, IsWalking};
+ghost use Rattle.std.specs.Prelude.{◌≡◌, All, map, length, IfOk};
+ghost use Rattle.plcr_imagelist.specs.inner.Holding.{walker_state, IsReady};
+ghost use Rattle.plcr_imagelist.specs.Holds.{IsHeld, IsNext, IsReleased, IsWalking};
 
 use crate::books::last_of;
-use crate::gate::counts_in;
 use crate::list::ImageList;
 use plcr_nodes::NodePass;
 use std::alloc::{AllocError, Global};
@@ -19,7 +19,8 @@ pub struct Pass {
 
 impl Model for Pass {
     ghost use Rattle.std.specs.Prelude.{◌≤◌, vec_capacity};
-    ghost use Rattle.plcr_imagelist.specs.Holds.{WalkerState, walker_state, IsOut};
+    ghost use Rattle.plcr_imagelist.specs.Holds.{WalkerState, IsOut};
+    ghost use Rattle.plcr_imagelist.specs.inner.Holding.{walker_state};
 
     ghost Value = { WalkerState };
 
@@ -41,7 +42,8 @@ pub struct Hold {
 
 impl Model for Hold {
     ghost use Rattle.std.specs.Prelude.{◌≤◌, vec_capacity};
-    ghost use Rattle.plcr_imagelist.specs.Holds.{HoldState, walker_state, images_on, IsHolding};
+    ghost use Rattle.plcr_imagelist.specs.Holds.{HoldState};
+    ghost use Rattle.plcr_imagelist.specs.inner.Holding.{walker_state, images_on, IsHolding};
 
     ghost Value = { HoldState };
 
@@ -85,7 +87,7 @@ impl Pass {
         Ok(opened)
     }
 
-    /// Goes in, and begins a walk.
+    /// Announces itself, goes in, and begins a walk.
     pub fn enter(self, list: &ImageList) -> Hold
         requires { self.table ≡ list.now }
         ensures entered { IsHeld self result }
@@ -94,12 +96,14 @@ impl Pass {
     {
         let Pass { mut pass, mut met } = self;
         met.clear();
-        let word = pass.enter(&list.nodes);
+        let seen = pass.glance(&list.nodes);
+        pass.announce(&list.nodes, seen);
+        let low = pass.enter(&list.nodes);
         Hold {
             pass,
             met,
             ended: false,
-            low: counts_in(word),
+            low,
         }
     }
 }
@@ -126,7 +130,21 @@ impl Hold {
         true
     }
 
-    /// Comes out, and gives the window of the hold.
+    /// How many images the walk has met.
+    pub fn met(&self) -> u32
+        ensures { result ≡ length self.now.met }
+    {
+        self.met.len() as u32
+    }
+
+    /// Whether the walk has ended.
+    pub fn has_ended(&self) -> bool
+        ensures { result ≡ self.now.ended }
+    {
+        self.ended
+    }
+
+    /// Comes out, takes the announcement back, and gives the window of the hold.
     pub fn leave(self, list: &ImageList) -> (Pass, Window)
         requires { self.walker.table ≡ list.now }
         ensures released { IsReleased self result.0 result.1.low result.1.high }
@@ -138,8 +156,8 @@ impl Hold {
             ended: _,
             low,
         } = self;
-        let word = pass.leave(&list.nodes);
-        let high = counts_in(word);
+        let high = pass.leave(&list.nodes);
+        pass.retire(&list.nodes);
         (Pass { pass, met }, Window { low, high })
     }
 }

@@ -3,10 +3,12 @@
 #![tactic(auto)]
 
 mod books;
+mod bounds;
 mod change;
-mod gate;
 mod hold;
 mod list;
+#[cfg(test)]
+mod overlap_tests;
 mod refusals;
 #[cfg(test)]
 mod stress_tests;

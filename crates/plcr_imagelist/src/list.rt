@@ -1,6 +1,6 @@
 //! The list that all tokens share.
 ghost use Rattle.std.specs.Prelude.{◌≡◌, IfOk, IfErr, IsErrOf};
-ghost use Rattle.plcr_nodes.specs.Tokens.{IsSized, IsOpened};
+ghost use Rattle.plcr_nodes.specs.Opening.{IsSized, IsOpened};
 ghost use Rattle.plcr_imagelist.specs.Opening.{IsOpenedList};
 
 use crate::hold::Pass;
@@ -80,7 +80,7 @@ impl ImageList {
         ensures opened { IfOk result (λ r. IsOpenedList nodes passes r.0 r.1 r.2.items) }
         ensures memory { IfErr result (λ e. e ≡ OpenError.Memory) }
     {
-        let writer = Writer::open(alloc, owner, nodes)?;
+        let writer = Writer::open(alloc, owner, nodes, passes)?;
         let all = Pass::open_all(alloc, all, nodes)?;
         Ok((ImageList { nodes: table }, writer, all))
     }

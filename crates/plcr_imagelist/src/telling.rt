@@ -1,7 +1,7 @@
 //! What one token of a list has seen is told to another: by a note, or as the writer meets a pass for good.
 ghost use Rattle.std.specs.Prelude.{◌≡◌};
 ghost use Rattle.plcr_machine.specs.Passes.{IsPaced};
-ghost use Rattle.plcr_imagelist.specs.Making.{IsAtRest};
+ghost use Rattle.plcr_imagelist.specs.States.{IsAtRest};
 ghost use Rattle.plcr_imagelist.specs.Holds.{IsWalking};
 ghost use Rattle.plcr_imagelist.specs.Tellings.{note_of_writer, note_of_walker, IsWriterTold, IsWalkerTold, IsChangeTold, IsHoldTold, IsMet};
 

@@ -15,7 +15,7 @@ pub(crate) const A: u64 = 0x1_0000_0000;
 
 pub(crate) const B: u64 = 0x1_0000_4000;
 
-const C: u64 = 0x1_0000_8000;
+pub(crate) const C: u64 = 0x1_0000_8000;
 
 const D: u64 = 0x1_0000_c000;
 
@@ -41,7 +41,7 @@ pub(crate) fn load(
 }
 
 // Refuses to load an image.
-fn refuse(
+pub(crate) fn refuse(
     rt: &impl Abort,
     list: &ImageList,
     writer: Writer,

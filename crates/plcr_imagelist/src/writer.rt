@@ -5,13 +5,13 @@ ghost use Rattle.plcr_base.specs.Limits.{IsImageName};
 ghost use Rattle.plcr_machine.specs.Lists.{live, changes};
 ghost use Rattle.plcr_machine.specs.Passes.{IsPaced};
 ghost use Rattle.plcr_machine.specs.declared.limits.TheConstants.{MOST_CHANGES};
-ghost use Rattle.plcr_nodes.specs.Tokens.{IsSized, opened_owner};
-ghost use Rattle.plcr_imagelist.specs.Keeping.{first_with, without_first};
-ghost use Rattle.plcr_imagelist.specs.States.{writer_state};
-ghost use Rattle.plcr_imagelist.specs.Making.{IsAtRest};
+ghost use Rattle.plcr_nodes.specs.Opening.{IsSized, opened_owner};
+ghost use Rattle.plcr_imagelist.specs.Finding.{first_with, without_first};
+ghost use Rattle.plcr_imagelist.specs.inner.Keeping.{writer_state};
+ghost use Rattle.plcr_imagelist.specs.States.{IsAtRest};
 ghost use Rattle.plcr_imagelist.specs.Changes.{IsWorn, begun_load};
-ghost use Rattle.plcr_imagelist.specs.Answers.{BeginsLoad, BeginsUnload, begun_unload, IsOpen};
-ghost use Rattle.plcr_imagelist.specs.Loading.{LoadsOrRefuses, UnloadsOrRefuses};
+ghost use Rattle.plcr_imagelist.specs.Steps.{BeginsLoad, BeginsUnload, begun_unload, IsOpen};
+ghost use Rattle.plcr_imagelist.specs.Loading.{made_by, writer_left, HasMade, LoadsOrRefuses, UnloadsOrRefuses};
 
 use crate::books::Books;
 use crate::change::{Change, Task};
@@ -34,11 +34,10 @@ pub struct Writer {
 impl Model for Writer {
     ghost use Rattle.std.specs.Prelude.{◌≤◌, vec_capacity};
     ghost use Rattle.plcr_base.specs.declared.limits.TheConstants.{IMAGE_NAME_BYTES};
-    ghost use Rattle.plcr_imagelist.specs.States.{WriterState, writer_state};
+    ghost use Rattle.plcr_imagelist.specs.States.{WriterState, IsAtRest};
+    ghost use Rattle.plcr_imagelist.specs.inner.Keeping.{writer_state};
 
     ghost Value = { WriterState };
-
-    ghost use Rattle.plcr_imagelist.specs.Making.{IsAtRest};
 
     ghost view = { λ w. writer_state w.books.owner };
 
@@ -92,18 +91,23 @@ fn start_unload(books: Books, kept: Vec<u8>, at: usize, image: Image) -> Change
 
 impl Writer {
     /// The writer of a table that was just opened. All room is taken here.
-    pub(crate) fn open(alloc: Global, owner: Owner, nodes: u32) -> Result<Writer, AllocError>
-        requires { IsSized nodes owner.passes × (owner ≡ opened_owner owner.table nodes owner.passes) }
+    pub(crate) fn open(
+        alloc: Global,
+        owner: Owner,
+        nodes: u32,
+        passes: u32,
+    ) -> Result<Writer, AllocError>
+        requires { IsSized nodes passes × (owner ≡ opened_owner owner.table nodes passes) }
         ensures { IfOk result (λ w. w ≡ writer_state owner) }
     {
-        let books = Books::open(alloc, owner, nodes)?;
+        let books = Books::open(alloc, owner, nodes, passes)?;
         let name = Vec::with_capacity(alloc, IMAGE_NAME_BYTES)?;
         Ok(Writer { books, name })
     }
 
-    /// Begins a load on a free node. No step is made yet and nothing stored, but where no node is free it looks at the
-    /// gate once. `Worn` comes exactly where 4,294,967,295 changes were made, then `NameTooLong` exactly above 1,024
-    /// bytes, and `Full` exactly where no node is free after that look.
+    /// Begins a load on a free node. No step is made yet and nothing stored, but where no node is free it looks once at
+    /// each pass, in the order of their numbers. `Worn` comes exactly where 4,294,967,295 changes were made, then
+    /// `NameTooLong` exactly above 1,024 bytes, and `Full` exactly where no node is free after these looks.
     pub fn begin_load(
         self,
         list: &ImageList,
@@ -117,6 +121,7 @@ impl Writer {
         ensures open { IfOk result (IsOpen self.table) }
         ensures back { IfErr result (λ r. (r.0.table ≡ self.table) × IsAtRest r.0) }
         ensures paced { IfOk result (λ change. IsPaced change.writer.history) }
+        ensures made { HasMade self 0 (writer_left result) }
     {
         let Writer {
             mut books,
@@ -151,6 +156,7 @@ impl Writer {
         ensures open { IfOk result (IsOpen self.table) }
         ensures back { IfErr result (λ r. (r.0.table ≡ self.table) × IsAtRest r.0) }
         ensures paced { IfOk result (λ change. IsPaced change.writer.history) }
+        ensures made { HasMade self 0 (writer_left result) }
     {
         let _ = list;
         let Writer { books, name: kept } = self;
@@ -180,6 +186,7 @@ impl Writer {
         ensures list { result.0.table ≡ self.table }
         ensures rest { IsAtRest result.0 }
         ensures loads { ¬ IsWorn self → IsImageName name.now → LoadsOrRefuses self header name.now result.0 result.1 }
+        ensures made { HasMade self (made_by result.1) result.0 }
     {
         match self.begin_load(list, header, name) {
             Ok(change) => {
@@ -197,6 +204,7 @@ impl Writer {
         ensures list { result.0.table ≡ self.table }
         ensures rest { IsAtRest result.0 }
         ensures unloads { ¬ IsWorn self → UnloadsOrRefuses self (first_with header (live self.history)) result.0 result.1 }
+        ensures made { HasMade self (made_by result.1) result.0 }
         ensures first { ¬ IsWorn self → IfOk result.1 (λ _. live result.0.history ≡ without_first header (live self.history)) }
     {
         match self.begin_unload(list, header) {

@@ -1,5 +1,5 @@
 use Rattle.std.proofs.Common.{ap, ◌∙◌, arith}
-use Rattle.plcr_imagelist.specs.Keeping.{times}
+use Rattle.plcr_imagelist.specs.inner.Keeping.{times}
 use Rattle.plcr_imagelist.proofs.Counted.{times_more}
 use Rattle.plcr_imagelist.proofs.books.all_nodes.Goals as goal
 

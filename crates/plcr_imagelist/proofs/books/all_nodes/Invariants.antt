@@ -1,5 +1,5 @@
 use Rattle.std.proofs.Common.{◌≡◌, ◌≤◌, ℕ}
-use Rattle.plcr_imagelist.specs.Keeping.{times, is_node, once_where}
+use Rattle.plcr_imagelist.specs.inner.Keeping.{times, is_node, once_where}
 use Rattle.plcr_imagelist.proofs.books.all_nodes.Given as goal
 
 abbrev pub invariant-loop-node : goal.invariant-loop-node

@@ -1,5 +1,5 @@
 use Rattle.std.proofs.Common.{◌≡◌, drop}
-use Rattle.plcr_imagelist.specs.Keeping.{first_with}
+use Rattle.plcr_imagelist.specs.Finding.{first_with}
 use Rattle.plcr_imagelist.proofs.books.find_header.Given as goal
 
 abbrev pub invariant-loop-at : goal.invariant-loop-at

@@ -1,6 +1,6 @@
 use Rattle.std.proofs.Common.{◌≡◌, ◌∙◌, ◌++◌, ◌+◌, sym, ap, subst, arith, List, ℕ}
 use Rattle.plcr_imagelist.specs.declared.change.Task.TheVariants.{Load}
-use Rattle.plcr_imagelist.specs.Making.{IsMaking}
+use Rattle.plcr_imagelist.specs.inner.Making.{IsMaking}
 use Rattle.plcr_imagelist.proofs.Placed.{loads_most}
 use Rattle.plcr_imagelist.proofs.Stepping.{making_begun_load}
 use Rattle.plcr_imagelist.proofs.writer.start_load.Goals as goal

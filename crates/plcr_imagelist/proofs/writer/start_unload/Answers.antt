@@ -1,6 +1,6 @@
 use Rattle.std.proofs.Common.{sym, subst, arith, List, ℕ}
 use Rattle.plcr_imagelist.specs.declared.change.Task.TheVariants.{Unload}
-use Rattle.plcr_imagelist.specs.Making.{IsMaking}
+use Rattle.plcr_imagelist.specs.inner.Making.{IsMaking}
 use Rattle.plcr_imagelist.proofs.Stepping.{making_begun_unload}
 use Rattle.plcr_imagelist.proofs.writer.start_unload.Goals as goal
 

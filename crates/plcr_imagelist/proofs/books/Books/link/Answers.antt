@@ -4,7 +4,7 @@ use Rattle.plcr_machine.specs.Passes.{owes_count}
 use Rattle.plcr_machine.specs.declared.limits.TheConstants.{MOST_CHANGES}
 use Rattle.plcr_nodes.specs.Names.{header_in}
 use Rattle.plcr_nodes.specs.Tokens.{OwnerState}
-use Rattle.plcr_imagelist.specs.Keeping.{BooksState, last_of}
+use Rattle.plcr_imagelist.specs.inner.Keeping.{BooksState, last_of}
 use Rattle.plcr_imagelist.proofs.Counted.{popped}
 use Rattle.plcr_imagelist.proofs.Placed.{loads_most}
 use Rattle.plcr_imagelist.proofs.Kept.{books_linked}
@@ -33,7 +33,7 @@ invariant_of-self c =
     let header : c.args.header ≡ header_in node b.owner.filled = same ∙ ap (λ n. header_in n b.owner.filled) last in
     let nodes = ap (λ (s : OwnerState). s.nodes) c.link.ensures.entry.now in
     let room = c.self.invariant.1 in let popped_room = c.pop.ensures.capacity in let pushed_room = c.push_reserved.ensures.capacity in (
-      books_linked b.owner node c.link.new.self b.free.items c.pop.new.self.items b.removed.items b.images.items c.push_reserved.new.self.items b.changes b.loads c.args.header
+      books_linked b.owner node c.link.new.self b.bounds.items b.free.items c.pop.new.self.items b.removed.items b.images.items c.push_reserved.new.self.items b.changes b.loads c.args.header
           c.link.ensures.entry owes parts header c.push_reserved.ensures.items c.self.invariant.0,
       (omega arith, omega arith, omega arith),
     )

@@ -1,7 +1,7 @@
 use Rattle.std.proofs.Common.{◌≡◌, ◌-◌, get_or, List, ap, ◌∙◌, subst}
 use Rattle.plcr_machine.specs.declared.image.Image.{Image}
 use Rattle.plcr_machine.specs.Lists.{live}
-use Rattle.plcr_imagelist.specs.Keeping.{BooksState}
+use Rattle.plcr_imagelist.specs.inner.Keeping.{BooksState}
 use Rattle.plcr_imagelist.proofs.Placed.{place_at}
 use Rattle.plcr_imagelist.proofs.books.Books.place_before.Goals as goal
 

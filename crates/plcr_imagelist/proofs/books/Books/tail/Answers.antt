@@ -1,7 +1,7 @@
 use Rattle.std.proofs.Common.{◌≡◌, length, take_all, ap, ◌∙◌, arith}
 use Rattle.plcr_machine.specs.Lists.{live}
 use Rattle.plcr_machine.specs.Links.{last_place}
-use Rattle.plcr_imagelist.specs.Keeping.{BooksState}
+use Rattle.plcr_imagelist.specs.inner.Keeping.{BooksState}
 use Rattle.plcr_imagelist.proofs.books.Books.tail.Goals as goal
 
 pub place_before-requires : goal.place_before-requires

@@ -8,4 +8,4 @@ invariant_of-self c =
     let b = c.self.inside in
     let nodes = ap (λ (s : OwnerState). s.nodes) c.told.ensures.told.now in
     let room = c.self.invariant.1 in
-    (agrees_told b.owner c.args.note c.told.new.self b.free.items b.removed.items b.images.items b.changes b.loads c.told.ensures.told c.self.invariant.0, (omega arith, omega arith, omega arith))
+    (agrees_told b.owner c.args.note c.told.new.self b.bounds.items b.free.items b.removed.items b.images.items b.changes b.loads c.told.ensures.told c.self.invariant.0, (omega arith, omega arith, omega arith))

@@ -3,8 +3,8 @@ use Rattle.plcr_machine.specs.Lists.{live}
 use Rattle.plcr_machine.specs.Histories.{IsLegal}
 use Rattle.plcr_machine.specs.Passes.{owes_count}
 use Rattle.plcr_nodes.specs.Tokens.{OwnerState}
-use Rattle.plcr_nodes.specs.Unlinking.{Follows}
-use Rattle.plcr_imagelist.specs.Keeping.{BooksState}
+use Rattle.plcr_nodes.specs.Owning.{Follows}
+use Rattle.plcr_imagelist.specs.inner.Keeping.{BooksState}
 use Rattle.plcr_imagelist.proofs.Placed.{follows_before}
 use Rattle.plcr_imagelist.proofs.Kept.{books_unlinked}
 use Rattle.plcr_imagelist.proofs.books.Books.unlink.Goals as goal
@@ -26,7 +26,7 @@ invariant_of-self c =
     let nodes = ap (λ (s : OwnerState). s.nodes) c.unlink.ensures.entry.now in
     let room = c.self.invariant.1 in let cut_room = c.remove.ensures.capacity in let pushed_room = c.push_reserved.ensures.capacity in
     let shorter = c.remove.ensures.len in let whole = b.images.ok.0 in let whole' = c.remove.new.self.ok.0 in (
-      books_unlinked b.owner c.args.image c.unlink.new.self b.free.items b.removed.items c.push_reserved.new.self.items b.images.items c.remove.new.self.items b.changes b.loads c.args.at
+      books_unlinked b.owner c.args.image c.unlink.new.self b.bounds.items b.free.items b.removed.items c.push_reserved.new.self.items b.images.items c.remove.new.self.items b.changes b.loads c.args.at
           c.unlink.ensures.entry owes below is c.remove.ensures.items (omega arith) c.push_reserved.ensures.items c.self.invariant.0,
       (omega arith, omega arith, omega arith),
     )

@@ -1,6 +1,6 @@
 use Rattle.std.proofs.Common.{◌-◌}
 use Rattle.plcr_imagelist.specs.States.{steps_of}
-use Rattle.plcr_imagelist.specs.Answers.{HasCome}
+use Rattle.plcr_imagelist.specs.inner.Making.{HasCome}
 use Rattle.plcr_imagelist.proofs.change.Change.finish.Given as goal
 
 abbrev pub invariant-loop-next : goal.invariant-loop-next

@@ -1,8 +1,8 @@
 use Rattle.std.proofs.Common.{sym, ap, ◌∙◌, subst}
 use Rattle.plcr_nodes.specs.Tokens.{NoteState}
-use Rattle.plcr_imagelist.specs.Keeping.{BooksState}
-use Rattle.plcr_imagelist.specs.States.{writer_state, ChangeState}
-use Rattle.plcr_imagelist.specs.Making.{IsMaking, doing_of}
+use Rattle.plcr_imagelist.specs.inner.Keeping.{BooksState, writer_state}
+use Rattle.plcr_imagelist.specs.States.{ChangeState}
+use Rattle.plcr_imagelist.specs.inner.Making.{IsMaking, doing_of}
 use Rattle.plcr_imagelist.specs.Tellings.{IsWriterTold}
 use Rattle.plcr_imagelist.proofs.Told.{making_told, writer_told}
 use Rattle.plcr_imagelist.proofs.change.Change.told.Goals as goal

@@ -2,8 +2,9 @@ use Rattle.std.proofs.Common.{◌≡◌, inl, inr, ⊎_elim, ℕ, ◌∙◌, Boo
 use Rattle.std.proofs.lemmas.Bool.{cases_eq}
 use Rattle.plcr_nodes.specs.Entries.{among}
 use Rattle.plcr_nodes.specs.Tokens.{PassState, IsFollowed}
-use Rattle.plcr_imagelist.specs.Keeping.{last_of}
-use Rattle.plcr_imagelist.specs.Holds.{HoldState, IsHolding, IsNext, IsWalking}
+use Rattle.plcr_imagelist.specs.inner.Keeping.{last_of}
+use Rattle.plcr_imagelist.specs.Holds.{HoldState, IsNext, IsWalking}
+use Rattle.plcr_imagelist.specs.inner.Holding.{IsHolding}
 use Rattle.plcr_imagelist.proofs.Meeting.{among_last, length-images_on}
 use Rattle.plcr_imagelist.proofs.Walking.{hold_of, holding_ended, next_ended, holding_met, next_met}
 use Rattle.plcr_imagelist.proofs.hold.Hold.next.Goals as goal

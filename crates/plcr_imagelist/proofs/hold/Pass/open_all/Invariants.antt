@@ -1,5 +1,5 @@
 use Rattle.std.proofs.Common.{◌≡◌, ◌++◌, All, map, reverse, vec_len}
-use Rattle.plcr_imagelist.specs.Holds.{walker_state, IsReady}
+use Rattle.plcr_imagelist.specs.inner.Holding.{walker_state, IsReady}
 use Rattle.plcr_imagelist.proofs.hold.Pass.open_all.Given as goal
 
 abbrev pub invariant-loop-pass : goal.invariant-loop-pass

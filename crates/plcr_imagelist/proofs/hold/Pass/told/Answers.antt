@@ -1,6 +1,7 @@
 use Rattle.std.proofs.Common.{ap, subst, arith}
 use Rattle.plcr_nodes.specs.Tokens.{NoteState, PassState}
-use Rattle.plcr_imagelist.specs.Holds.{WalkerState, walker_state}
+use Rattle.plcr_imagelist.specs.Holds.{WalkerState}
+use Rattle.plcr_imagelist.specs.inner.Holding.{walker_state}
 use Rattle.plcr_imagelist.specs.Tellings.{IsWalkerTold}
 use Rattle.plcr_imagelist.proofs.Told.{out_told, walker_told}
 use Rattle.plcr_imagelist.proofs.hold.Pass.told.Goals as goal

@@ -1,7 +1,7 @@
 use Rattle.std.proofs.Common.{◌∙◌, All, List, map, sym, ap, subst}
 use Rattle.plcr_nodes.specs.Tokens.{PassState}
-use Rattle.plcr_imagelist.specs.States.{writer_state}
-use Rattle.plcr_imagelist.specs.Holds.{walker_state, IsReady}
+use Rattle.plcr_imagelist.specs.inner.Keeping.{writer_state}
+use Rattle.plcr_imagelist.specs.inner.Holding.{walker_state, IsReady}
 use Rattle.plcr_imagelist.proofs.Opened.{opened_ready, walkers-opened}
 use Rattle.plcr_imagelist.proofs.list.ImageList.furnish.Goals as goal
 

@@ -8,4 +8,4 @@ pub returns-in-None-clause-begins : goal.returns-in-None-clause-begins
 returns-in-None-clause-begins c = λ _ _. begun c.args.self c.self.inside.books c.find_room.new.self c.args.header c.args.name.now c.start_load.result c.self.view_is c.in-None.ensures.none c.start_load.ensures
 
 pub returns-in-None-clause-paced : goal.returns-in-None-clause-paced
-returns-in-None-clause-paced c = subst (λ (s : ChangeState). IsPaced s.writer.history) (sym c.start_load.ensures) (c.find_room.ensures.rest c.self.invariant.0).paced
+returns-in-None-clause-paced c = subst (λ (s : ChangeState). IsPaced s.writer.history) (sym c.start_load.ensures) c.find_room.ensures.rest.paced

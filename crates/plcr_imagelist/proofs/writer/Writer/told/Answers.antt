@@ -1,6 +1,7 @@
 use Rattle.std.proofs.Common.{subst}
 use Rattle.plcr_nodes.specs.Tokens.{NoteState}
-use Rattle.plcr_imagelist.specs.States.{WriterState, writer_state}
+use Rattle.plcr_imagelist.specs.States.{WriterState}
+use Rattle.plcr_imagelist.specs.inner.Keeping.{writer_state}
 use Rattle.plcr_imagelist.specs.Tellings.{IsWriterTold}
 use Rattle.plcr_imagelist.proofs.Told.{rest_told, writer_told}
 use Rattle.plcr_imagelist.proofs.writer.Writer.told.Goals as goal

@@ -1,7 +1,7 @@
 use Rattle.std.proofs.Common.{refl}
 use Rattle.plcr_machine.specs.Lists.{live}
-use Rattle.plcr_imagelist.specs.Keeping.{first_with}
-use Rattle.plcr_imagelist.proofs.Whole.{unloads, unloads_first, unload_refused}
+use Rattle.plcr_imagelist.specs.Finding.{first_with}
+use Rattle.plcr_imagelist.proofs.Whole.{unloads, unloads_first, unload_refused, made_again, finished_made}
 use Rattle.plcr_imagelist.proofs.writer.Writer.unload.Goals as goal
 
 pub returns-in-Ok-clause-unloads : goal.returns-in-Ok-clause-unloads
@@ -15,3 +15,6 @@ returns-in-Ok-clause-first c = λ fresh.
 
 pub returns-in-Err-clause-unloads : goal.returns-in-Err-clause-unloads
 returns-in-Err-clause-unloads c = λ fresh. unload_refused c.args.self c.args.header (first_with c.args.header (live c.args.self.history)) (c.in-Err.writer, c.in-Err.refused) (c.in-Err.ensures.begins fresh)
+
+pub returns-in-Ok-clause-made : goal.returns-in-Ok-clause-made
+returns-in-Ok-clause-made c = made_again c.args.self c.in-Ok.change.writer c.finish.result 0 1 c.in-Ok.ensures.made (finished_made c.in-Ok.change c.finish.result c.finish.ensures.finished)

@@ -1,16 +1,16 @@
--- What the writer and a change answer: an open change, the writer again, or why a change was refused.
-use Rattle.std.specs.Prelude.{◌≡◌, ◌≢◌, ℕ, suc, ◌<◌, ◌≤◌, List, Option, Some, None, Result, Ok, Err}
+-- A change that was begun, and what each of its steps says.
+use Rattle.std.specs.Prelude.{◌≡◌, ◌≢◌, ℕ, suc, ◌+◌, ◌<◌, List, ◌∷◌, length, nat_lt, if◌then◌else◌, Option, Some, None, Result, Ok, Err}
 use Rattle.atomic_table.specs.Seated.{TableId}
 use Rattle.plcr_machine.specs.declared.image.Image.{Image}
 use Rattle.plcr_machine.specs.declared.entry.Entry.{Entry}
+use Rattle.plcr_nodes.specs.Names.{words_of, payload_word, store}
 use Rattle.plcr_imagelist.specs.declared.refusals.LoadRefused.{LoadRefused}
 use Rattle.plcr_imagelist.specs.declared.refusals.UnloadRefused.{UnloadRefused}
 use Rattle.plcr_imagelist.specs.declared.refusals.UnloadRefused.TheVariants.{NotLoaded}
 use Rattle.plcr_imagelist.specs.declared.change.Progress.{Progress}
 use Rattle.plcr_imagelist.specs.declared.change.Progress.TheVariants.{More, Done}
 use Rattle.plcr_imagelist.specs.Refusing.{RefusesFull}
-use Rattle.plcr_imagelist.specs.States.{WriterState, Unloads, change_step, steps_of, ChangeState}
-use Rattle.plcr_imagelist.specs.Making.{IsAtRest, MakesStore, OnlyStores}
+use Rattle.plcr_imagelist.specs.States.{WriterState, IsAtRest, Doing, Loads, Unloads, change_step, steps_of, ChangeState}
 use Rattle.plcr_imagelist.specs.Changes.{IsCountedAt, IsChangedAt, IsBegunLoad}
 
 -- a load began, or no node was free
@@ -29,6 +29,23 @@ BeginsUnload old header (Some image) (Err r) = ⊥
 BeginsUnload old header None (Ok change) = ⊥
 BeginsUnload old header None (Err r) = r ≡ (old, NotLoaded)
 
+-- a change of this list of which no step is made yet
+abbrev pub IsOpen : TableId → ChangeState → Type 0
+IsOpen table change = (change.writer.table ≡ table) × (change.made ≡ 0)
+
+-- the word of the node that a step of a load stores: first the payload, then the link
+abbrev pub word_stored : List ℕ → ℕ → ℕ
+word_stored name made = if nat_lt made (2 + words_of (length name)) then made + 1 else 0
+
+-- and what it stores there
+abbrev pub value_stored : ℕ → List ℕ → ℕ → ℕ
+value_stored header name made = if nat_lt made (2 + words_of (length name)) then payload_word header name made else 0
+
+-- a step of a load before the change itself makes one store, in the node that the load takes
+abbrev pub MakesStore : Doing → ℕ → ℕ → WriterState → WriterState → Type 0
+MakesStore (Loads header name) made node old new = new ≡ record old { stores = store node (word_stored name made) (value_stored header name made) ∷ old.stores }
+MakesStore (Unloads image) made node old new = ⊥
+
 -- one more step was made: the change itself, or one store in the node that a load takes, of which nobody else learns. Which node would be taken after the change itself is open
 pub record Advances (old new : ChangeState) : Type 0 where
   pub doing : new.doing ≡ old.doing
@@ -41,26 +58,6 @@ pub record Advances (old new : ChangeState) : Type 0 where
 abbrev pub IsStepped : ChangeState → Progress → Type 0
 IsStepped old (More new) = (suc old.made < steps_of old.doing) × Advances old new
 IsStepped old (Done writer) = (suc old.made ≡ steps_of old.doing) × IsCountedAt old.writer writer × IsAtRest writer
-
--- a change that came this far: the change itself is still to be made, or it was
-pub record HasCome (start now : ChangeState) : Type 0 where
-  pub table : now.writer.table ≡ start.writer.table
-  pub doing : now.doing ≡ start.doing
-  pub load : now.load ≡ start.load
-  pub most : now.made ≤ change_step start.doing
-  pub before : now.made < change_step start.doing → (now.node ≡ start.node) × OnlyStores start.doing start.node start.writer now.writer
-  pub after : now.made ≡ change_step start.doing → IsChangedAt start.writer start.doing start.load start.node now.writer
-
--- all steps were made: the change itself, and then the count
-pub record IsFinished (start : ChangeState) (writer : WriterState) : Type 0 where
-  pub changed : WriterState
-  pub change : IsChangedAt start.writer start.doing start.load start.node changed
-  pub count : IsCountedAt changed writer
-  pub rest : IsAtRest writer
-
--- a change of this list of which no step is made yet
-abbrev pub IsOpen : TableId → ChangeState → Type 0
-IsOpen table change = (change.writer.table ≡ table) × (change.made ≡ 0)
 
 -- the list of what is left after a step
 abbrev pub table_of : Progress → TableId
