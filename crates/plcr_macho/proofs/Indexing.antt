@@ -1,7 +1,7 @@
 -- The images looked at so far have their extents in the index.
-use Rattle.std.proofs.Common.{◌≡◌, ◌≤◌, ◌<◌, ℕ, ◌+◌, List, ◌++◌, Option, Some, length, take, drop, sym, ap, ◌∙◌, subst, append_assoc, append-nil}
+use Rattle.std.proofs.Common.{◌≡◌, ◌≤◌, ◌<◌, ℕ, ◌+◌, List, ◌++◌, Option, Some, length, take, drop, sym, ap, ◌∙◌, subst, append_assoc, append-nil, arith, []}
 use Rattle.std.specs.List.Sorted.{IsPermutation}
-use Rattle.std.proofs.lemmas.List.Sorted.{IsPermutation-sym}
+use Rattle.std.proofs.lemmas.List.Sorted.{IsPermutation-sym, IsPermutation-refl}
 use Rattle.plcr_memory.specs.Regions.{Contents}
 use Rattle.plcr_regs.specs.declared.arch.Arch.{Arch}
 use Rattle.plcr_macho.specs.declared.spot.Spot.{Spot}
@@ -52,3 +52,11 @@ pub located_in : (n : ℕ) (room : List Spot) (filled : Option ℕ) (count addre
 located_in n room filled count address is indexed =
     let settled = settled_in n room filled count is indexed in
     least_again address (extents_of (take count room)) (ordered_from 0 n (extents_of (take count room))) settled.whole ∙ sym (ap (λ (f : Option ℕ). located (index_in n room f) address) is)
+
+-- no spot is an index of no image
+pub settled_none : (room : List Spot) → IsSettled 0 room 0
+settled_none room = record {
+  within = omega arith;
+  searchable = record { rises = λ i j d up below. absurd (omega (arith, below)); reaches = λ k i d e up below. absurd (omega (arith, below)) };
+  whole = IsPermutation-refl [];
+}
