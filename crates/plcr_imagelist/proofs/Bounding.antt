@@ -1,5 +1,5 @@
 -- What each pass has let go of is told by its bound, after each entry.
-use Rattle.std.proofs.Common.{◌≡◌, ◌≢◌, ℕ, zero, suc, ◌+◌, ◌<◌, ◌≤◌, List, [], ◌∷◌, length, get_or, set, Bool, true, false, cond, ◌||◌, ◌&&◌, eqb, ltb, refl, sym, ap, ◌∙◌, subst, arith, ne_eqb, length-set, get_or-set_same, get_or-set_other, replicate, drop, drop-cons}
+use Rattle.std.proofs.Common.{◌≡◌, ℕ, zero, suc, ◌+◌, ◌<◌, ◌≤◌, List, [], ◌∷◌, length, get_or, set, true, false, cond, ◌||◌, ◌&&◌, eqb, ltb, refl, sym, ap, ◌∙◌, subst, arith, length-set, get_or-set_same, get_or-set_other, replicate, drop, drop-cons}
 use Rattle.std.proofs.lemmas.Bool.{lt-ltb, le-ltb, ltb-true, ltb-false, eqb-true, eqb-false, cond_both}
 use Rattle.plcr_machine.specs.declared.entry.Entry.{Entry}
 use Rattle.plcr_machine.specs.declared.entry.Entry.TheVariants.{Announce, Enter, Leave, Retire, Load, Unload, Count, Look}

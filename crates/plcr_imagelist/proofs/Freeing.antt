@@ -1,12 +1,12 @@
 -- The removed nodes below a bound become free, and the others stay.
-use Rattle.std.proofs.Common.{◌≡◌, ℕ, zero, suc, ◌+◌, ◌<◌, ◌≤◌, List, [], ◌∷◌, ◌++◌, length, Bool, true, false, cond, not, ◌||◌, ◌&&◌, eqb, ltb, leb, filter, refl, sym, ap, ◌∙◌, subst, arith, get_or, drop, append_assoc, add-one, drop-cons}
+use Rattle.std.proofs.Common.{◌≡◌, ℕ, zero, suc, ◌+◌, ◌<◌, ◌≤◌, List, [], ◌∷◌, ◌++◌, length, Bool, true, false, cond, not, eqb, ltb, leb, filter, refl, sym, ap, ◌∙◌, arith, get_or, drop, append_assoc, add-one, drop-cons}
 use Rattle.std.proofs.lemmas.Bool.{ltb-true, ltb-false, lt-ltb, le-ltb}
 use Rattle.plcr_machine.specs.declared.entry.Entry.{Entry}
 use Rattle.plcr_machine.specs.declared.entry.Entry.TheVariants.{Unload}
 use Rattle.plcr_machine.specs.Nodes.{counts_before}
-use Rattle.plcr_machine.proofs.Cases.{by_cases, eqb_same, not_both, at_or_else}
+use Rattle.plcr_machine.proofs.Cases.{by_cases, eqb_same, at_or_else}
 use Rattle.plcr_imagelist.specs.declared.bounds.Removed.{Removed}
-use Rattle.plcr_imagelist.specs.inner.Keeping.{times, once_where, nodes_of, AreTold, is_below, is_above, let_go_below}
+use Rattle.plcr_imagelist.specs.inner.Keeping.{times, nodes_of, AreTold, is_below, is_above, let_go_below}
 
 pub nodes_of-snoc : (rs : List Removed) (r : Removed) → nodes_of (rs ++ r ∷ []) ≡ nodes_of rs ++ r.node ∷ []
 nodes_of-snoc [] r = refl

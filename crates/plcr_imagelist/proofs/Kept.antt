@@ -4,11 +4,10 @@ use Rattle.std.proofs.lemmas.Bool.{and_parts, eqb-true}
 use Rattle.plcr_machine.specs.declared.image.Image.{Image}
 use Rattle.plcr_machine.specs.declared.entry.Entry.{Entry}
 use Rattle.plcr_machine.specs.declared.entry.Entry.TheVariants.{Announce, Enter, Leave, Retire, Load, Unload, Count, Look}
-use Rattle.plcr_machine.specs.declared.limits.TheConstants.{MOST_CHANGES}
-use Rattle.plcr_machine.specs.Lists.{has, without, live, loads, changes}
+use Rattle.plcr_machine.specs.Lists.{has, without, live, loads}
 use Rattle.plcr_machine.specs.Nodes.{is_new, is_removed, is_cleared, is_free, is_waiting, is_let_go, counts_before}
-use Rattle.plcr_machine.specs.Passes.{counts, owes_count, IsPaced, all_under}
-use Rattle.plcr_machine.specs.Histories.{IsLegal, IsHistory}
+use Rattle.plcr_machine.specs.Passes.{counts, owes_count, all_under}
+use Rattle.plcr_machine.specs.Histories.{IsHistory}
 use Rattle.plcr_machine.specs.Parts.{owner_entries}
 use Rattle.plcr_machine.proofs.Cases.{by_cases, eqb_same, not_both}
 use Rattle.plcr_machine.proofs.OnNodes.{IsApart}

@@ -16,3 +16,4 @@ pub mod Passing
 pub mod Opened
 pub mod Told
 pub mod Reread
+pub mod Indexed

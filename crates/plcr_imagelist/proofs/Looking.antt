@@ -1,6 +1,6 @@
 -- A run of looks: what it leaves as it was, and what it makes free.
-use Rattle.std.proofs.Common.{◌≡◌, ◌≢◌, ℕ, zero, suc, ◌+◌, ◌<◌, ◌≤◌, List, [], ◌∷◌, ◌++◌, length, get_or, set, Bool, true, false, cond, not, ◌||◌, ◌&&◌, eqb, ltb, refl, sym, ap, ◌∙◌, subst, arith, append_assoc}
-use Rattle.std.proofs.lemmas.Bool.{or_right, or_left, or_cases, and_parts, eqb-false, cond_both}
+use Rattle.std.proofs.Common.{◌≡◌, ℕ, zero, suc, ◌+◌, ◌<◌, ◌≤◌, List, [], ◌∷◌, ◌++◌, get_or, set, true, cond, ◌||◌, ◌&&◌, eqb, refl, sym, ap, ◌∙◌, subst, arith, append_assoc}
+use Rattle.std.proofs.lemmas.Bool.{or_right, eqb-false, cond_both}
 use Rattle.plcr_machine.specs.declared.entry.Entry.{Entry}
 use Rattle.plcr_machine.specs.declared.entry.Entry.TheVariants.{Announce, Enter, Leave, Retire, Load, Unload, Count, Look}
 use Rattle.plcr_machine.specs.Lists.{Grows, live, loads, changes}
@@ -8,7 +8,7 @@ use Rattle.plcr_machine.specs.Nodes.{is_new, is_removed, counts_before, is_let_g
 use Rattle.plcr_machine.specs.Passes.{counts, owes_count, IsPaced}
 use Rattle.plcr_machine.specs.Changes.{TakesFirst}
 use Rattle.plcr_machine.specs.Parts.{owner_entries}
-use Rattle.plcr_machine.proofs.Cases.{by_cases, eqb_same}
+use Rattle.plcr_machine.proofs.Cases.{by_cases}
 use Rattle.plcr_nodes.specs.Entries.{WentOn}
 use Rattle.plcr_nodes.proofs.Seeing.{grows_again}
 use Rattle.plcr_nodes.proofs.Known.{live_same, loads_same, counts_same, new_same, removed_same, before_same, let_go_same}

@@ -10,7 +10,7 @@ use Rattle.plcr_machine.specs.Histories.{IsLegal}
 use Rattle.plcr_machine.specs.Holds.{may_reach, before_enter}
 use Rattle.plcr_machine.specs.Links.{link_of, image_at}
 use Rattle.plcr_machine.proofs.Makers.{before_enter-stays}
-use Rattle.plcr_machine.proofs.Cases.{by_cases, eqb_same, not_both}
+use Rattle.plcr_machine.proofs.Cases.{eqb_same, not_both}
 use Rattle.plcr_machine.proofs.Insiders.{count_below-more, count_below-most}
 use Rattle.plcr_machine.proofs.Rising.{first_rises, next_rises}
 use Rattle.plcr_machine.proofs.Growing.{changes-grows}

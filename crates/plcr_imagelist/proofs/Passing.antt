@@ -1,5 +1,5 @@
 -- A pass goes in and comes out, by two entries each.
-use Rattle.std.proofs.Common.{◌≡◌, ℕ, ◌≤◌, List, [], ◌∷◌, ◌++◌, Bool, true, false, refl, sym, ap, ◌∙◌, subst, arith}
+use Rattle.std.proofs.Common.{◌≡◌, ℕ, ◌≤◌, List, [], ◌∷◌, Bool, true, false, refl, sym, ap, ◌∙◌, subst, arith}
 use Rattle.plcr_machine.specs.declared.entry.Entry.{Entry}
 use Rattle.plcr_machine.specs.declared.entry.Entry.TheVariants.{Announce, Enter, Leave, Retire}
 use Rattle.plcr_machine.specs.declared.image.Image.{Image}
@@ -16,7 +16,7 @@ use Rattle.plcr_nodes.specs.Seeing.{GoesOn}
 use Rattle.plcr_nodes.specs.Tokens.{PassState, SeesMore, IsEntry, IsGlanced, IsEntered, IsLeft}
 use Rattle.plcr_nodes.proofs.Seeing.{own_of, grows_again, adds_again}
 use Rattle.plcr_nodes.proofs.Known.{inside_same, announced_same}
-use Rattle.plcr_imagelist.specs.Holds.{WalkerState, HoldState, IsPassed, IsHeld, IsReleased, IsOut, HasEnded, start_of}
+use Rattle.plcr_imagelist.specs.Holds.{WalkerState, IsPassed, IsHeld, IsReleased, IsOut, HasEnded, start_of}
 use Rattle.plcr_imagelist.specs.inner.Holding.{walker_state, images_on, IsHolding}
 use Rattle.plcr_imagelist.proofs.Looking.{went_again}
 use Rattle.plcr_imagelist.proofs.Meeting.{before_enter-same, ended_on}
@@ -94,7 +94,7 @@ held_entered old mid announced new seen low g a e =
       announced = walker_state announced;
       announce = first;
       enter = second;
-      start = (refl, refl);
+      start = (refl, refl, refl);
       grows = grows_again old.history announced.history new.history one.grows two.grows;
       went = went_again old.names announced.names new.names one.went two.went;
       own = ap (own_entries p) two.history ∙ rw (eqb_same p) (ap (λ (xs : List Entry). Enter p ∷ xs) (two.own ∙ ap (own_entries p) one.history ∙ rw (eqb_same p) (ap (λ (xs : List Entry). Announce p seen ∷ xs) one.own)));

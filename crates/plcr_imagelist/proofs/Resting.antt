@@ -3,7 +3,7 @@ use Rattle.std.proofs.Common.{◌≡◌, ℕ, suc, ◌<◌, List, ◌∷◌, Som
 use Rattle.plcr_machine.specs.declared.image.Image.{Image}
 use Rattle.plcr_machine.specs.declared.entry.Entry.{Entry}
 use Rattle.plcr_machine.specs.declared.entry.Entry.TheVariants.{Load}
-use Rattle.plcr_machine.specs.Lists.{live, without, loads, changes}
+use Rattle.plcr_machine.specs.Lists.{live, without, loads}
 use Rattle.plcr_machine.specs.Passes.{counts, owes_count, IsPaced}
 use Rattle.plcr_machine.specs.Histories.{IsLegal}
 use Rattle.plcr_machine.specs.Changes.{TakesFirst}
@@ -21,7 +21,7 @@ use Rattle.plcr_imagelist.specs.Changes.{IsLookedAt, IsCountedAt, IsLoadedAt, Is
 use Rattle.plcr_imagelist.proofs.Placed.{first_cut}
 use Rattle.plcr_machine.proofs.ListsMade.{takes_same}
 use Rattle.plcr_imagelist.proofs.Taking.{unload_takes}
-use Rattle.plcr_nodes.proofs.Pacing.{changes_same, owes_same, paced_same}
+use Rattle.plcr_nodes.proofs.Pacing.{owes_same, paced_same}
 
 pub looked_at : (old : OwnerState) (pass found : ℕ) (new : OwnerState) → IsLooked old pass found new → IsLookedAt (writer_state old) pass found (writer_state new)
 looked_at old pass found new k = record { past = k.entry.past; names = k.entry.names; sees = k.entry.sees; now = ap writer_state k.entry.now; legal = k.entry.legal }

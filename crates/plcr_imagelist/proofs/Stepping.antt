@@ -1,5 +1,5 @@
 -- A change between its steps.
-use Rattle.std.proofs.Common.{◌≡◌, ◌≢◌, inl, inr, ℕ, suc, ◌+◌, ◌<◌, List, [], ◌∷◌, length, true, false, eqb, Some, refl, sym, ap, ◌∙◌, subst, arith, ne_eqb, get_or}
+use Rattle.std.proofs.Common.{◌≡◌, ◌≢◌, ℕ, suc, ◌+◌, ◌<◌, List, [], ◌∷◌, length, true, false, eqb, Some, refl, sym, ap, ◌∙◌, subst, arith, ne_eqb, get_or}
 use Rattle.plcr_base.specs.Bytes.{IsBytes}
 use Rattle.plcr_base.specs.Limits.{IsImageName}
 use Rattle.plcr_machine.specs.declared.image.Image.{Image}
@@ -14,7 +14,7 @@ use Rattle.plcr_nodes.proofs.Spelling.{no_bytes}
 use Rattle.plcr_imagelist.specs.declared.change.Task.{Task}
 use Rattle.plcr_imagelist.specs.declared.change.Task.TheVariants.{Load, Unload}
 use Rattle.plcr_imagelist.specs.inner.Keeping.{BooksState, writer_state}
-use Rattle.plcr_imagelist.specs.Finding.{first_with, IsFreeIn}
+use Rattle.plcr_imagelist.specs.Finding.{first_with}
 use Rattle.plcr_imagelist.specs.States.{WriterState, change_step, ChangeState, IsAtRest}
 use Rattle.plcr_imagelist.specs.Changes.{IsBegunLoad, begun_load, FindsNode}
 use Rattle.plcr_imagelist.specs.inner.Making.{FindsRoom, IsMaking, MakesStep, AreStored, doing_of}

@@ -1,5 +1,5 @@
 -- Each unload takes the first image with its header.
-use Rattle.std.proofs.Common.{◌≡◌, ℕ, List, [], ◌∷◌, false, true, Some, refl, sym, ap, ◌∙◌, subst, eqb, ne_eqb}
+use Rattle.std.proofs.Common.{◌≡◌, ℕ, List, [], ◌∷◌, false, true, Some, sym, ap, ◌∙◌, subst, eqb, ne_eqb}
 use Rattle.plcr_machine.specs.declared.image.Image.{Image}
 use Rattle.plcr_machine.specs.Lists.{has}
 use Rattle.plcr_machine.specs.Changes.{first_node, header_at}

@@ -1,5 +1,5 @@
 -- What a token keeps as it is told.
-use Rattle.std.proofs.Common.{◌≡◌, ℕ, suc, ◌<◌, Bool, List, ◌∷◌, length, Some, ◌&&◌, refl, sym, ap, ◌∙◌, subst, get_or}
+use Rattle.std.proofs.Common.{[], ◌≡◌, ℕ, suc, ◌<◌, Bool, List, ◌∷◌, length, Some, ◌&&◌, refl, sym, ap, ◌∙◌, subst, get_or}
 use Rattle.plcr_machine.specs.declared.image.Image.{Image}
 use Rattle.plcr_machine.specs.declared.entry.Entry.{Entry}
 use Rattle.plcr_machine.specs.Lists.{live}
@@ -115,7 +115,7 @@ hold_told old note new met ended low k h =
     let there : images_on met new.history ≡ images_on met old.history = ap (λ (s : PassState). images_on met s.history) k.now ∙ same in
     record {
       walker = walker_told old note new k;
-      same = λ i. record { walker = walker_state new; met = there i; ended = ended };
+      same = λ i. record { walker = walker_state new; met = there i; ended = ended; extents = [] };
       ends = subst (λ (s : PassState). (b : ℕ) → EndedAt (hold_of old met ended) b → EndedAt (hold_of s met ended) b) (sym k.now)
           (λ b e. ended_on old.nodes old.passes old.number old.history k.past (images_on met old.history) (images_on met k.past) b k.sees.legal.legal k.sees.added.grows (before_enter-same old.number old.history k.past k.sees.added) same e);
     }

@@ -1,25 +1,25 @@
 -- The walk of a hold goes on from image to image.
-use Rattle.std.proofs.Common.{◌≡◌, ◌≢◌, inl, inr, ℕ, zero, suc, ◌/◌, ◌<◌, ◌≤◌, List, [], ◌∷◌, ◌++◌, length, Bool, true, false, eqb, refl, sym, ap, ◌∙◌, subst, arith, Some, None}
+use Rattle.std.proofs.Common.{◌≡◌, ◌≢◌, inl, inr, ℕ, zero, suc, ◌<◌, ◌≤◌, List, [], ◌∷◌, ◌++◌, length, Bool, true, false, eqb, refl, sym, ap, ◌∙◌, subst, arith, Some, None}
 use Rattle.std.proofs.lemmas.Bool.{or_left, or_right}
 use Rattle.plcr_machine.specs.declared.image.Image.{Image}
 use Rattle.plcr_machine.specs.declared.entry.Entry.{Entry}
-use Rattle.plcr_machine.specs.declared.entry.Entry.TheVariants.{Enter, Leave}
-use Rattle.plcr_machine.specs.Lists.{Grows, load_number, loaded, changes, list_after}
+use Rattle.plcr_machine.specs.declared.entry.Entry.TheVariants.{Enter}
+use Rattle.plcr_machine.specs.Lists.{load_number, loaded, changes, list_after}
 use Rattle.plcr_machine.specs.Walks.{RisesAbove, follow, last_met, Meets, IsWholeWalk}
-use Rattle.plcr_machine.specs.Passes.{is_inside, counts}
-use Rattle.plcr_machine.specs.Histories.{IsLegal, IsHistory}
+use Rattle.plcr_machine.specs.Passes.{counts}
+use Rattle.plcr_machine.specs.Histories.{IsHistory}
 use Rattle.plcr_machine.specs.Holds.{may_reach, before_enter}
 use Rattle.plcr_machine.specs.Links.{image_at}
 use Rattle.plcr_machine.proofs.Cases.{eqb_same, not_both}
 use Rattle.plcr_machine.proofs.Growing.{meets_until, meets-snoc, changes-grows, meets-grows}
 use Rattle.plcr_nodes.specs.Entries.{among}
-use Rattle.plcr_nodes.specs.Tokens.{PassState, SeesMore, IsEntered, IsLeft, IsFollowed}
-use Rattle.plcr_nodes.proofs.Seeing.{own_of, grows_again}
+use Rattle.plcr_nodes.specs.Tokens.{PassState, SeesMore, IsEntered, IsFollowed}
+use Rattle.plcr_nodes.proofs.Seeing.{own_of}
 use Rattle.plcr_nodes.proofs.Known.{inside_same, reach_bound}
 use Rattle.plcr_nodes.proofs.Staying.{reach_stays}
 use Rattle.plcr_imagelist.specs.inner.Keeping.{last_of}
 use Rattle.plcr_imagelist.specs.inner.Holding.{walker_state, images_on, IsHolding}
-use Rattle.plcr_imagelist.specs.Holds.{HoldState, start_of, HasEnded, EndedAt, IsHeld, IsNext, IsReleased, IsOut}
+use Rattle.plcr_imagelist.specs.Holds.{HoldState, EndedAt, IsNext}
 use Rattle.plcr_imagelist.proofs.Meeting.{before_enter-same, follow_rises, rises-snoc, few_met, images_on-snoc, among-snoc, follows_last, images_stay, lawful_whole, ended_on}
 
 -- a pass that has seen more
@@ -27,7 +27,7 @@ abbrev pub on_with : PassState → List Entry → List (List ℕ) → List ℕ �
 on_with s past names given = record s { history = past; names = names; given = given }
 
 abbrev pub hold_of : PassState → List ℕ → Bool → HoldState
-hold_of pass met ended = record { walker = walker_state pass; met = images_on met pass.history; ended = ended }
+hold_of pass met ended = record { walker = walker_state pass; met = images_on met pass.history; ended = ended; extents = [] }
 
 -- a hold stays one as its pass sees more
 pub holding_stays : (old : PassState) (past : List Entry) (names : List (List ℕ)) (given met : List ℕ) (ended : Bool) (low : ℕ) → SeesMore old past names → ((n : ℕ) → among n old.given ≡ true → among n given ≡ true)

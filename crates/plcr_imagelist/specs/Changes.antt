@@ -1,5 +1,5 @@
 -- What each call of the writer and of a change says.
-use Rattle.std.specs.Prelude.{◌≡◌, ◌⊎◌, ℕ, zero, suc, ◌+◌, true, List, ◌∷◌, ◌==◌, if◌then◌else◌}
+use Rattle.std.specs.Prelude.{◌≡◌, ℕ, zero, suc, ◌+◌, true, List, ◌∷◌, ◌==◌, if◌then◌else◌}
 use Rattle.plcr_machine.specs.declared.image.Image.{Image}
 use Rattle.plcr_machine.specs.declared.entry.Entry.{Entry}
 use Rattle.plcr_machine.specs.declared.entry.Entry.TheVariants.{Load, Unload, Count, Look}

@@ -10,6 +10,7 @@ use Rattle.plcr_machine.specs.Passes.{is_inside, is_announced, counts}
 use Rattle.plcr_machine.specs.Histories.{IsHistory}
 use Rattle.plcr_machine.specs.Holds.{before_enter}
 use Rattle.plcr_machine.specs.Parts.{own_entries}
+use Rattle.plcr_macho.specs.Index.{Extent}
 use Rattle.plcr_nodes.specs.Entries.{WentOn}
 use Rattle.plcr_nodes.specs.Names.{AreNames}
 use Rattle.plcr_nodes.specs.Seeing.{GoesOn}
@@ -23,11 +24,12 @@ pub record WalkerState : Type 0 where
   pub history : List Entry
   pub names : List (List ℕ)
 
--- what a hold knows: what its pass does, the images that its walk has met, and whether the walk has ended
+-- what a hold knows: what its pass does, the images that its walk has met, whether the walk has ended, and the index that was made last in its room
 pub record HoldState : Type 0 where
   pub walker : WalkerState
   pub met : List Image
   pub ended : Bool
+  pub extents : List Extent
 
 -- the pass saw more of the history, none of it an entry of its own
 abbrev pub WalkerSeesMore : WalkerState → List Entry → List (List ℕ) → Type 0
@@ -78,7 +80,7 @@ pub record IsHeld (old : WalkerState) (new : HoldState) : Type 0 where
   pub announced : WalkerState
   pub announce : IsPassed old (Announce old.number seen) announced
   pub enter : IsPassed announced (Enter old.number) new.walker
-  pub start : (new.met ≡ []) × (new.ended ≡ false)
+  pub start : (new.met ≡ []) × (new.ended ≡ false) × (new.extents ≡ [])
   -- what these two steps come to
   pub grows : Grows old.history new.walker.history
   pub went : WentOn old.names new.walker.names

@@ -2,3 +2,4 @@
 pub mod Keeping
 pub mod Making
 pub mod Holding
+pub mod Indexing

@@ -4,7 +4,9 @@ ghost use Rattle.plcr_imagelist.specs.inner.Holding.{walker_state, IsReady};
 ghost use Rattle.plcr_imagelist.specs.Holds.{IsHeld, IsNext, IsReleased, IsWalking};
 
 use crate::books::last_of;
+use crate::index::open_spots;
 use crate::list::ImageList;
+use plcr_macho::Spot;
 use plcr_nodes::NodePass;
 use std::alloc::{AllocError, Global};
 use std::marker::Model;
@@ -15,10 +17,12 @@ pub struct Pass {
     pub(crate) pass: NodePass,
     /// Room for what a walk meets.
     pub(crate) met: Vec<u32>,
+    /// Room for an index of it.
+    pub(crate) spots: Vec<Spot>,
 }
 
 impl Model for Pass {
-    ghost use Rattle.std.specs.Prelude.{◌≤◌, vec_capacity};
+    ghost use Rattle.std.specs.Prelude.{◌≤◌, vec_capacity, vec_len};
     ghost use Rattle.plcr_imagelist.specs.Holds.{WalkerState, IsOut};
     ghost use Rattle.plcr_imagelist.specs.inner.Holding.{walker_state};
 
@@ -26,7 +30,7 @@ impl Model for Pass {
 
     ghost view = { λ p. walker_state p.pass };
 
-    ghost invariant = { λ p. IsOut (walker_state p.pass) × (p.pass.nodes ≤ vec_capacity p.met) };
+    ghost invariant = { λ p. IsOut (walker_state p.pass) × (p.pass.nodes ≤ vec_capacity p.met) × (p.pass.nodes ≤ vec_len p.spots) };
 }
 
 /// A pass that is in, with its walk. While it is in, no node that it may reach is loaded again, so it has to come out by
@@ -38,18 +42,24 @@ pub struct Hold {
     pub(crate) ended: bool,
     /// How many changes were counted before the enter.
     pub(crate) low: u32,
+    /// Room for an index, how many spots of it the one made last has, and of how many images.
+    pub(crate) spots: Vec<Spot>,
+    pub(crate) filled: usize,
+    pub(crate) count: usize,
 }
 
 impl Model for Hold {
-    ghost use Rattle.std.specs.Prelude.{◌≤◌, vec_capacity};
+    ghost use Rattle.std.specs.Prelude.{◌≤◌, vec_capacity, vec_len};
+    ghost use Rattle.plcr_macho.specs.Spots.{IsSettled};
     ghost use Rattle.plcr_imagelist.specs.Holds.{HoldState};
+    ghost use Rattle.plcr_imagelist.specs.inner.Indexing.{extents_in};
     ghost use Rattle.plcr_imagelist.specs.inner.Holding.{walker_state, images_on, IsHolding};
 
     ghost Value = { HoldState };
 
-    ghost view = { λ h. record { walker = walker_state h.pass; met = images_on h.met.items h.pass.history; ended = h.ended } };
+    ghost view = { λ h. record { walker = walker_state h.pass; met = images_on h.met.items h.pass.history; ended = h.ended; extents = extents_in h.count h.spots.items h.filled } };
 
-    ghost invariant = { λ h. IsHolding h.pass h.met.items h.ended h.low × (h.pass.nodes ≤ vec_capacity h.met) };
+    ghost invariant = { λ h. IsHolding h.pass h.met.items h.ended h.low × (h.pass.nodes ≤ vec_capacity h.met) × (h.pass.nodes ≤ vec_len h.spots) × IsSettled h.count h.spots.items h.filled };
 }
 
 /// How many changes were counted before a hold's enter, and before its leave.
@@ -66,7 +76,8 @@ impl Pass {
         ensures { IfOk result (λ p. p ≡ walker_state pass) }
     {
         let met = Vec::with_capacity(alloc, nodes as usize)?;
-        Ok(Pass { pass, met })
+        let spots = open_spots(alloc, nodes)?;
+        Ok(Pass { pass, met, spots })
     }
 
     /// Passes with room for what they meet, in the same order.
@@ -94,7 +105,11 @@ impl Pass {
         ensures walking { IsWalking result }
         ensures list { result.walker.table ≡ self.table }
     {
-        let Pass { mut pass, mut met } = self;
+        let Pass {
+            mut pass,
+            mut met,
+            spots,
+        } = self;
         met.clear();
         let seen = pass.glance(&list.nodes);
         pass.announce(&list.nodes, seen);
@@ -104,6 +119,9 @@ impl Pass {
             met,
             ended: false,
             low,
+            spots,
+            filled: 0,
+            count: 0,
         }
     }
 }
@@ -155,9 +173,12 @@ impl Hold {
             met,
             ended: _,
             low,
+            spots,
+            filled: _,
+            count: _,
         } = self;
         let high = pass.leave(&list.nodes);
         pass.retire(&list.nodes);
-        (Pass { pass, met }, Window { low, high })
+        (Pass { pass, met, spots }, Window { low, high })
     }
 }

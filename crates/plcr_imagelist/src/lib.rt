@@ -6,6 +6,9 @@ mod books;
 mod bounds;
 mod change;
 mod hold;
+mod index;
+#[cfg(test)]
+mod index_tests;
 mod list;
 #[cfg(test)]
 mod overlap_tests;

@@ -58,7 +58,11 @@ impl Writer {
         ensures rest { IsAtRest result }
         ensures list { result.table ≡ self.table }
     {
-        let Pass { pass, met: _ } = pass;
+        let Pass {
+            pass,
+            met: _,
+            spots: _,
+        } = pass;
         let Writer { mut books, name } = self;
         books.join(&list.nodes, pass);
         Writer { books, name }

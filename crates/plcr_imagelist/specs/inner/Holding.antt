@@ -19,7 +19,7 @@ images_on (n ∷ ns) h = loaded n h ∷ images_on ns h
 
 -- the nodes that a hold keeps are those that its pass was given
 pub record IsHolding (pass : PassState) (met : List ℕ) (ended : Bool) (low : ℕ) : Type 0 where
-  pub walking : IsWalking (record { walker = walker_state pass; met = images_on met pass.history; ended = ended })
+  pub walking : IsWalking (record { walker = walker_state pass; met = images_on met pass.history; ended = ended; extents = [] })
   pub given : (n : ℕ) → among n met ≡ true → (0 < n) × (among n pass.given ≡ true) × (may_reach pass.number n pass.history ≡ true)
   pub low_is : low ≡ counts (before_enter pass.number pass.history)
 

@@ -1,5 +1,5 @@
 -- What the writer keeps beside the table: which nodes are free, which wait to become free, what each pass let go of, and the list itself.
-use Rattle.std.specs.Prelude.{◌≡◌, ℕ, zero, suc, ◌+◌, ◌-◌, ◌<◌, ◌≤◌, List, [], ◌∷◌, length, slice_index, Bool, false, nat_lt, nat_le, ◌==◌, ◌&&◌, if◌then◌else◌, map, filter, IsTrue}
+use Rattle.std.specs.Prelude.{◌≡◌, ℕ, zero, suc, ◌+◌, ◌-◌, ◌<◌, ◌≤◌, List, [], ◌∷◌, length, slice_index, Bool, false, nat_lt, nat_le, ◌==◌, ◌&&◌, if◌then◌else◌, IsTrue}
 use Rattle.plcr_machine.specs.declared.image.Image.{Image}
 use Rattle.plcr_machine.specs.declared.entry.Entry.{Entry}
 use Rattle.plcr_machine.specs.Lists.{live, loads, changes}

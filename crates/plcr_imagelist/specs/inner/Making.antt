@@ -1,5 +1,5 @@
 -- What a change keeps between two steps, and how far it has come.
-use Rattle.std.specs.Prelude.{◌≡◌, ◌≢◌, ℕ, suc, ◌+◌, ◌<◌, ◌≤◌, List, length, slice_index_or, Some, ◌==◌, IsFalse}
+use Rattle.std.specs.Prelude.{◌≡◌, ◌≢◌, ℕ, suc, ◌+◌, ◌<◌, ◌≤◌, List, length, slice_index_or, Some, ◌==◌}
 use Rattle.plcr_base.specs.Bytes.{IsBytes}
 use Rattle.plcr_base.specs.Limits.{IsImageName}
 use Rattle.plcr_machine.specs.Lists.{live, loads}
@@ -11,7 +11,7 @@ use Rattle.plcr_nodes.specs.declared.view.Store.{Store}
 use Rattle.plcr_nodes.specs.Names.{stored, stored_elsewhere}
 use Rattle.plcr_imagelist.specs.declared.change.Task.{Task}
 use Rattle.plcr_imagelist.specs.declared.change.Task.TheVariants.{Load, Unload}
-use Rattle.plcr_imagelist.specs.Finding.{first_with, IsFreeIn}
+use Rattle.plcr_imagelist.specs.Finding.{first_with}
 use Rattle.plcr_imagelist.specs.Changes.{IsChangedAt, IsCountedAt, FindsNode}
 use Rattle.plcr_imagelist.specs.States.{WriterState, IsAtRest, Doing, Loads, Unloads, change_step, ChangeState}
 use Rattle.plcr_imagelist.specs.Steps.{word_stored, value_stored, MakesStore}

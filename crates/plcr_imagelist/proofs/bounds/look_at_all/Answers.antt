@@ -1,4 +1,4 @@
-use Rattle.std.proofs.Common.{◌≡◌, ◌<◌, ◌+◌, get_or, set, ap, ◌∙◌, subst, arith}
+use Rattle.std.proofs.Common.{◌≡◌, ◌+◌, get_or, set, ap, ◌∙◌, subst, arith}
 use Rattle.plcr_nodes.specs.Tokens.{OwnerState}
 use Rattle.plcr_imagelist.specs.Changes.{Looks}
 use Rattle.plcr_imagelist.specs.inner.Keeping.{writer_state, higher}

@@ -1,13 +1,13 @@
-use Rattle.std.proofs.Common.{◌≡◌, ◌≢◌, ◌∙◌, ◌+◌, ◌*◌, ◌<◌, ⊎_elim, length, ap, sym, subst, arith}
+use Rattle.std.proofs.Common.{◌≡◌, ◌∙◌, ⊎_elim, ap, subst, arith}
 use Rattle.std.proofs.lemmas.Bool.{cases_eq}
-use Rattle.plcr_machine.specs.Lists.{live, changes}
+use Rattle.plcr_machine.specs.Lists.{changes}
 use Rattle.plcr_machine.proofs.Full.{all_live}
 use Rattle.plcr_nodes.specs.Tokens.{OwnerState}
 use Rattle.plcr_imagelist.specs.Finding.{IsFreeIn}
-use Rattle.plcr_imagelist.specs.Changes.{AtOnce, AfterLooks}
+use Rattle.plcr_imagelist.specs.Changes.{AfterLooks}
 use Rattle.plcr_imagelist.specs.inner.Keeping.{writer_state, BooksState}
 use Rattle.plcr_imagelist.proofs.Looking.{looks_out}
-use Rattle.plcr_imagelist.proofs.Whole.{none_made, looks_made}
+use Rattle.plcr_imagelist.proofs.Whole.{looks_made}
 use Rattle.plcr_imagelist.proofs.books.Books.find_room.Goals as goal
 
 pub returns-then-spare-ne0-2-clause-none : goal.returns-then-spare-ne0-2-clause-none

@@ -1,4 +1,4 @@
-use Rattle.std.proofs.Common.{◌≡◌, length, List, subst, ap, ◌∙◌, sym, arith}
+use Rattle.std.proofs.Common.{◌≡◌, length, subst, arith}
 use Rattle.plcr_imagelist.specs.Holds.{HoldState}
 use Rattle.plcr_imagelist.proofs.Meeting.{length-images_on}
 use Rattle.plcr_imagelist.proofs.hold.Hold.met.Goals as goal

@@ -1,10 +1,13 @@
-use Rattle.std.proofs.Common.{◌≡◌, ◌<◌, length, ap, sym, subst, arith}
+use Rattle.std.proofs.Common.{List, ◌≡◌, ◌<◌, length, ap, sym, subst, arith}
 use Rattle.plcr_macho.specs.Images.{listed_at}
 use Rattle.plcr_base.specs.Bytes.{IsBytes}
 use Rattle.plcr_nodes.specs.Tokens.{PassState}
 use Rattle.plcr_imagelist.specs.Holds.{HoldState}
 use Rattle.plcr_imagelist.specs.Walk.{images_of, IsSameWalk}
+use Rattle.plcr_macho.specs.Index.{Extent}
 use Rattle.plcr_imagelist.proofs.Walking.{hold_of}
+use Rattle.plcr_imagelist.specs.inner.Indexing.{extents_in}
+use Rattle.plcr_imagelist.proofs.Indexed.{with, same_with}
 use Rattle.plcr_imagelist.proofs.Reread.{readable, length-named, holding_read, same_read, length_read, bytes_read}
 use Rattle.plcr_imagelist.proofs.hold.Hold.name_len_at.Goals as goal
 
@@ -27,13 +30,15 @@ invariant_of-self c =
     let h = c.self.inside in
     let nodes = ap (λ (s : PassState). s.nodes) c.payload.ensures.word.now in
     let room = c.self.invariant.1 in
-    (holding_read h.pass c.index-node.result.now 1 c.payload.result c.payload.new.self h.met.items h.ended h.low c.payload.ensures.word c.self.invariant.0, omega arith)
+    let spots = c.self.invariant.2 in
+    (holding_read h.pass c.index-node.result.now 1 c.payload.result c.payload.new.self h.met.items h.ended h.low c.payload.ensures.word c.self.invariant.0, omega arith, omega arith, c.self.invariant.3)
 
 pub returns-clause-same : goal.returns-clause-same
 returns-clause-same c =
     let h = c.self.inside in
-    subst (λ (s : HoldState). IsSameWalk s (hold_of c.payload.new.self h.met.items h.ended)) c.self.view_is
-    (same_read h.pass c.index-node.result.now 1 c.payload.result c.payload.new.self h.met.items h.ended h.low c.payload.ensures.word c.self.invariant.0)
+    let es : List Extent = extents_in h.count h.spots.items h.filled in
+    subst (λ (s : HoldState). IsSameWalk s (with (hold_of c.payload.new.self h.met.items h.ended) es)) c.self.view_is
+    (same_with (hold_of h.pass h.met.items h.ended) (hold_of c.payload.new.self h.met.items h.ended) es es (same_read h.pass c.index-node.result.now 1 c.payload.result c.payload.new.self h.met.items h.ended h.low c.payload.ensures.word c.self.invariant.0))
 
 pub returns-clause-length : goal.returns-clause-length
 returns-clause-length c =

@@ -6,6 +6,9 @@ use Rattle.plcr_imagelist.specs.inner.Keeping.{last_of}
 use Rattle.plcr_imagelist.specs.Holds.{HoldState, IsNext, IsWalking}
 use Rattle.plcr_imagelist.specs.inner.Holding.{IsHolding}
 use Rattle.plcr_imagelist.proofs.Meeting.{among_last, length-images_on}
+use Rattle.plcr_macho.specs.Index.{Extent}
+use Rattle.plcr_imagelist.specs.inner.Indexing.{extents_in}
+use Rattle.plcr_imagelist.proofs.Indexed.{with, next_with, walking_with}
 use Rattle.plcr_imagelist.proofs.Walking.{hold_of, holding_ended, next_ended, holding_met, next_met}
 use Rattle.plcr_imagelist.proofs.hold.Hold.next.Goals as goal
 
@@ -25,7 +28,8 @@ invariant_of-self c =
     let followed = subst (λ k. IsFollowed h.pass k c.next_link-found.result c.next_link-found.new.self) last c.next_link-found.ensures.link in
     let nodes = ap (λ (s : PassState). s.nodes) followed.now in
     let room = c.self.invariant.1 in
-    (holding_ended h.pass h.met.items c.next_link-found.result c.next_link-found.new.self h.low followed going c.if-found-eq0.true, omega arith)
+    let spots = c.self.invariant.2 in
+    (holding_ended h.pass h.met.items c.next_link-found.result c.next_link-found.new.self h.low followed going c.if-found-eq0.true, omega arith, omega arith, c.self.invariant.3)
 
 pub returns-then-found-eq0-clause-next : goal.returns-then-found-eq0-clause-next
 returns-then-found-eq0-clause-next c =
@@ -33,8 +37,10 @@ returns-then-found-eq0-clause-next c =
     let last : c.last_of-last.result ≡ last_of h.met.items = c.last_of-last.ensures ∙ ap last_of c.deref.ensures.value in
     let going = subst (λ e. IsHolding h.pass h.met.items e h.low) c.if-self.false c.self.invariant.0 in
     let followed = subst (λ k. IsFollowed h.pass k c.next_link-found.result c.next_link-found.new.self) last c.next_link-found.ensures.link in
-    subst (λ (s : HoldState). IsNext s false (hold_of c.next_link-found.new.self h.met.items true)) (ap (hold_of h.pass h.met.items) (sym c.if-self.false) ∙ c.self.view_is)
-    (next_ended h.pass h.met.items c.next_link-found.result c.next_link-found.new.self h.low followed going c.if-found-eq0.true)
+    let es : List Extent = extents_in h.count h.spots.items h.filled in
+    subst (λ (s : HoldState). IsNext s false (with (hold_of c.next_link-found.new.self h.met.items true) es)) (ap (λ (e : Bool). with (hold_of h.pass h.met.items e) es) (sym c.if-self.false) ∙ c.self.view_is)
+    (next_with (hold_of h.pass h.met.items false) false (hold_of c.next_link-found.new.self h.met.items true) es
+    (next_ended h.pass h.met.items c.next_link-found.result c.next_link-found.new.self h.low followed going c.if-found-eq0.true))
 
 pub returns-then-found-eq0-clause-walking : goal.returns-then-found-eq0-clause-walking
 returns-then-found-eq0-clause-walking c =
@@ -42,6 +48,7 @@ returns-then-found-eq0-clause-walking c =
     let last : c.last_of-last.result ≡ last_of h.met.items = c.last_of-last.ensures ∙ ap last_of c.deref.ensures.value in
     let going = subst (λ e. IsHolding h.pass h.met.items e h.low) c.if-self.false c.self.invariant.0 in
     let followed = subst (λ k. IsFollowed h.pass k c.next_link-found.result c.next_link-found.new.self) last c.next_link-found.ensures.link in
+    walking_with (hold_of c.next_link-found.new.self h.met.items true) (extents_in h.count h.spots.items h.filled)
     (holding_ended h.pass h.met.items c.next_link-found.result c.next_link-found.new.self h.low followed going c.if-found-eq0.true).walking
 
 pub push_reserved-requires : goal.push_reserved-requires
@@ -65,11 +72,13 @@ invariant_of-self-2 c =
     let going = subst (λ e. IsHolding h.pass h.met.items e h.low) c.if-self.false c.self.invariant.0 in
     let followed = subst (λ k. IsFollowed h.pass k c.next_link-found.result c.next_link-found.new.self) last c.next_link-found.ensures.link in
     let nodes = ap (λ (s : PassState). s.nodes) followed.now in
-    let room = c.self.invariant.1 in let pushed = c.push_reserved.ensures.capacity in (
+    let room = c.self.invariant.1 in let spots = c.self.invariant.2 in let pushed = c.push_reserved.ensures.capacity in (
       subst (λ e. IsHolding c.next_link-found.new.self c.push_reserved.new.self.items e h.low) (sym c.if-self.false)
           (subst (λ (xs : List ℕ). IsHolding c.next_link-found.new.self xs false h.low) (sym c.push_reserved.ensures.items)
           (holding_met h.pass h.met.items c.next_link-found.result c.next_link-found.new.self h.low followed going c.if-found-eq0.false)),
       omega arith,
+      omega arith,
+      c.self.invariant.3,
     )
 
 pub returns-clause-next : goal.returns-clause-next
@@ -78,10 +87,12 @@ returns-clause-next c =
     let last : c.last_of-last.result ≡ last_of h.met.items = c.last_of-last.ensures ∙ ap last_of c.deref.ensures.value in
     let going = subst (λ e. IsHolding h.pass h.met.items e h.low) c.if-self.false c.self.invariant.0 in
     let followed = subst (λ k. IsFollowed h.pass k c.next_link-found.result c.next_link-found.new.self) last c.next_link-found.ensures.link in
-    subst (λ (e : Bool). IsNext c.args.self.now true (hold_of c.next_link-found.new.self c.push_reserved.new.self.items e)) (sym c.if-self.false)
-    (subst (λ (xs : List ℕ). IsNext c.args.self.now true (hold_of c.next_link-found.new.self xs false)) (sym c.push_reserved.ensures.items)
-    (subst (λ (s : HoldState). IsNext s true (hold_of c.next_link-found.new.self (h.met.items ++ c.next_link-found.result ∷ []) false)) (ap (hold_of h.pass h.met.items) (sym c.if-self.false) ∙ c.self.view_is)
-    (next_met h.pass h.met.items c.next_link-found.result c.next_link-found.new.self h.low followed going c.if-found-eq0.false)))
+    let es : List Extent = extents_in h.count h.spots.items h.filled in
+    subst (λ (e : Bool). IsNext c.args.self.now true (with (hold_of c.next_link-found.new.self c.push_reserved.new.self.items e) es)) (sym c.if-self.false)
+    (subst (λ (xs : List ℕ). IsNext c.args.self.now true (with (hold_of c.next_link-found.new.self xs false) es)) (sym c.push_reserved.ensures.items)
+    (subst (λ (s : HoldState). IsNext s true (with (hold_of c.next_link-found.new.self (h.met.items ++ c.next_link-found.result ∷ []) false) es)) (ap (λ (e : Bool). with (hold_of h.pass h.met.items e) es) (sym c.if-self.false) ∙ c.self.view_is)
+    (next_with (hold_of h.pass h.met.items false) true (hold_of c.next_link-found.new.self (h.met.items ++ c.next_link-found.result ∷ []) false) es
+    (next_met h.pass h.met.items c.next_link-found.result c.next_link-found.new.self h.low followed going c.if-found-eq0.false))))
 
 pub returns-clause-walking : goal.returns-clause-walking
 returns-clause-walking c =
@@ -89,6 +100,7 @@ returns-clause-walking c =
     let last : c.last_of-last.result ≡ last_of h.met.items = c.last_of-last.ensures ∙ ap last_of c.deref.ensures.value in
     let going = subst (λ e. IsHolding h.pass h.met.items e h.low) c.if-self.false c.self.invariant.0 in
     let followed = subst (λ k. IsFollowed h.pass k c.next_link-found.result c.next_link-found.new.self) last c.next_link-found.ensures.link in
-    subst (λ (e : Bool). IsWalking (hold_of c.next_link-found.new.self c.push_reserved.new.self.items e)) (sym c.if-self.false)
+    walking_with (hold_of c.next_link-found.new.self c.push_reserved.new.self.items h.ended) (extents_in h.count h.spots.items h.filled)
+    (subst (λ (e : Bool). IsWalking (hold_of c.next_link-found.new.self c.push_reserved.new.self.items e)) (sym c.if-self.false)
     (subst (λ (xs : List ℕ). IsWalking (hold_of c.next_link-found.new.self xs false)) (sym c.push_reserved.ensures.items)
-    (holding_met h.pass h.met.items c.next_link-found.result c.next_link-found.new.self h.low followed going c.if-found-eq0.false).walking)
+    (holding_met h.pass h.met.items c.next_link-found.result c.next_link-found.new.self h.low followed going c.if-found-eq0.false).walking))

@@ -1,7 +1,8 @@
-use Rattle.std.proofs.Common.{◌≡◌, ◌≤◌, false, sym, ap, ◌∙◌, subst, arith, List, [], ℕ}
+use Rattle.std.proofs.Common.{false, sym, ap, subst, arith, List, [], ℕ}
 use Rattle.plcr_nodes.specs.Tokens.{PassState}
-use Rattle.plcr_imagelist.specs.Holds.{WalkerState, HoldState, IsHeld, IsOut}
-use Rattle.plcr_imagelist.specs.inner.Holding.{walker_state, IsHolding}
+use Rattle.plcr_macho.proofs.Indexing.{settled_none}
+use Rattle.plcr_imagelist.specs.Holds.{WalkerState, IsHeld}
+use Rattle.plcr_imagelist.specs.inner.Holding.{IsHolding}
 use Rattle.plcr_imagelist.proofs.Walking.{holding_entered, hold_of}
 use Rattle.plcr_imagelist.proofs.Passing.{glanced_few, glanced_retired, glanced_outside, may_enter, held_entered}
 use Rattle.plcr_imagelist.proofs.hold.Pass.enter.Goals as goal
@@ -22,9 +23,11 @@ invariant_of-result c =
     let entered = c.enter-low.ensures.entered in
     let nodes = ap (λ (s : PassState). s.nodes) c.glance-seen.ensures.seen.now in let nodes' = ap (λ (s : PassState). s.nodes) c.announce.ensures.entry.now in
     let nodes'' = ap (λ (s : PassState). s.nodes) entered.entry.now in
-    let room = c.self.invariant.1 in let cleared = c.clear.ensures.capacity in (
+    let room = c.self.invariant.1 in let spots = c.self.invariant.2 in let cleared = c.clear.ensures.capacity in (
       subst (λ (xs : List ℕ). IsHolding c.enter-low.new.self xs false c.enter-low.result) (sym c.clear.ensures.items) (holding_entered c.announce.new.self c.enter-low.result c.enter-low.new.self entered),
       omega arith,
+      omega arith,
+      settled_none c.self.inside.spots.items,
     )
 
 pub returns-clause-entered : goal.returns-clause-entered

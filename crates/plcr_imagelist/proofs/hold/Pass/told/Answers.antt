@@ -10,7 +10,8 @@ pub invariant_of-self : goal.invariant_of-self
 invariant_of-self c =
     let nodes = ap (λ (s : PassState). s.nodes) c.told.ensures.told.now in
     let room = c.self.invariant.1 in
-    (out_told c.self.inside.pass c.note.inside.note c.told.new.self c.told.ensures.told c.self.invariant.0, omega arith)
+    let spots = c.self.invariant.2 in
+    (out_told c.self.inside.pass c.note.inside.note c.told.new.self c.told.ensures.told c.self.invariant.0, omega arith, omega arith)
 
 pub returns-clause-told : goal.returns-clause-told
 returns-clause-told c =
