@@ -1,12 +1,19 @@
 //! The list of images that a run keeps. It takes all its room when it is made.
-ghost use Rattle.std.specs.Prelude.{◌≡◌, ◌≤◌, ◌+◌, ◌==◌, false, position, vec_len, IfOk};
+ghost use Rattle.std.specs.Prelude.{◌≡◌, ◌≤◌, ◌+◌, ◌==◌, false, position, length, map, vec_len, IfOk, OnOk, OnErr};
 ghost use Rattle.std.specs.Vec.{vec_capacity};
 ghost use Rattle.plcr_base.specs.Limits.{IsImageName};
+ghost use Rattle.plcr_command.specs.Saving.{IsSaved, IsUnsaved, TookNothing};
+ghost use Rattle.plcr_encode.specs.Conditions.{AreNamable};
+ghost use Rattle.plcr_tool.specs.inner.List.{listed_by};
 
 use crate::entries::{Entries, Entry};
 use arrayvec::ArrayVec;
+use plcr_command::{Unsaved, save_report};
+use plcr_encode::Context;
+use plcr_io::Desk;
 use plcr_machine::MOST_CHANGES;
-use plcr_macho::{Images, PlainImage};
+use plcr_macho::{PlainImage, Spot};
+use plcr_script::Process;
 use std::alloc::{AllocError, Global};
 use std::marker::Model;
 
@@ -16,6 +23,8 @@ pub struct ImageList {
     nodes: u32,
     entries: Vec<Entry>,
     spare: Vec<Box<PlainImage>>,
+    /// Room for an index of the images.
+    spots: Vec<Spot>,
     loads: u32,
     changes: u32,
 }
@@ -29,11 +38,11 @@ impl Model for ImageList {
 
     ghost view = { λ l. list_value l.nodes (map loaded_of l.entries.items) l.loads l.changes };
 
-    ghost invariant = { λ l. HasRoom l.nodes (vec_len l.entries) (vec_capacity l.entries) (vec_len l.spare) (vec_capacity l.spare) l.loads l.changes (map loaded_of l.entries.items) };
+    ghost invariant = { λ l. HasRoom l.nodes (vec_len l.entries) (vec_capacity l.entries) (vec_len l.spare) (vec_capacity l.spare) (vec_len l.spots) l.loads l.changes (map loaded_of l.entries.items) };
 }
 
 impl ImageList {
-    ghost use Rattle.std.specs.Prelude.{◌<◌, ◌^◌, [], length, nat_le, option_map};
+    ghost use Rattle.std.specs.Prelude.{◌<◌, ◌^◌, [], nat_le, option_map};
     ghost use Rattle.plcr_script.specs.Changes.{place_of, first_with};
     ghost use Rattle.plcr_tool.specs.inner.List.{list_value, listed, with_load, with_unload, AreShort};
 
@@ -43,10 +52,12 @@ impl ImageList {
     {
         let entries = Vec::with_capacity(alloc, nodes as usize)?;
         let spare = spare_images(alloc, nodes)?;
+        let spots = spare_spots(alloc, nodes)?;
         Ok(ImageList {
             nodes,
             entries,
             spare,
+            spots,
             loads: 0,
             changes: 0,
         })
@@ -63,6 +74,7 @@ impl ImageList {
     pub(crate) fn len(&self) -> usize
         ensures len { result ≡ length self.now.images }
         ensures within { result ≤ self.now.nodes }
+        ensures small { result < 2 ^ 32 }
     {
         self.entries.len()
     }
@@ -135,16 +147,47 @@ impl ImageList {
         Some(load)
     }
 
-    /// The images.
-    pub(crate) fn images(&self) -> Entries<'_>
-        ensures images { ⟦<Entries<'static> as Images>⟧.images result ≡ listed self.now.images }
-        ensures short { AreShort self.now.images }
-        ensures few { length self.now.images < 2 ^ 32 }
+    /// Keeps the report of a process with these images as a file. `Unsaved` as of any report.
+    pub(crate) fn save_report<P: Process, D: Desk>(
+        &mut self,
+        name: &str,
+        process: &P,
+        context: &Context,
+        desk: &mut D,
+    ) -> Result<u64, Unsaved>
+        requires context { P.accepts process.now context.now }
+        ensures length { IfOk result (λ n. n ≡ length (P.report process.now context.now (listed self.old.images))) }
+        ensures saved { OnOk result (IsSaved name.now (P.report process.now context.now (listed self.old.images)) (D.told desk.old) (D.told desk.new)) }
+        ensures unsaved { OnErr result (IsUnsaved name.now (P.report process.now context.now (listed self.old.images)) (D.told desk.old) (D.told desk.new)) }
+        ensures nothing { TookNothing (D.told desk.old) (D.told desk.new) }
+        ensures same { self.new ≡ self.old }
     {
-        Entries {
-            entries: self.entries.as_slice(),
-        }
+        let entries = self.entries.as_slice();
+        let room = self.spots.as_mut_slice();
+        save_entries(entries, room, name, process, context, desk)
     }
+}
+
+/// Keeps the report of a process with the images of these entries as a file. The room is for their index.
+fn save_entries<P: Process, D: Desk>(
+    entries: &[Entry],
+    room: &mut [Spot],
+    name: &str,
+    process: &P,
+    context: &Context,
+    desk: &mut D,
+) -> Result<u64, Unsaved>
+    requires room { length entries.now ≤ length room.old }
+    requires context { P.accepts process.now context.now }
+    requires images { AreNamable (map listed_by entries.now) }
+    ensures length { IfOk result (λ n. n ≡ length (P.report process.now context.now (map listed_by entries.now))) }
+    ensures saved { OnOk result (IsSaved name.now (P.report process.now context.now (map listed_by entries.now)) (D.told desk.old) (D.told desk.new)) }
+    ensures unsaved { OnErr result (IsUnsaved name.now (P.report process.now context.now (map listed_by entries.now)) (D.told desk.old) (D.told desk.new)) }
+    ensures nothing { TookNothing (D.told desk.old) (D.told desk.new) }
+    ensures room { length room.new ≡ length room.old }
+{
+    let mut images = Entries::new(entries, room);
+    save_report(name, process, context, &mut images, desk)
 }
 
 /// Images for later use.
@@ -172,4 +215,17 @@ fn first_place(entries: &[Entry], header: u64) -> Option<usize>
     entries
         .iter()
         .position(|entry| entry.image.header == header)
+}
+
+/// Spots for later use.
+fn spare_spots(alloc: Global, count: u32) -> Result<Vec<Spot>, AllocError>
+    ensures { IfOk result (λ spots. vec_len spots ≡ count) }
+{
+    let spot = Spot {
+        start: 0,
+        size: 0,
+        reach: 0,
+        position: 0,
+    };
+    vec![in alloc; spot; count as usize]
 }

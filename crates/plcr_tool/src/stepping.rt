@@ -14,7 +14,7 @@ ghost use Rattle.plcr_tool.specs.inner.Stepping.{StepEnds, TurnEnds, report_line
 
 use crate::changing::{load, unload};
 use crate::list::ImageList;
-use plcr_command::{Unsaved, print_unwritten, save_report};
+use plcr_command::{Unsaved, print_unwritten};
 use plcr_encode::Context;
 use plcr_io::{Desk, PutFailed, Sink};
 use plcr_script::{Outcome, Process, Statement, write_outcome};
@@ -85,15 +85,16 @@ fn report<P: Process, D: Desk, L: Sink>(
     context: &Context,
     number: u32,
     file: &[u8],
-    list: &ImageList,
+    list: &mut ImageList,
     desk: &mut D,
     lines: &mut L,
 ) -> Result<(), Stop>
     requires context { P.accepts process.now context.now }
     requires named { IsTrue (is_file_name file.now) }
+    ensures same { list.new ≡ list.old }
     ensures ends { StepEnds result
-        ((file.now, P.report process.now context.now (listed list.now.images)) ∷ [])
-        (report_line number file.now (P.report process.now context.now (listed list.now.images)) (length list.now.images) list.now.changes)
+        ((file.now, P.report process.now context.now (listed list.old.images)) ∷ [])
+        (report_line number file.now (P.report process.now context.now (listed list.old.images)) (length list.old.images) list.old.changes)
         (seen (D.told desk.old) (L.written lines.old) (L.faults lines.old))
         (seen (D.told desk.new) (L.written lines.new) (L.faults lines.new)) }
     ensures goes_on { GoesOn
@@ -101,8 +102,7 @@ fn report<P: Process, D: Desk, L: Sink>(
         (seen (D.told desk.new) (L.written lines.new) (L.faults lines.new)) }
     ensures mark { L.mark lines.new ≡ L.mark lines.old }
 {
-    let mut images = list.images();
-    match save_report(file_name(file), process, context, &mut images, desk) {
+    match list.save_report(file_name(file), process, context, desk) {
         Err(Unsaved) => {
             print_unwritten(lines, file);
             Err(Stop::Unwritten)

@@ -17,4 +17,4 @@ report-requires-clause-named g c = rw c.as_slice-in-Report.ensures (rw c.in-Repo
 
 pub returns-in-Report-clause-ends : goal.returns-in-Report-clause-ends
 returns-in-Report-clause-ends g c = λ nodes changes after.
-    rw c.in-Report.is (reported_turn (g.P.Process.image_fault c.args.process.now) (g.P.Process.report c.args.process.now c.args.context.now) c.report.result c.args.number nodes _ _ changes c.args.list.now _ _ after (rw c.as_slice-in-Report.ensures at c.report.ensures.ends))
+    rw (c.in-Report.is, c.report.ensures.same) (reported_turn (g.P.Process.image_fault c.args.process.now) (g.P.Process.report c.args.process.now c.args.context.now) c.report.result c.args.number nodes _ _ changes c.args.list.now _ _ after (rw c.as_slice-in-Report.ensures at c.report.ensures.ends))

@@ -17,6 +17,7 @@ returns-in-None-clause-list c =
 pub invariant_of-self : goal.invariant_of-self
 invariant_of-self c = record {
   shared = omega (arith, c.self.invariant.shared, c.remove-load.ensures.len, c.in-Ok.ensures.len);
+  indexable = c.self.invariant.indexable;
   fits = rw c.remove-load.ensures.capacity c.self.invariant.fits;
   spare_fits = omega (arith, c.self.invariant.spare_fits, c.in-Ok.ensures.capacity);
   counted = omega (arith, c.self.invariant.counted);
