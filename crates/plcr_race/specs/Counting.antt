@@ -1,6 +1,6 @@
 -- What the numbers of a race count, in what tokens know of the history of their list.
 use Rattle.std.specs.Prelude.{◌≡◌, ◌<◌, ℕ, zero, suc, ◌+◌, Bool, true, if◌then◌else◌, List, ◌∷◌, length, slice_index_or}
-use Rattle.plcr_machine.specs.declared.entry.Entry.TheVariants.{Enter}
+use Rattle.plcr_machine.specs.declared.entry.Entry.TheVariants.{Announce, Enter}
 use Rattle.plcr_machine.specs.Lists.{changes, loads}
 use Rattle.plcr_machine.specs.Parts.{own_entries}
 use Rattle.plcr_imagelist.specs.States.{WriterState}
@@ -18,13 +18,14 @@ MakesChanges old count new = changes new.history ≡ changes old.history + count
 abbrev pub MakesLoads : WriterState → ℕ → WriterState → Type 0
 MakesLoads old count new = (loads new.history ≡ loads old.history + count) × MakesChanges old count new
 
--- one walk: the pass went in once, met so many images, each the one that follows, until none followed, and came out
+-- one walk: the pass announced itself and went in once, met so many images, each the one that follows, until none followed, and came out
 pub record IsWalk (old : WalkerState) (met : ℕ) (new : WalkerState) : Type 0 where
   -- the hold as its walk had ended
   pub hold : HoldState
   pub table : hold.walker.table ≡ old.table
   pub number : hold.walker.number ≡ old.number
-  pub entered : own_entries old.number hold.walker.history ≡ Enter old.number ∷ own_entries old.number old.history
+  pub seen : ℕ
+  pub entered : own_entries old.number hold.walker.history ≡ Enter old.number ∷ Announce old.number seen ∷ own_entries old.number old.history
   pub walking : IsWalking hold
   pub ended : hold.ended ≡ true
   pub images : met ≡ length hold.met
