@@ -147,7 +147,11 @@ fn announce_late(list: &ImageList, pass: Pass) -> NodePass
     ensures announced { is_announced result.number result.history ≡ true }
     ensures out { is_inside result.number result.history ≡ false }
 {
-    let Pass { mut pass, met: _ } = pass;
+    let Pass {
+        mut pass,
+        met: _,
+        spots: _,
+    } = pass;
     pass.announce(&list.nodes, 0);
     pass
 }
