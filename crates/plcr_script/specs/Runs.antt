@@ -2,9 +2,8 @@
 use Rattle.std.specs.Prelude.{ℕ, ◌*◌, Bool, List, [], ◌∷◌, ◌++◌, Option, Some, None, ◌==◌, length, nat_le, nat_lt, map, flat_map, if◌then◌else◌}
 use Rattle.std.specs.Option.{option_map}
 use Rattle.plcr_base.specs.declared.limits.TheConstants.{IMAGE_NAME_BYTES}
-use Rattle.plcr_machine.specs.declared.limits.TheConstants.{MOST_CHANGES}
+use Rattle.plcr_machine.specs.declared.limits.TheConstants.{COUNT_UNIT, MOST_CHANGES}
 use Rattle.plcr_macho.specs.Images.{Listed}
-use Rattle.plcr_script.specs.declared.limits.TheConstants.{COUNT_UNIT}
 use Rattle.plcr_script.specs.declared.statements.Statement.{Statement}
 use Rattle.plcr_script.specs.declared.statements.Statement.TheVariants.{Load, Unload, Report}
 use Rattle.plcr_script.specs.declared.statements.NumberedStatement.{NumberedStatement}

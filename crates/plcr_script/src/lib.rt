@@ -23,7 +23,7 @@ mod worked;
 
 pub use faults::ScriptFault;
 pub use laws::scripts_are_read_line_by_line;
-pub use limits::{COUNT_UNIT, DEFAULT_NODES, DEFAULT_PASSES};
+pub use limits::{DEFAULT_NODES, DEFAULT_PASSES};
 pub use modes::Mode;
 pub use outcomes::{Outcome, write_outcome};
 pub use process::Process;

@@ -11,9 +11,8 @@ use Rattle.plcr_script.specs.declared.outcomes.Outcome.TheVariants.{NotImage, Wo
 use Rattle.plcr_script.specs.Changes as changes
 use Rattle.plcr_script.specs.Changes.{Change, Loads, Unloads, place_of, first_with, changed, is_load, list_after, next_load}
 use Rattle.plcr_script.specs.Runs.{Turn, load_turn, unload_turn, unloaded}
-use Rattle.plcr_machine.specs.declared.limits.TheConstants.{MOST_CHANGES}
+use Rattle.plcr_machine.specs.declared.limits.TheConstants.{COUNT_UNIT, MOST_CHANGES}
 use Rattle.plcr_base.specs.declared.limits.TheConstants.{IMAGE_NAME_BYTES}
-use Rattle.plcr_script.specs.declared.limits.TheConstants.{COUNT_UNIT}
 use Rattle.plcr_tool.specs.inner.Changing.{IsAfter, Comes}
 use Rattle.plcr_tool.specs.inner.List.{ListValue, list_value, with_load, with_unload}
 

@@ -6,7 +6,8 @@ ghost use Rattle.plcr_tool.specs.inner.Changing.{IsAfter, Comes};
 
 use crate::list::ImageList;
 use plcr_base::IMAGE_NAME_BYTES;
-use plcr_script::{COUNT_UNIT, Outcome, Process};
+use plcr_machine::COUNT_UNIT;
+use plcr_script::{Outcome, Process};
 
 /// Loads an image, unless that is refused.
 pub(crate) fn load<P: Process>(
