@@ -1,10 +1,12 @@
-"""Loads and unloads a second, and walks a second beside a writer, of the image list and of a Mutex round a Vec.
+"""Loads and unloads a second, and walks a second beside a writer, of the image list and of plain lists of the standard library.
 
-    python3 bench/imagelist.py [PROGRAM]
+    python3 bench/imagelist.py [PROGRAM [EARLIER]]
 
-PROGRAM is the proved program, by default crates/plcr_race/out/plcr_race (`rt run` in crates/plcr_race leaves it). The
-yardstick is plain Rust, compiled by `rustc -O` into a temporary folder, and skipped where rustc is missing. Each line
-tells the best of five runs of each program, which are run by turns, and in brackets the least of them.
+PROGRAM is the proved program, by default crates/plcr_race/out/plcr_race (`rt run` in crates/plcr_race leaves it), and
+EARLIER that of an earlier commit, to stand beside it. The yardsticks are a Mutex round a Vec, and a Vec that each change
+copies, behind an `RwLock` round an `Arc`: plain Rust, compiled by `rustc -O` into a temporary folder, and skipped where
+rustc is missing. Each line tells the best of five runs of each program, which are run by turns, and in brackets the
+least of them.
 """
 import os
 import re
@@ -17,71 +19,107 @@ from measuring import HERE, measured
 
 NODES = [1, 100, 4096]
 READERS = [1, 2, 4]
-NAMES = ["image list", "Mutex<Vec>"]
 CHANGE_ROUNDS = 200000
 WALK_ROUNDS = 1000000
 TIMES = 5
 YARDSTICK = r"""
-use std::sync::Mutex;
 use std::sync::atomic::{AtomicBool, Ordering};
+use std::sync::{Arc, Mutex, RwLock};
 use std::time::Instant;
 
-struct Image { header: u64, _name: Vec<u8> }
-type List = Mutex<Vec<Image>>;
+#[derive(Clone)]
+struct Image { header: u64, _name: Arc<[u8]> }
 
-fn load(list: &List, header: u64) {
-    let image = Image { header, _name: b"/usr/lib/libSystem.dylib".to_vec() };
-    list.lock().unwrap().push(image);
+trait List: Sync {
+    fn open(room: usize) -> Self;
+    fn load(&self, header: u64);
+    fn unload(&self, header: u64) -> bool;
+    fn meet(&self, met: &mut Vec<u64>);
 }
 
-fn unload(list: &List, header: u64) -> bool {
-    let mut images = list.lock().unwrap();
+fn image(header: u64) -> Image {
+    Image { header, _name: b"/usr/lib/libSystem.dylib".as_slice().into() }
+}
+
+fn take(images: &mut Vec<Image>, header: u64) -> bool {
     match images.iter().position(|image| image.header == header) {
         Some(at) => { images.remove(at); true }
         None => false,
     }
 }
 
-fn changes(nodes: u64, rounds: u64) {
-    let list = Mutex::new(Vec::with_capacity(nodes as usize));
+impl List for Mutex<Vec<Image>> {
+    fn open(room: usize) -> Self { Mutex::new(Vec::with_capacity(room)) }
+    fn load(&self, header: u64) {
+        let image = image(header);
+        self.lock().unwrap().push(image);
+    }
+    fn unload(&self, header: u64) -> bool { take(&mut self.lock().unwrap(), header) }
+    fn meet(&self, met: &mut Vec<u64>) {
+        for image in self.lock().unwrap().iter() { met.push(image.header); }
+    }
+}
+
+// Each change copies the list; a reader takes what is there and reads it without a lock.
+impl List for RwLock<Arc<Vec<Image>>> {
+    fn open(room: usize) -> Self { RwLock::new(Arc::new(Vec::with_capacity(room))) }
+    fn load(&self, header: u64) {
+        let mut images = Vec::clone(&self.read().unwrap());
+        images.push(image(header));
+        *self.write().unwrap() = Arc::new(images);
+    }
+    fn unload(&self, header: u64) -> bool {
+        let mut images = Vec::clone(&self.read().unwrap());
+        let taken = take(&mut images, header);
+        *self.write().unwrap() = Arc::new(images);
+        taken
+    }
+    fn meet(&self, met: &mut Vec<u64>) {
+        let images = Arc::clone(&self.read().unwrap());
+        for image in images.iter() { met.push(image.header); }
+    }
+}
+
+fn changes<L: List>(nodes: u64, rounds: u64) {
+    let list = L::open(nodes as usize);
     let start = Instant::now();
-    for header in 1..nodes { load(&list, header); }
+    for header in 1..nodes { list.load(header); }
     println!("{} loads {} ns", nodes - 1, start.elapsed().as_nanos());
     let start = Instant::now();
     let mut made = 0;
     for round in 0..rounds {
-        load(&list, round + nodes);
-        made += 1 + unload(&list, round + 1) as u64;
+        list.load(round + nodes);
+        made += 1 + list.unload(round + 1) as u64;
     }
     println!("{} changes {} ns", made, start.elapsed().as_nanos());
 }
 
-fn walk(list: &List, rounds: u64) -> u64 {
+fn walk<L: List>(list: &L, rounds: u64) -> u64 {
     let mut met = Vec::with_capacity(128);
     let mut images = 0;
     for _ in 0..rounds {
         met.clear();
-        for image in list.lock().unwrap().iter() { met.push(image.header); }
+        list.meet(&mut met);
         images += std::hint::black_box(&met).len() as u64;
     }
     images
 }
 
-fn change_until(list: &List, ended: &AtomicBool) -> u64 {
+fn change_until<L: List>(list: &L, ended: &AtomicBool) -> u64 {
     let mut made = 0;
     let mut oldest = 1;
     while !ended.load(Ordering::SeqCst) {
-        load(list, oldest + 100);
-        unload(list, oldest);
+        list.load(oldest + 100);
+        list.unload(oldest);
         oldest += 1;
         made += 2;
     }
     made
 }
 
-fn walks(readers: u64, rounds: u64) {
-    let list = Mutex::new(Vec::with_capacity(128));
-    for header in 1..101 { load(&list, header); }
+fn walks<L: List>(readers: u64, rounds: u64) {
+    let list = L::open(128);
+    for header in 1..101 { list.load(header); }
     let ended = AtomicBool::new(false);
     let start = Instant::now();
     let (met, made) = std::thread::scope(|scope| {
@@ -95,16 +133,20 @@ fn walks(readers: u64, rounds: u64) {
     println!("{met} images met, {made} changes made");
 }
 
+fn run<L: List>(words: &[String]) {
+    let (count, rounds) = (words[1].parse().unwrap(), words[2].parse().unwrap());
+    if words[0] == "changes" { changes::<L>(count, rounds) } else { walks::<L>(count, rounds) }
+}
+
 fn main() {
     let words: Vec<String> = std::env::args().skip(1).collect();
-    let (count, rounds) = (words[1].parse().unwrap(), words[2].parse().unwrap());
-    if words[0] == "changes" { changes(count, rounds) } else { walks(count, rounds) }
+    if words[0] == "locked" { run::<Mutex<Vec<Image>>>(&words[1..]) } else { run::<RwLock<Arc<Vec<Image>>>>(&words[1..]) }
 }
 """
 
 
 def built(folder):
-    """The yardstick, or None where it can't be built."""
+    """The yardsticks' program, or None where it can't be built."""
     if not shutil.which("rustc"):
         print("rustc is missing: no yardstick")
         return None
@@ -129,7 +171,7 @@ def a_second(count, nanoseconds):
 
 def changes(program, folder, nodes):
     """Loads a second while the list fills, and loads and unloads a second in a list with room for one more."""
-    loads, filling, made, changing = run([program, "changes", str(nodes), str(CHANGE_ROUNDS)], folder)
+    loads, filling, made, changing = run(program + ["changes", str(nodes), str(CHANGE_ROUNDS)], folder)
     if (loads, made) != (nodes - 1, 2 * CHANGE_ROUNDS):
         sys.exit("%s: %d of %d changes were made" % (program, made, 2 * CHANGE_ROUNDS))
     return [a_second(made, changing), a_second(loads, filling)]
@@ -137,7 +179,7 @@ def changes(program, folder, nodes):
 
 def walks(program, folder, readers):
     """Walks a second of all readers, and changes a second meanwhile."""
-    made, walking, met, changed = run([program, "walks", str(readers), str(WALK_ROUNDS // readers)], folder)
+    made, walking, met, changed = run(program + ["walks", str(readers), str(WALK_ROUNDS // readers)], folder)
     # a walk meets each image that stays while it is inside, and while it is, at most 28 nodes are loaded
     if met < made * 72 or met > made * 128:
         sys.exit("%s: %d images met in %d walks" % (program, met, made))
@@ -151,24 +193,27 @@ def runs(measure, programs, folder, count):
 
 
 def tell_changes(nodes, name, made, loads, least):
-    print("%4d nodes    %s  %9.0f (%9.0f) loads and unloads a second%s" % (
+    print("%4d nodes    %-11s  %9.0f (%9.0f) loads and unloads a second%s" % (
         nodes, name, made, least, ", %9.0f loads a second while it fills" % loads if loads else ""))
 
 
 def tell_walks(readers, name, made, changed, least):
-    print("%4d readers  %s  %9.0f (%9.0f) walks a second, %9.0f changes a second meanwhile" % (
+    print("%4d readers  %-11s  %9.0f (%9.0f) walks a second, %9.0f changes a second meanwhile" % (
         readers, name, made, least, changed))
 
 
 def main():
-    named = sys.argv[1] if len(sys.argv) > 1 else os.path.join(HERE, "..", "crates", "plcr_race", "out", "plcr_race")
+    named = sys.argv[1:3] or [os.path.join(HERE, "..", "crates", "plcr_race", "out", "plcr_race")]
     with tempfile.TemporaryDirectory() as folder:
         yardstick = built(folder)
-        programs = [os.path.abspath(named)] + ([yardstick] if yardstick else [])
+        rows = [(name, [os.path.abspath(path)]) for name, path in zip(["image list", "the earlier"], named)]
+        if yardstick:
+            rows += [("Mutex<Vec>", [yardstick, "locked"]), ("Arc<Vec>", [yardstick, "copied"])]
+        names, programs = zip(*rows)
         print("%d cores, load %.1f" % (os.cpu_count(), os.getloadavg()[0]))
         for measure, tell, counts in [(changes, tell_changes, NODES), (walks, tell_walks, READERS)]:
             for count in counts:
-                for name, row in zip(NAMES, runs(measure, programs, folder, count)):
+                for name, row in zip(names, runs(measure, programs, folder, count)):
                     tell(count, name, *row)
         print("load %.1f at the end" % os.getloadavg()[0])
 
