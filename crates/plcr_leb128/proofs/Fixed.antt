@@ -1,105 +1,141 @@
--- Numbers of a fixed size, in a piece of memory and in a list.
-use Rattle.std.proofs.Common.{◌≡◌, ◌≤◌, ◌<◌, ℕ, zero, suc, ◌+◌, List, [], ◌∷◌, Option, Some, None, option_map, nat_lt, true, false, length, take, drop, refl, sym, ap, subst, ◌∙◌, arith}
-use Rattle.std.specs.Prelude.{is_some, slice_get}
+-- Numbers of a fixed size and single bytes, in a piece of memory and in a list.
+use Rattle.std.proofs.Common.{◌≡◌, ◌≤◌, ◌<◌, ℕ, zero, suc, ◌+◌, ◌%◌, ◌^◌, inl, inr, List, [], ◌∷◌, Option, Some, None, option_map, true, false, length, take, drop, slice_index, refl, sym, ap, subst, ◌∙◌, arith}
+use Rattle.std.specs.Prelude.{is_some, nat_le}
+use Rattle.std.proofs.lemmas.Bool.{cases_lt}
 use Rattle.std.proofs.lemmas.Bool.Decides.{nat_tests}
-use Rattle.std.proofs.lemmas.Option.{slice_get-get_or, slice_get_past}
 use Rattle.std.proofs.Math.Seq.{drop-cons}
 use Rattle.byteorder.specs.Endian.{little_number}
 use Rattle.byteorder.specs.Numbers.{little_from-take}
 use Rattle.plcr_memory.specs.Regions.{Contents, byte_at, bytes_at, cons_known, number_at}
-use Rattle.plcr_leb128.specs.Cells.{Bytes, bytes_in, number_in, piece_bytes, list_bytes}
-
-cons_none : (o : Option ℕ) → cons_known o None ≡ None
-cons_none None = refl
-cons_none (Some b) = refl
-
--- bytes of which the last isn't there
-pub bytes_short : (cells : Bytes) (n size place : ℕ) → ((p : ℕ) → size ≤ p → cells p ≡ None) → 0 < n → size < place + n → bytes_in n cells place ≡ None
-bytes_short cells zero size place past some short = absurd (omega arith)
-bytes_short cells (suc zero) size place past some short = rw (past place (omega arith)) refl
-bytes_short cells (suc (suc n)) size place past some short =
-    rw (bytes_short cells (suc n) size (place + 1) past (omega arith) (omega arith)) (cons_none (cells place))
-
-piece_byte : (m : Contents) (at size place : ℕ) → place < size → piece_bytes m at size place ≡ byte_at m (at + place)
-unfolding piece_bytes
-piece_byte m at size place h = let test : nat_lt place size ≡ true = grind (arith, nat_tests) in rw test refl
-
-pub piece_past : (m : Contents) (at size place : ℕ) → size ≤ place → piece_bytes m at size place ≡ None
-unfolding piece_bytes
-piece_past m at size place h = let test : nat_lt place size ≡ false = grind (arith, nat_tests) in rw test refl
+use Rattle.plcr_leb128.specs.Cells.{bytes_of, number_in, piece_bytes, list_bytes}
 
 -- bytes within a piece are those of the memory
-pub piece_run : (m : Contents) (at size n place : ℕ) → place + n ≤ size → bytes_in n (piece_bytes m at size) place ≡ bytes_at m (at + place) n
-piece_run m at size zero place h = refl
-piece_run m at size (suc n) place h =
-    let next : at + (place + 1) ≡ (at + place) + 1 = omega arith in
-    rw (piece_byte m at size place (omega arith), piece_run m at size n (place + 1) (omega arith), next) refl
+pub piece_run : (m : Contents) (at size n place : ℕ) → place + n ≤ size → piece_bytes m at size place n ≡ bytes_at m ((at + place) % 2 ^ 64) n
+unfolding piece_bytes
+piece_run m at size n place h = let test : nat_le (place + n) size ≡ true = grind (arith, nat_tests) in rw test refl
+
+-- and past its end there are none
+pub piece_past : (m : Contents) (at size n place : ℕ) → size < place + n → piece_bytes m at size place n ≡ None
+unfolding piece_bytes
+piece_past m at size n place h = let test : nat_le (place + n) size ≡ false = grind (arith, nat_tests) in rw test refl
 
 -- a number within a piece
-pub piece_number : (m : Contents) (at size n place : ℕ) → place + n ≤ size → number_in n (piece_bytes m at size) place ≡ number_at n m (at + place)
+pub piece_number : (m : Contents) (at size n place : ℕ) → place + n ≤ size → number_in n (piece_bytes m at size) place ≡ number_at n m ((at + place) % 2 ^ 64)
 unfolding number_in number_at
 piece_number m at size n place h = ap (option_map (little_number n)) (piece_run m at size n place h)
 
--- and past its end
-pub piece_short : (m : Contents) (at size n place : ℕ) → 0 < n → size < place + n → number_in n (piece_bytes m at size) place ≡ None
+pub piece_short : (m : Contents) (at size n place : ℕ) → size < place + n → number_in n (piece_bytes m at size) place ≡ None
 unfolding number_in
-piece_short m at size n place some h = ap (option_map (little_number n)) (bytes_short (piece_bytes m at size) n size place (piece_past m at size) some h)
+piece_short m at size n place h = ap (option_map (little_number n)) (piece_past m at size n place h)
+
+-- a byte within a piece
+alone : (o : Option ℕ) → option_map (λ bytes. slice_index bytes 0) (cons_known o (Some [])) ≡ o
+alone None = refl
+alone (Some b) = refl
+
+pub piece_byte : (m : Contents) (at size place : ℕ) → place + 1 ≤ size → bytes_of (piece_bytes m at size) place ≡ byte_at m ((at + place) % 2 ^ 64)
+unfolding bytes_of
+piece_byte m at size place h = ap (option_map (λ bytes. slice_index bytes 0)) (piece_run m at size 1 place h) ∙ alone (byte_at m ((at + place) % 2 ^ 64))
+
+pub piece_end : (m : Contents) (at size place : ℕ) → size < place + 1 → bytes_of (piece_bytes m at size) place ≡ None
+unfolding bytes_of
+piece_end m at size place h = ap (option_map (λ bytes. slice_index bytes 0)) (piece_past m at size 1 place h)
 
 -- bytes within a list
-list_run : (xs : List ℕ) (n place : ℕ) → place + n ≤ length xs → bytes_in n (slice_get xs) place ≡ Some (take n (drop place xs))
-list_run xs zero place h = refl
-list_run xs (suc n) place h =
-    let next : place + 1 ≡ suc place = omega arith in
-    rw (slice_get-get_or xs place 0 (omega arith), list_run xs n (place + 1) (omega arith), next, drop-cons xs place 0 (omega arith)) refl
+list_run : (xs : List ℕ) (n place : ℕ) → place + n ≤ length xs → list_bytes xs place n ≡ Some (take n (drop place xs))
+unfolding list_bytes
+list_run xs n place h = let test : nat_le (place + n) (length xs) ≡ true = grind (arith, nat_tests) in rw test refl
+
+list_past : (xs : List ℕ) (n place : ℕ) → length xs < place + n → list_bytes xs place n ≡ None
+unfolding list_bytes
+list_past xs n place h = let test : nat_le (place + n) (length xs) ≡ false = grind (arith, nat_tests) in rw test refl
 
 -- a number within a list
 pub list_number : (xs : List ℕ) (n place : ℕ) → place + n ≤ length xs → number_in n (list_bytes xs) place ≡ Some (little_number n (drop place xs))
 unfolding number_in
 list_number xs n place h = ap (option_map (little_number n)) (list_run xs n place h) ∙ ap Some (little_from-take 0 n n (drop place xs) (omega arith))
 
--- and past its end
-pub list_short : (xs : List ℕ) (n place : ℕ) → 0 < n → length xs < place + n → number_in n (list_bytes xs) place ≡ None
+pub list_short : (xs : List ℕ) (n place : ℕ) → length xs < place + n → number_in n (list_bytes xs) place ≡ None
 unfolding number_in
-list_short xs n place some h = ap (option_map (little_number n)) (bytes_short (slice_get xs) n (length xs) place (λ p e. slice_get_past xs p e) some h)
+list_short xs n place h = ap (option_map (little_number n)) (list_past xs n place h)
+
+-- a byte within a list
+pub list_byte : (xs : List ℕ) (place : ℕ) → place + 1 ≤ length xs → bytes_of (list_bytes xs) place ≡ Some (slice_index xs place)
+unfolding bytes_of
+list_byte xs place h =
+    ap (option_map (λ bytes. slice_index bytes 0)) (list_run xs 1 place h)
+    ∙ ap (λ (ys : List ℕ). let byte : Option ℕ = Some (slice_index (take 1 ys) 0) in byte) (drop-cons xs place 0 (omega (arith, h)))
+
+pub list_end : (xs : List ℕ) (place : ℕ) → length xs < place + 1 → bytes_of (list_bytes xs) place ≡ None
+unfolding bytes_of
+list_end xs place h = ap (option_map (λ bytes. slice_index bytes 0)) (list_past xs 1 place h)
 
 -- whether bytes are within a piece and mapped
-pub piece_has : (m : Contents) (at size n place : ℕ) → place + n ≤ size → is_some (bytes_in n (piece_bytes m at size) place) ≡ is_some (bytes_at m (at + place) n)
+pub piece_has : (m : Contents) (at size n place : ℕ) → place + n ≤ size → is_some (piece_bytes m at size place n) ≡ is_some (bytes_at m ((at + place) % 2 ^ 64) n)
 piece_has m at size n place h = ap is_some (piece_run m at size n place h)
 
-pub piece_lacks : (m : Contents) (at size n place : ℕ) → 0 < n → size < place + n → is_some (bytes_in n (piece_bytes m at size) place) ≡ false
-piece_lacks m at size n place some h = ap is_some (bytes_short (piece_bytes m at size) n size place (piece_past m at size) some h)
+pub piece_lacks : (m : Contents) (at size n place : ℕ) → size < place + n → is_some (piece_bytes m at size place n) ≡ false
+piece_lacks m at size n place h = ap is_some (piece_past m at size n place h)
 
 -- whether bytes are within a list
-pub list_has : (xs : List ℕ) (n place : ℕ) → place + n ≤ length xs → is_some (bytes_in n (list_bytes xs) place) ≡ true
+pub list_has : (xs : List ℕ) (n place : ℕ) → place + n ≤ length xs → is_some (list_bytes xs place n) ≡ true
 list_has xs n place h = ap is_some (list_run xs n place h)
 
-pub list_lacks : (xs : List ℕ) (n place : ℕ) → 0 < n → length xs < place + n → is_some (bytes_in n (list_bytes xs) place) ≡ false
-list_lacks xs n place some h = ap is_some (bytes_short (slice_get xs) n (length xs) place (λ p e. slice_get_past xs p e) some h)
+pub list_lacks : (xs : List ℕ) (n place : ℕ) → length xs < place + n → is_some (list_bytes xs place n) ≡ false
+list_lacks xs n place h = ap is_some (list_past xs n place h)
 
-next_byte : (m : Contents) (at size place : ℕ) → piece_bytes m (at + 1) size place ≡ piece_bytes m at (suc size) (suc place)
-unfolding piece_bytes
-next_byte m at size place =
-    let same : (at + 1) + place ≡ at + suc place = omega arith in
-    let test : nat_lt place size ≡ nat_lt (suc place) (suc size) = grind (arith, nat_tests) in
-    rw (same, test) refl
-
-cons_some : (o : Option ℕ) (r : Option (List ℕ)) (xs : List ℕ) → cons_known o r ≡ Some xs → (b : ℕ) × (bs : List ℕ) × (o ≡ Some b) × (r ≡ Some bs) × (b ∷ bs ≡ xs)
+cons_some : (o : Option ℕ) (r : Option (List ℕ)) (xs : List ℕ) → cons_known o r ≡ Some xs → (b : ℕ) × (bs : List ℕ) × (o ≡ Some b) × (r ≡ Some bs) × (xs ≡ b ∷ bs)
 cons_some None r xs h = cc
 cons_some (Some b) None xs h = cc
 cons_some (Some b) (Some bs) xs h = (b, bs, refl, refl, cc)
 
--- bytes that stand one after the other in a file are those of their piece
-stored_byte : (m : Contents) (at size : ℕ) (xs : List ℕ) → bytes_at m at size ≡ Some xs → (place : ℕ) → slice_get xs place ≡ piece_bytes m at size place
-stored_byte m at zero xs h place =
+-- as many bytes as are asked for
+bytes_count : (m : Contents) (at size : ℕ) (xs : List ℕ) → bytes_at m at size ≡ Some xs → length xs ≡ size
+bytes_count m at zero xs h =
     let none : [] ≡ xs = cc in
-    subst (λ (ys : List ℕ). slice_get ys place ≡ piece_bytes m at 0 place) none (sym (piece_past m at 0 place (omega arith)))
-stored_byte m at (suc size) xs h zero =
+    sym (ap length none)
+bytes_count m at (suc size) xs h =
     let c = cons_some (byte_at m at) (bytes_at m (at + 1) size) xs h in
-    let here : at + 0 ≡ at = omega arith in
-    subst (λ (ys : List ℕ). slice_get ys 0 ≡ piece_bytes m at (suc size) 0) c.4 (sym c.2 ∙ sym (piece_byte m at (suc size) 0 (omega arith) ∙ ap (byte_at m) here))
-stored_byte m at (suc size) xs h (suc place) =
-    let c = cons_some (byte_at m at) (bytes_at m (at + 1) size) xs h in
-    subst (λ (ys : List ℕ). slice_get ys (suc place) ≡ piece_bytes m at (suc size) (suc place)) c.4 (stored_byte m (at + 1) size c.1 c.3 place ∙ next_byte m at size place)
+    ap length c.4 ∙ ap (λ (n : ℕ). suc n) (bytes_count m (at + 1) size c.1 c.3)
 
-pub stored_bytes : (m : Contents) (at size : ℕ) (xs : List ℕ) → bytes_at m at size ≡ Some xs → list_bytes xs ≡ piece_bytes m at size
-stored_bytes m at size xs h = λ i place. stored_byte m at size xs h place i
+-- the first of them, and those behind
+bytes_front : (m : Contents) (at n size : ℕ) (xs : List ℕ) → n ≤ size → bytes_at m at size ≡ Some xs → bytes_at m at n ≡ Some (take n xs)
+bytes_front m at zero size xs le h = refl
+bytes_front m at (suc n) zero xs le h = absurd (omega arith)
+bytes_front m at (suc n) (suc size) xs le h =
+    let c = cons_some (byte_at m at) (bytes_at m (at + 1) size) xs h in
+    let rest : bytes_at m (at + 1) n ≡ Some (take n c.1) = bytes_front m (at + 1) n size c.1 (omega (arith, le)) c.3 in
+    ap (λ (o : Option ℕ). cons_known o (bytes_at m (at + 1) n)) c.2 ∙ ap (λ (r : Option (List ℕ)). cons_known (Some c.0) r) rest
+    ∙ ap (λ (ys : List ℕ). let r : Option (List ℕ) = Some (take (suc n) ys) in r) (sym c.4)
+
+bytes_within : (m : Contents) (at n place size : ℕ) (xs : List ℕ) → place + n ≤ size → bytes_at m at size ≡ Some xs → bytes_at m (at + place) n ≡ Some (take n (drop place xs))
+bytes_within m at n zero size xs le h =
+    let here : at ≡ at + 0 = omega arith in
+    subst (λ (a : ℕ). bytes_at m a n ≡ Some (take n xs)) here (bytes_front m at n size xs (omega (arith, le)) h)
+bytes_within m at n (suc place) zero xs le h = absurd (omega (arith, le))
+bytes_within m at n (suc place) (suc size) xs le h =
+    let c = cons_some (byte_at m at) (bytes_at m (at + 1) size) xs h in
+    let rest : bytes_at m ((at + 1) + place) n ≡ Some (take n (drop place c.1)) = bytes_within m (at + 1) n place size c.1 (omega (arith, le)) c.3 in
+    let same : at + suc place ≡ (at + 1) + place = omega arith in
+    ap (λ (a : ℕ). bytes_at m a n) same ∙ rest ∙ ap (λ (ys : List ℕ). let r : Option (List ℕ) = Some (take n (drop (suc place) ys)) in r) (sym c.4)
+
+-- bytes that end within the addresses of 64 bits stand where they are counted from an address, modulo 2^64
+bytes_modulo : (m : Contents) (at place n size : ℕ) → place + n ≤ size → at + size ≤ 2 ^ 64 → bytes_at m ((at + place) % 2 ^ 64) n ≡ bytes_at m (at + place) n
+bytes_modulo m at place zero size le within = refl
+bytes_modulo m at place (suc n) size le within =
+    let same : (at + place) % 2 ^ 64 ≡ at + place = omega (arith, le, within) in
+    ap (λ (a : ℕ). bytes_at m a (suc n)) same
+
+-- bytes that stand one after the other in a file are those of their piece
+stored_run : (m : Contents) (at size : ℕ) (xs : List ℕ) → at + size ≤ 2 ^ 64 → bytes_at m at size ≡ Some xs → (place n : ℕ) → list_bytes xs place n ≡ piece_bytes m at size place n
+stored_run m at size xs within h place n =
+    let count : length xs ≡ size = bytes_count m at size xs h in
+    elim (cases_lt size (place + n)) [
+      | inl past ↦ list_past xs n place (omega (arith, count, past)) ∙ sym (piece_past m at size n place past)
+      | inr le ↦
+          list_run xs n place (omega (arith, count, le)) ∙ sym (bytes_within m at n place size xs le h)
+          ∙ sym (bytes_modulo m at place n size le within) ∙ sym (piece_run m at size n place le)
+    ]
+
+pub stored_bytes : (m : Contents) (at size : ℕ) (xs : List ℕ) → at + size ≤ 2 ^ 64 → bytes_at m at size ≡ Some xs → list_bytes xs ≡ piece_bytes m at size
+stored_bytes m at size xs within h = λ i place n. stored_run m at size xs within h place n i

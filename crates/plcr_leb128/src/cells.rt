@@ -1,19 +1,19 @@
-ghost use Rattle.std.specs.Prelude.{◌≡◌, ◌+◌, ◌<◌, ◌^◌, ℕ, Option, OnSome, is_some};
+ghost use Rattle.std.specs.Prelude.{◌≡◌, ◌+◌, ◌<◌, ◌^◌, ℕ, List, Option, OnSome, is_some};
 ghost use Rattle.std.specs.Bool.{OnTrue};
-ghost use Rattle.plcr_leb128.specs.Cells.{bytes_in, number_in};
+ghost use Rattle.plcr_leb128.specs.Cells.{bytes_of, number_in};
 
 /// Bytes at places, where numbers are read from. A place counts from the start of the bytes.
 pub trait Cells {
-    ghost cells: { Self → ℕ → Option ℕ };
+    ghost cells: { Self → ℕ → ℕ → Option (List ℕ) };
 
-    /// Whether each of so many bytes from a place on is there. Where they are none, they are.
+    /// Whether so many bytes from a place on are there. None are there up to the end.
     fn has(&self, place: u64, count: u64) -> bool
-        ensures there { result ≡ is_some (bytes_in count (cells self.now) place) }
+        ensures there { result ≡ is_some (cells self.now place count) }
         ensures within { OnTrue result (place + count < 2 ^ 64) };
 
     /// The byte at a place, where it is there.
     fn read_u8(&self, place: u64) -> Option<u8>
-        ensures byte { result ≡ cells self.now place }
+        ensures byte { result ≡ bytes_of (cells self.now) place }
         ensures within { OnSome result (place + 1 < 2 ^ 64) };
 
     /// The little-endian number of the 2 bytes from a place on, where all are there.

@@ -27,8 +27,9 @@ pub fn leb128_is_read()
     ensures alike_long { (cells : Bytes) (place : ℕ) → signed_at cells place ≡ Err Long → IsLong cells place }
 {}
 
-/// The bytes of a piece of memory as a slice are the same bytes at the same places, so that what is read is the same.
+/// The bytes of a piece of memory as a slice, where it ends within the addresses of 64 bits, are the same bytes at the same
+/// places, so that what is read is the same.
 #[tactic(auto, using(crate::proofs::Fixed::stored_bytes))]
 pub fn slices_are_pieces()
-    ensures { (memory : Contents) (at size : ℕ) (bytes : List ℕ) → bytes_at memory at size ≡ Some bytes → list_bytes bytes ≡ piece_bytes memory at size }
+    ensures { (memory : Contents) (at size : ℕ) (bytes : List ℕ) → at + size ≤ 2 ^ 64 → bytes_at memory at size ≡ Some bytes → list_bytes bytes ≡ piece_bytes memory at size }
 {}

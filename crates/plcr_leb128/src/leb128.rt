@@ -1,5 +1,6 @@
 ghost use Rattle.std.specs.Prelude.{◌≡◌, ◌<◌, IfOk};
 ghost use Rattle.plcr_base.specs.Chains.{result_map};
+ghost use Rattle.plcr_leb128.specs.Cells.{bytes_of};
 ghost use Rattle.plcr_leb128.specs.Leb128.{bytes_within, signed_at, unsigned_at};
 ghost use Rattle.plcr_leb128.specs.inner.Forms.{last_group, number_of, with_group};
 
@@ -42,7 +43,7 @@ fn with_group(byte: u8, high: u64) -> u64
 // The number at a place, of so many bytes at most.
 #[tactic(auto, using(crate::proofs::Forms::ends, crate::proofs::Forms::is_absent, crate::proofs::Forms::is_long, crate::proofs::Forms::goes_on, crate::proofs::Forms::fails_on))]
 fn read<C: Cells>(cells: &C, form: Form, left: u32, place: u64) -> Result<Number, Leb128Fault>
-    ensures number { result ≡ result_map (number_of form place) (bytes_within left (C.cells cells.now) place) }
+    ensures number { result ≡ result_map (number_of form place) (bytes_within left (bytes_of (C.cells cells.now)) place) }
     ensures behind { IfOk result (λ number. place < number.next) }
 {
     if left == 0 {
@@ -67,7 +68,7 @@ fn read<C: Cells>(cells: &C, form: Form, left: u32, place: u64) -> Result<Number
 /// The unsigned LEB128 number at a place, modulo 2^64 (DWARF 4, section 7.6).
 #[tactic(auto, unfolding(crate::specs::Leb128::leb128_bytes))]
 pub fn read_unsigned<C: Cells>(cells: &C, place: u64) -> Result<Number, Leb128Fault>
-    ensures number { result ≡ unsigned_at (C.cells cells.now) place }
+    ensures number { result ≡ unsigned_at (bytes_of (C.cells cells.now)) place }
     ensures behind { IfOk result (λ number. place < number.next) }
 {
     read(cells, Form::Unsigned, MOST_BYTES, place)
@@ -76,7 +77,7 @@ pub fn read_unsigned<C: Cells>(cells: &C, place: u64) -> Result<Number, Leb128Fa
 /// The signed LEB128 number at a place, in two's complement modulo 2^64 (DWARF 4, section 7.6).
 #[tactic(auto, unfolding(crate::specs::Leb128::leb128_bytes))]
 pub fn read_signed<C: Cells>(cells: &C, place: u64) -> Result<Number, Leb128Fault>
-    ensures number { result ≡ signed_at (C.cells cells.now) place }
+    ensures number { result ≡ signed_at (bytes_of (C.cells cells.now)) place }
     ensures behind { IfOk result (λ number. place < number.next) }
 {
     read(cells, Form::Signed, MOST_BYTES, place)

@@ -29,9 +29,10 @@ impl Cells for Stored<'_> {
     #[tactic(auto, using(crate::proofs::Fixed::list_has, crate::proofs::Fixed::list_lacks))]
     fn has(&self, place: u64, count: u64) -> bool {
         let size = self.0.len() as u64;
-        count == 0 || count <= size && place <= size - count
+        count <= size && place <= size - count
     }
 
+    #[tactic(auto, using(crate::proofs::Fixed::list_byte, crate::proofs::Fixed::list_end))]
     fn read_u8(&self, place: u64) -> Option<u8> {
         let index = self.index(place, 1)?;
         Some(self.0[index])

@@ -144,13 +144,14 @@ fn reads_at_their_places<C: Cells>(cells: &C) -> bool {
         && cells.read_u64(u64::MAX).is_none()
         && cells.has(1, 8)
         && !cells.has(2, 8)
-        && cells.has(u64::MAX, 0)
+        && cells.has(9, 0)
         && !cells.has(u64::MAX, u64::MAX)
 }
 
 #[test]
 fn fixed_numbers(rt: HostRuntime) -> Result<(), Fail> {
     assert!(rt; reads_at_their_places(&Stored(&COUNTING)));
+    assert!(rt; !Stored(&COUNTING).has(10, 0));
     let memory = memory_of(rt.alloc(), &COUNTING, 0x2000)?;
     assert!(rt; reads_at_their_places(&Piece::new(&memory, 0x2000, 9)));
     // Memory ends before the piece does.
@@ -163,5 +164,46 @@ fn fixed_numbers(rt: HostRuntime) -> Result<(), Fail> {
     // The last bytes of all addresses.
     let memory = memory_of(rt.alloc(), &COUNTING, 0u64.wrapping_sub(9))?;
     assert!(rt; reads_at_their_places(&Piece::new(&memory, 0u64.wrapping_sub(9), u64::MAX)));
+    Ok(())
+}
+
+// The front bytes at the last addresses, and the rest from address 0 on.
+fn memory_around(alloc: Global, front: &[u8], rest: &[u8]) -> Result<Memory, MemoryFault> {
+    let mut file = front.to_vec(alloc)?;
+    file.extend_from_slice(rest)?;
+    let last = Region {
+        start: 0u64.wrapping_sub(front.len() as u64),
+        size: front.len() as u64,
+        from: 0,
+        len: front.len(),
+    };
+    let first = Region {
+        start: 0,
+        size: rest.len() as u64,
+        from: front.len(),
+        len: rest.len(),
+    };
+    let regions = [last, first].to_vec(alloc)?;
+    if are_backed(file.as_slice(), regions.as_slice()) {
+        Memory::new(alloc, file, regions)
+    } else {
+        Err(MemoryFault::Memory)
+    }
+}
+
+#[test]
+fn behind_the_last_address_comes_0(rt: HostRuntime) -> Result<(), Fail> {
+    let memory = memory_around(rt.alloc(), &[0xe5], &[0x8e, 0x26, 0x07, 0x08])?;
+    let piece = Piece::new(&memory, u64::MAX, 5);
+    assert!(rt; reads(&piece, 3, 624_485, 624_485));
+    assert_eq!(rt; piece.read_u8(0), Some(0xe5));
+    assert_eq!(rt; piece.read_u8(1), Some(0x8e));
+    assert_eq!(rt; piece.read_u8(5), None);
+    // A number of a fixed size doesn't pass 2^64.
+    assert_eq!(rt; piece.read_u16(0), None);
+    assert_eq!(rt; piece.read_u16(1), Some(0x268e));
+    assert_eq!(rt; piece.read_u32(0), None);
+    assert_eq!(rt; piece.read_u32(1), Some(0x0807_268e));
+    assert!(rt; piece.has(0, 1) && piece.has(1, 4) && !piece.has(0, 2) && !piece.has(1, 5));
     Ok(())
 }
