@@ -4,7 +4,7 @@ use Rattle.std.proofs.lemmas.Bool.Decides.{nat_tests}
 use Rattle.std.specs.Prelude.{◌≤◌, ◌^◌, Some}
 use Rattle.plcr_memory.specs.Regions.{Contents, bytes_at}
 use Rattle.plcr_regs.specs.declared.registers.Registers.{Registers}
-use Rattle.plcr_leb128.specs.Cells.{Bytes, addressable, list_bytes, piece_bytes}
+use Rattle.plcr_leb128.specs.Cells.{Source, list_bytes}
 use Rattle.plcr_leb128.proofs.Fixed.{stored_bytes}
 use Rattle.plcr_dwarf_expr.specs.declared.limits.TheConstants.{MOST_OPERATIONS}
 use Rattle.plcr_dwarf_expr.specs.declared.fault.ExprFault.{ExprFault}
@@ -64,6 +64,4 @@ run_out s place stack h = ap (λ k. run_from s k (moment place stack)) left_none
 pub stored_value : (memory : Contents) (registers : Registers) (at size : ℕ) (bytes : List ℕ) (start : Option ℕ) → bytes_at memory at size ≡ Some bytes → at + size ≤ 2 ^ 64
     → value_of (record { code = list_bytes bytes; size = size; memory = memory; registers = registers }) start ≡ value_of (setting_at memory registers at size) start
 stored_value memory registers at size bytes start there within =
-    let all : size ≡ addressable at size = omega arith in
-    let same : list_bytes bytes ≡ piece_bytes memory at (addressable at size) = stored_bytes memory at size bytes there ∙ ap (λ n. piece_bytes memory at n) all in
-    ap (λ (code : Bytes). value_of (record { code = code; size = size; memory = memory; registers = registers }) start) same
+    ap (λ (code : Source). value_of (record { code = code; size = size; memory = memory; registers = registers }) start) (stored_bytes memory at size bytes within there)

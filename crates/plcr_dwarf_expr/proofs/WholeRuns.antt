@@ -1,11 +1,11 @@
 -- The value of an expression, and its runs.
-use Rattle.std.proofs.Common.{◌≡◌, ◌≢◌, ◌≤◌, inl, inr, ℕ, zero, suc, ◌-◌, List, [], ◌∷◌, length, Option, None, Ok, Err, refl, sym, ap, ◌∙◌, arith}
+use Rattle.std.proofs.Common.{◌≡◌, ◌≢◌, ◌≤◌, inl, inr, ℕ, zero, suc, List, [], ◌∷◌, length, Option, None, Ok, Err, refl, sym, ap, ◌∙◌, arith}
 use Rattle.std.proofs.lemmas.Bool.{cases_eq}
 use Rattle.plcr_base.proofs.Chained.{bind_ok, bind_err}
 use Rattle.plcr_memory.specs.Regions.{Contents}
 use Rattle.plcr_regs.specs.declared.registers.Registers.{Registers}
-use Rattle.plcr_leb128.specs.Cells.{addressable}
-use Rattle.plcr_leb128.proofs.Fixed.{piece_past}
+use Rattle.plcr_leb128.specs.Cells.{bytes_of}
+use Rattle.plcr_leb128.proofs.Fixed.{piece_end}
 use Rattle.plcr_dwarf_expr.specs.declared.limits.TheConstants.{MOST_OPERATIONS}
 use Rattle.plcr_dwarf_expr.specs.declared.fault.ExprFault.{ExprFault}
 use Rattle.plcr_dwarf_expr.specs.declared.fault.ExprFault.TheVariants.{Truncated, Budget}
@@ -15,12 +15,12 @@ use Rattle.plcr_dwarf_expr.proofs.Running.{not_equal, run_ends}
 
 -- the code has no byte at its end
 record Closed (s : Setting) : Type 0 where
-  pub none : s.code s.size ≡ None
+  pub none : bytes_of s.code s.size ≡ None
 
 -- so no operation stands there
 no_step : (s : Setting) → Closed s → (m next : Moment) → step_from s m ≡ Ok next → m.place ≢ s.size
 no_step s closed m next goes at_end =
-    let none : s.code m.place ≡ None = ap s.code at_end ∙ closed.none in
+    let none : bytes_of s.code m.place ≡ None = ap (bytes_of s.code) at_end ∙ closed.none in
     let fails : step_from s m ≡ Err Truncated = rw none refl in
     cc
 
@@ -124,7 +124,7 @@ run_fault s closed (suc most) m (next ∷ moments) fault fewer follows stops =
     (run_fault s closed most next moments fault (omega arith) follows.1 (fewer_stops s most (length moments) (last_of next moments) fault stops))
 
 closed_at : (memory : Contents) (registers : Registers) (at size : ℕ) → Closed (setting_at memory registers at size)
-closed_at memory registers at size = record { none = piece_past memory at (addressable at size) size (omega arith) }
+closed_at memory registers at size = record { none = piece_end memory at size size (omega arith) }
 
 pub value_has_run : (memory : Contents) (registers : Registers) (at size : ℕ) (start : Option ℕ) (value : ℕ)
     → value_of (setting_at memory registers at size) start ≡ Ok value → HasValue (setting_at memory registers at size) start value

@@ -4,7 +4,7 @@ use Rattle.std.specs.Int.{w8, w16, w32, w64, cast_signed}
 use Rattle.plcr_base.specs.Chains.{◌>>=◌}
 use Rattle.plcr_leb128.specs.declared.fault.Leb128Fault.{Leb128Fault}
 use Rattle.plcr_leb128.specs.declared.leb128.Number.{Number}
-use Rattle.plcr_leb128.specs.Cells.{Bytes, number_in}
+use Rattle.plcr_leb128.specs.Cells.{Source, bytes_of, number_in}
 use Rattle.plcr_leb128.specs.Leb128.{unsigned_at, signed_at}
 use Rattle.plcr_dwarf_expr.specs.declared.opcodes.TheConstants.{DW_OP_addr, DW_OP_deref, DW_OP_const1u, DW_OP_const1s, DW_OP_const2u, DW_OP_const2s, DW_OP_const4u, DW_OP_const4s, DW_OP_const8u, DW_OP_const8s, DW_OP_constu, DW_OP_consts, DW_OP_dup, DW_OP_drop, DW_OP_over, DW_OP_pick, DW_OP_swap, DW_OP_rot, DW_OP_abs, DW_OP_and, DW_OP_div, DW_OP_minus, DW_OP_mod, DW_OP_mul, DW_OP_neg, DW_OP_not, DW_OP_or, DW_OP_plus, DW_OP_plus_uconst, DW_OP_shl, DW_OP_shr, DW_OP_shra, DW_OP_xor, DW_OP_bra, DW_OP_eq, DW_OP_ge, DW_OP_gt, DW_OP_le, DW_OP_lt, DW_OP_ne, DW_OP_skip, DW_OP_lit0, DW_OP_lit31, DW_OP_reg0, DW_OP_reg31, DW_OP_breg0, DW_OP_breg31, DW_OP_regx, DW_OP_bregx, DW_OP_deref_size, DW_OP_nop}
 use Rattle.plcr_dwarf_expr.specs.declared.fault.ExprFault.{ExprFault}
@@ -24,16 +24,16 @@ use Rattle.plcr_dwarf_expr.specs.declared.operation.Decoded.{Decoded}
 
 -- what an opcode reads behind itself, from a place on
 abbrev pub Reading : Type 0
-Reading = Bytes → ℕ → Result Decoded ExprFault
+Reading = Source → ℕ → Result Decoded ExprFault
 
 abbrev pub decoded : Operation → ℕ → Result Decoded ExprFault
 decoded operation next = Ok (record { operation = operation; next = next })
 
 -- a number of a fixed size, where its bytes are there
-abbrev pub byte : Bytes → ℕ → Result ℕ ExprFault
-byte code at = ok_or (code at) Truncated
+abbrev pub byte : Source → ℕ → Result ℕ ExprFault
+byte code at = ok_or (bytes_of code at) Truncated
 
-abbrev pub fixed : ℕ → Bytes → ℕ → Result ℕ ExprFault
+abbrev pub fixed : ℕ → Source → ℕ → Result ℕ ExprFault
 fixed size code at = ok_or (number_in size code at) Truncated
 
 -- a LEB128 number; both of its faults are one
@@ -52,14 +52,14 @@ abbrev pub more : ℕ → (ℕ → Operation) → Reading
 more size make code at = fixed size code at >>= λ n. decoded (make n) (at + size)
 
 abbrev pub unsigned : (ℕ → Operation) → Reading
-unsigned make code at = whole (unsigned_at code at) >>= λ n. decoded (make n.value) n.next
+unsigned make code at = whole (unsigned_at (bytes_of code) at) >>= λ n. decoded (make n.value) n.next
 
 abbrev pub signed : (ℕ → Operation) → Reading
-signed make code at = whole (signed_at code at) >>= λ n. decoded (make n.value) n.next
+signed make code at = whole (signed_at (bytes_of code) at) >>= λ n. decoded (make n.value) n.next
 
 -- an unsigned LEB128 number and a signed one behind it
 abbrev pub unsigned_signed : (ℕ → ℕ → Operation) → Reading
-unsigned_signed make code at = whole (unsigned_at code at) >>= λ n. signed (make n.value) code n.next
+unsigned_signed make code at = whole (unsigned_at (bytes_of code) at) >>= λ n. signed (make n.value) code n.next
 
 -- how many bytes DW_OP_deref_size reads: 1, 2, 4 or 8
 abbrev pub width_of : ℕ → Option Width

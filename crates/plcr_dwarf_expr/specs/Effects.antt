@@ -56,9 +56,10 @@ register_value registers (Breg number offset) = register_sum registers number of
 register_value registers (Regx number) = register_sum registers number 0
 register_value registers (Bregx number offset) = register_sum registers number offset
 
--- section 2.5.1.2: room is tested before the register
+-- the value of a register (section 2.6.1.1.2) or its sum with an offset (section 2.5.1.2), where there is room on the stack, which is tested first
 abbrev pub with_register : Registers → RegisterValue → List ℕ → Stacked
-with_register registers value stack = pushed 0 stack >>= λ room. register_value registers value >>= λ word. Ok (word ∷ stack)
+with_register registers value stack =
+    if nat_lt (length stack) MOST_VALUES then (register_value registers value >>= λ word. Ok (word ∷ stack)) else Err Overflow
 
 -- the number at an address
 abbrev pub word_at : Contents → Dereference → ℕ → Option ℕ

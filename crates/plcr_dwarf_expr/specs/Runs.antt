@@ -3,7 +3,7 @@ use Rattle.std.specs.Prelude.{◌≡◌, ◌≢◌, ◌≤◌, ◌⊎◌, ℕ, z
 use Rattle.plcr_base.specs.Chains.{◌>>=◌}
 use Rattle.plcr_memory.specs.Regions.{Contents}
 use Rattle.plcr_regs.specs.declared.registers.Registers.{Registers}
-use Rattle.plcr_leb128.specs.Cells.{Bytes, addressable, piece_bytes}
+use Rattle.plcr_leb128.specs.Cells.{Source, piece_bytes}
 use Rattle.plcr_dwarf_expr.specs.declared.limits.TheConstants.{MOST_OPERATIONS}
 use Rattle.plcr_dwarf_expr.specs.declared.fault.ExprFault.{ExprFault}
 use Rattle.plcr_dwarf_expr.specs.declared.fault.ExprFault.TheVariants.{Underflow, Budget}
@@ -12,7 +12,7 @@ use Rattle.plcr_dwarf_expr.specs.Effects.{Moment, moment, applied}
 
 -- what an expression is evaluated over: its code, of so many bytes, the memory and the registers
 pub record Setting : Type 0 where
-  pub code : Bytes
+  pub code : Source
   pub size : ℕ
   pub memory : Contents
   pub registers : Registers
@@ -42,7 +42,7 @@ value_of s start = run_from s MOST_OPERATIONS (moment 0 (started start))
 
 -- the setting of code that stands in memory
 abbrev pub setting_at : Contents → Registers → ℕ → ℕ → Setting
-setting_at memory registers at size = record { code = piece_bytes memory at (addressable at size); size = size; memory = memory; registers = registers }
+setting_at memory registers at size = record { code = piece_bytes memory at size; size = size; memory = memory; registers = registers }
 
 -- each moment follows from the one before it by the operation at its place
 abbrev pub Follows : Setting → Moment → List Moment → Type 0

@@ -3,7 +3,7 @@ ghost use Rattle.plcr_dwarf_expr.specs.Decoding.{among, operand_rows, operands_o
 
 use crate::fault::ExprFault;
 use crate::opcodes::*;
-use crate::operands::{byte, double, half, signed, unsigned, word};
+use crate::operands::{byte, eight_bytes, four_bytes, signed, two_bytes, unsigned};
 use crate::operation::{
     BinaryOperation, Constant, ControlFlow, Decoded, Dereference, Operation, RegisterValue,
     StackOperation, UnaryOperation, Width,
@@ -77,15 +77,24 @@ fn constant<C: Cells>(code: &C, opcode: u8, at: u64) -> Result<Decoded, ExprFaul
     ensures { result ≡ operands_of opcode (C.cells code.now) at }
 {
     let (constant, next) = match opcode {
-        DW_OP_addr => (Constant::Addr(double(code, at)?), at + 8),
+        DW_OP_addr => (Constant::Addr(eight_bytes(code, at)?), at + 8),
         DW_OP_const1u => (Constant::Const1u(byte(code, at)?), at + 1),
         DW_OP_const1s => (Constant::Const1s(byte(code, at)?.cast_signed()), at + 1),
-        DW_OP_const2u => (Constant::Const2u(half(code, at)?), at + 2),
-        DW_OP_const2s => (Constant::Const2s(half(code, at)?.cast_signed()), at + 2),
-        DW_OP_const4u => (Constant::Const4u(word(code, at)?), at + 4),
-        DW_OP_const4s => (Constant::Const4s(word(code, at)?.cast_signed()), at + 4),
-        DW_OP_const8u => (Constant::Const8u(double(code, at)?), at + 8),
-        DW_OP_const8s => (Constant::Const8s(double(code, at)?.cast_signed()), at + 8),
+        DW_OP_const2u => (Constant::Const2u(two_bytes(code, at)?), at + 2),
+        DW_OP_const2s => (
+            Constant::Const2s(two_bytes(code, at)?.cast_signed()),
+            at + 2,
+        ),
+        DW_OP_const4u => (Constant::Const4u(four_bytes(code, at)?), at + 4),
+        DW_OP_const4s => (
+            Constant::Const4s(four_bytes(code, at)?.cast_signed()),
+            at + 4,
+        ),
+        DW_OP_const8u => (Constant::Const8u(eight_bytes(code, at)?), at + 8),
+        DW_OP_const8s => (
+            Constant::Const8s(eight_bytes(code, at)?.cast_signed()),
+            at + 8,
+        ),
         DW_OP_constu => {
             let number = unsigned(code, at)?;
             (Constant::Constu(number.value), number.next)
@@ -113,11 +122,11 @@ fn with_operands<C: Cells>(code: &C, opcode: u8, at: u64) -> Result<Decoded, Exp
             Ok(Operation::Unary(UnaryOperation::PlusUconst(addend.value)).until(addend.next))
         }
         DW_OP_bra => {
-            let by = half(code, at)?.cast_signed();
+            let by = two_bytes(code, at)?.cast_signed();
             Ok(Operation::Control(ControlFlow::Bra(by)).until(at + 2))
         }
         DW_OP_skip => {
-            let by = half(code, at)?.cast_signed();
+            let by = two_bytes(code, at)?.cast_signed();
             Ok(Operation::Control(ControlFlow::Skip(by)).until(at + 2))
         }
         DW_OP_regx => {

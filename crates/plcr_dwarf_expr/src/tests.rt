@@ -187,7 +187,7 @@ fn code_ends_with_memory(rt: HostRuntime) -> Result<(), Fail> {
     ];
     for (code, size, want) in rows {
         let size_of = code.len() as u64;
-        // Behind the code nothing is mapped, or there are no more addresses.
+        // Behind the code nothing is mapped, be it at the last addresses or at 0.
         for at in [CODE, 0u64.wrapping_sub(size_of)] {
             let memory = memory_of(rt.alloc(), at, &[code])?;
             assert_eq!(rt;
@@ -196,6 +196,39 @@ fn code_ends_with_memory(rt: HostRuntime) -> Result<(), Fail> {
                 "{code:?} {size}"
             );
         }
+    }
+    Ok(())
+}
+
+#[test]
+fn behind_the_last_address_comes_0(rt: HostRuntime) -> Result<(), Fail> {
+    let registers = registers(Arch::X86_64);
+    // Code at the last addresses, code from 0 on, and the answer.
+    let rows: [(&[u8], &[u8], Result<u64, ExprFault>); 8] = [
+        (&[0x35], &[0x36], Ok(6)),
+        (&[0x10, 0xff], &[0x7f], Ok(16383)),
+        (&[0x35], &[0x2f, 0x01, 0x00, 0x36, 0x37], Ok(7)),
+        (&[0x35, 0x2f], &[0x01, 0x00, 0x36, 0x37], Ok(7)),
+        (&[0x35, 0x36], &[0x2f, 0xfc, 0xff], Err(ExprFault::Overflow)),
+        // An operand of a fixed size that passes 2^64 isn't mapped.
+        (&[0x0a, 0xff], &[0x7f], Err(ExprFault::Truncated)),
+        (
+            &[0x35, 0x2f, 0x01],
+            &[0x00, 0x36],
+            Err(ExprFault::Truncated),
+        ),
+        (&[0x35], &[0x0a, 0x36], Err(ExprFault::Truncated)),
+    ];
+    for (last, first, want) in rows {
+        let size_of = last.len() as u64;
+        let size = size_of.wrapping_add(first.len() as u64);
+        let at = 0u64.wrapping_sub(size_of);
+        let memory = memory_of(rt.alloc(), at, &[last, first])?;
+        assert_eq!(rt;
+            eval(&memory, &registers, at, size, None),
+            want,
+            "{last:?} {first:?}"
+        );
     }
     Ok(())
 }
