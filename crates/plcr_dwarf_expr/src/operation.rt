@@ -1,4 +1,5 @@
-//! Operations with their operands, by their names in the standard without DW_OP_ (DWARF 4, sections 2.5.1 and 7.7.1).
+//! Operations with their operands, by their names in the standard without DW_OP_ (DWARF 4, sections 2.5.1,
+//! 2.6.1.1.2 and 7.7.1).
 
 /// A constant to be pushed: a literal encoding.
 #[derive(Clone, Copy)]
@@ -20,7 +21,8 @@ pub enum Constant {
     Lit(u8),
 }
 
-/// The value of a register by its DWARF number, or the sum of it and an offset in two's complement modulo 2^64.
+/// The value of a register by its DWARF number (section 2.6.1.1.2), or the sum of it and an offset in two's complement modulo
+/// 2^64 (section 2.5.1.2).
 #[derive(Clone, Copy)]
 pub enum RegisterValue {
     Reg(u8),
