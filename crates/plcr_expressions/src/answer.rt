@@ -1,6 +1,6 @@
 //! Answers to expressions.
 ghost use Rattle.std.specs.Prelude.{◌≡◌, IfOk};
-ghost use Rattle.plcr_expressions.specs.Alone.{alone, filled_by};
+ghost use Rattle.plcr_expressions.specs.Alone.{alone, filled_by, region};
 
 use crate::line::{Expression, expression_of};
 use plcr_dwarf_expr::{ExprFault, eval};
@@ -13,7 +13,7 @@ use std::fmt;
 pub enum Answer {
     Value(u64),
     Fault(ExprFault),
-    /// The line tells no expression, or its code has no place in memory.
+    /// The line tells no expression.
     NoExpression,
 }
 
@@ -37,20 +37,34 @@ impl fmt::Display for Answer {
     }
 }
 
-// The one region that the code fills, where it has a byte.
+// The region that so many bytes of the code fill.
+fn region(start: u64, from: usize, len: usize) -> Region
+    ensures { result ≡ region start from len }
+{
+    Region {
+        start,
+        size: len as u64,
+        from,
+        len,
+    }
+}
+
+// The regions that the code fills: two where it goes on at address 0 behind the last one.
 fn regions_of(alloc: Global, at: u64, len: usize) -> Result<Vec<Region>, AllocError>
     ensures { IfOk result (λ regions. regions.items ≡ filled_by at len) }
 {
     let mut regions = Vec::new(alloc);
-    if len > 0 {
-        regions.push(Region {
-            start: at,
-            size: len as u64,
-            from: 0,
-            len,
-        })?;
+    if len == 0 {
         return Ok(regions);
     }
+    let last = u64::MAX - at;
+    if (len - 1) as u64 <= last {
+        regions.push(region(at, 0, len))?;
+        return Ok(regions);
+    }
+    let front = last as usize + 1;
+    regions.push(region(at, 0, front))?;
+    regions.push(region(0, front, len - front))?;
     Ok(regions)
 }
 
