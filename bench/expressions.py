@@ -6,7 +6,9 @@
 
 PROGRAM is the proved program, by default crates/plcr_expressions/out/plcr_expressions (`rt run` in crates/plcr_expressions
 leaves it). Each of COUNT expressions, by default 100,000, is evaluated by both, and the answers are compared. Some are
-random bytes; most are operations in a row, with numbers near the ends of their ranges, jumps, and addresses in the code.
+random bytes; most are operations in a row, with numbers near the ends of their ranges, jumps, and addresses in the code. Some
+code goes on at address 0 behind the last address. It fails where answers differ, where some fault was never reached, and
+where no code that goes on at 0 had a value, or an operand that passes 2^64.
 """
 import os
 import random
@@ -42,14 +44,23 @@ class Reader:
         self.places, self.at, self.code, self.registers = PLACES[arch], at, code, registers
         self.stack = [] if start is None else [start]
         self.place = 0
+        self.passed = False  # whether an operand whose bytes are there passed 2^64
 
     def byte(self):
-        if self.place >= len(self.code) or self.at + self.place >= WORD:
+        if self.place >= len(self.code):
             raise Fault("Truncated")
         self.place += 1
         return self.code[self.place - 1]
 
+    def mapped(self, at, size):
+        """Whether so many bytes at an address are of the code; together they don't pass 2^64."""
+        return at + size <= WORD and (at - self.at) % WORD + size <= len(self.code)
+
     def number(self, size):
+        at = (self.at + self.place) % WORD
+        if not self.mapped(at, size):
+            self.passed = self.passed or at + size > WORD and self.place + size <= len(self.code)
+            raise Fault("Truncated")
         return int.from_bytes(bytes(self.byte() for _ in range(size)), "little")
 
     def leb(self, with_sign):
@@ -86,9 +97,10 @@ class Reader:
 
     def load(self, size):
         at = self.pop()
-        if at < self.at or at + size > self.at + len(self.code) or at + size > WORD:
+        if not self.mapped(at, size):
             raise Fault("Unmapped %d" % at)
-        self.push(int.from_bytes(self.code[at - self.at:at - self.at + size], "little"))
+        place = (at - self.at) % WORD
+        self.push(int.from_bytes(self.code[place:place + size], "little"))
 
     def jump(self, by):
         target = self.place + by
@@ -189,6 +201,7 @@ class Reader:
             return str(fault)
 
 
+FAULTS = ["Truncated", "Unknown", "Underflow", "Overflow", "Unmapped", "NoRegister", "DivideByZero", "Budget", "BadJump"]
 EXTREMES = [0, 1, 2, 63, 64, 65, 127, 128, 255, (1 << 63) - 1, 1 << 63, (1 << 63) + 1, WORD - 1, WORD - 2, WORD - 64]
 
 
@@ -256,7 +269,7 @@ def some_expression(chance):
     at = 0x2000
     code = some_code(chance, at)
     if code and chance.randrange(16) == 0:
-        at = WORD - len(code)
+        at = WORD - chance.randrange(1, len(code) + 1)
     start = chance.choice([None, None, some_number(chance), at, at + 1])
     registers = {place: some_number(chance) for place in range(34) if chance.randrange(3)}
     return arch, at, code, start % WORD if start is not None else None, registers
@@ -278,17 +291,30 @@ def main():
     answers = said.stdout.splitlines()
     if len(answers) != count:
         sys.exit("%d answers to %d expressions" % (len(answers), count))
-    kinds, differences = Counter(), 0
+    kinds, around, passed, differences = Counter(), Counter(), 0, 0
     for line, expression, answer in zip(lines, expressions, answers):
-        want = Reader(*expression).answer()
-        kinds["a value" if want[0].isdigit() else want.split()[0]] += 1
+        reader = Reader(*expression)
+        want = reader.answer()
+        kind = "a value" if want[0].isdigit() else want.split()[0]
+        kinds[kind] += 1
+        if reader.at + len(reader.code) > WORD:
+            around[kind] += 1
+            passed += reader.passed
         if want != answer:
             differences += 1
             if differences <= 10:
                 print("%s\n    wanted %s, the program says %s" % (line, want, answer))
     print("%d expressions, seed %d: %d differences" % (count, seed, differences))
     print(", ".join("%s %d" % kind for kind in kinds.most_common()))
-    sys.exit(1 if differences else 0)
+    print("over 2^64: %d, of which %d have a value and %d an operand that passes it" % (sum(around.values()), around["a value"], passed))
+    missed = [kind for kind in ["a value"] + FAULTS if not kinds[kind]]
+    if not around["a value"]:
+        missed.append("a value of code over 2^64")
+    if not passed:
+        missed.append("an operand over 2^64")
+    if missed:
+        print("never reached: %s" % ", ".join(missed))
+    sys.exit(1 if differences or missed else 0)
 
 
 if __name__ == "__main__":
