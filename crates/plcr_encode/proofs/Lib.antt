@@ -2,5 +2,6 @@ pub mod Lengths
 pub mod Parsed
 pub mod Roots
 pub mod Rows
-pub mod Words
 pub mod ShortNames
+pub mod Told
+pub mod Words

@@ -14,7 +14,7 @@ use Rattle.plcr_encode.proofs.Rows.{fields-each, spelling-append}
 pub spelling-report : (context : Context) (threads : List Registers) (memory : Contents) (listed : List Listed) → spelling (report_message (process_report context threads memory listed)) ≡
     field_spelling (message_field 1 (system_message (system_of context)))
     ++ (field_spelling (message_field 2 (application_message (application_of context)))
-    ++ (spelling (message_fields 3 thread_message (threads_of context.crashed threads))
+    ++ (spelling (message_fields 3 thread_message (threads_of memory listed context threads))
     ++ (spelling (message_fields 4 image_message (images_of memory context.arch listed))
     ++ (field_spelling (message_field 6 (signal_message (signal_of context)))
     ++ (field_spelling (message_field 7 (process_message (process_of context)))

@@ -1,6 +1,5 @@
 -- How a loop writes the rows of a repeated field, one after the other.
-use Rattle.std.proofs.Common.{◌≡◌, ℕ, suc, ◌+◌, ◌-◌, ◌*◌, ◌<◌, ◌≤◌, List, [], ◌∷◌, ◌++◌, length, map, drop, get_or, refl, ap, sym, subst, ◌∙◌, append_assoc, append-nil, length-append, drop-cons, add-one, arith, if◌then◌else◌}
-use Rattle.std.proofs.Math.Nat.{mul-suc}
+use Rattle.std.proofs.Common.{◌≡◌, ℕ, suc, ◌+◌, ◌-◌, ◌<◌, List, [], ◌∷◌, ◌++◌, length, map, drop, get_or, refl, ap, sym, subst, ◌∙◌, append_assoc, append-nil, length-append, drop-cons, add-one, arith, if◌then◌else◌}
 use Rattle.std.specs.List.{range_with_len, enumerate_from}
 use Rattle.plcr_wire.specs.Pen.{Pen, Wrote}
 use Rattle.plcr_wire.specs.Message.{Field, spelling, field_spelling, number_field, message_field}

@@ -1,4 +1,5 @@
 pub mod Conditions
+pub mod Frames
 pub mod Images
 pub mod Values
 pub mod inner

@@ -1,11 +1,10 @@
 -- The value of the report of a stopped process: what is handed in, its threads and its images.
-use Rattle.std.specs.Prelude.{ℕ, pos, true, ◌==◌, List, [], ◌∷◌, map, Some, None, unwrap_or, slice_index_or}
+use Rattle.std.specs.Prelude.{ℕ, pos, true, ◌==◌, List, [], map, Some, None, unwrap_or, slice_index_or}
 use Rattle.std.specs.List.{enumerate_from, range_with_len}
 use Rattle.plcr_regs.specs.declared.arch.Arch.{Arch}
 use Rattle.plcr_regs.specs.declared.arch.Arch.TheVariants.{X86_64, Arm64}
 use Rattle.plcr_regs.specs.declared.registers.Registers.{Registers}
 use Rattle.plcr_regs.specs.Names.{register_count, register_names}
-use Rattle.plcr_regs.specs.Places.{pc_place}
 use Rattle.plcr_report.specs.declared.messages.Report.{Report}
 use Rattle.plcr_report.specs.declared.messages.System.{System}
 use Rattle.plcr_report.specs.declared.messages.Application.{Application}
@@ -19,6 +18,7 @@ use Rattle.plcr_report.specs.declared.messages.Info.{Info}
 use Rattle.plcr_memory.specs.Regions.{Contents}
 use Rattle.plcr_macho.specs.Images.{Listed}
 use Rattle.plcr_encode.specs.declared.context.Context.{Context}
+use Rattle.plcr_encode.specs.Frames.{thread_frames}
 use Rattle.plcr_encode.specs.Images.{images_of}
 
 -- the number by which crash_report.proto names an architecture; it has none for arm64, which is written as 6
@@ -38,30 +38,22 @@ register_at state i = record { name = slice_index_or (register_names state.arch)
 abbrev pub registers_of : Registers → List Register
 registers_of state = map (register_at state) (range_with_len 0 (register_count state.arch))
 
--- the program counters of the frames of a thread that was stopped in this state: today that of the one that it was stopped in
-abbrev pub pcs_of : Registers → List ℕ
-pcs_of state = value_at state (pc_place state.arch) ∷ []
-
--- a frame by its program counter, with no symbol
-abbrev pub frame_at : ℕ → Frame
-frame_at pc = record { pc = pc; symbol = None }
-
--- a thread by its number, its frames' program counters and its state, where `crashed` is the number of the thread that crashed
-abbrev pub thread_with : ℕ → ℕ → List ℕ → Registers → Thread
-thread_with crashed number pcs state = record {
+-- a thread by its number, its frames and its state, where `crashed` is the number of the thread that crashed
+abbrev pub thread_with : ℕ → ℕ → List Frame → Registers → Thread
+thread_with crashed number frames state = record {
   thread_number = number;
-  frames = map frame_at pcs;
+  frames = frames;
   crashed = number == crashed;
   registers = registers_of state;
 }
 
--- a thread by its number and its state
-abbrev pub thread_of : ℕ → ℕ × Registers → Thread
-thread_of crashed thread = thread_with crashed thread.0 (pcs_of thread.1) thread.1
+-- a thread by its number and its state, in a process with this memory and these loaded images
+abbrev pub thread_of : Contents → List Listed → Context → ℕ × Registers → Thread
+thread_of memory listed context thread = thread_with context.crashed thread.0 (thread_frames memory listed context.bits thread.1) thread.1
 
 -- the threads in these states, numbered from 0
-abbrev pub threads_of : ℕ → List Registers → List Thread
-threads_of crashed states = map (thread_of crashed) (enumerate_from 0 states)
+abbrev pub threads_of : Contents → List Listed → Context → List Registers → List Thread
+threads_of memory listed context states = map (thread_of memory listed context) (enumerate_from 0 states)
 
 abbrev pub system_of : Context → System
 system_of context = record {
@@ -92,17 +84,17 @@ abbrev pub info_of : Context → Info
 info_of context = record { user_requested = context.user; uuid = None }
 
 -- the report of a process with these threads and images
-unfoldable pub report_of : Context → List Registers → List Image → Report
+unfoldable pub report_of : Context → List Thread → List Image → Report
 report_of context threads images = record {
   system_info = system_of context;
   application_info = application_of context;
-  threads = threads_of context.crashed threads;
+  threads = threads;
   binary_images = images;
   signal = signal_of context;
   process_info = Some (process_of context);
   report_info = Some (info_of context);
 }
 
--- the report of a process with these threads, this memory and these loaded images
+-- the report of a process with threads in these states, this memory and these loaded images
 abbrev pub process_report : Context → List Registers → Contents → List Listed → Report
-process_report context threads memory listed = report_of context threads (images_of memory context.arch listed)
+process_report context states memory listed = report_of context (threads_of memory listed context states) (images_of memory context.arch listed)

@@ -3,6 +3,7 @@
 
 mod context;
 mod fields;
+mod frame_rows;
 mod frames;
 mod images;
 mod names;

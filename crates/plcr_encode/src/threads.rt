@@ -1,18 +1,26 @@
 //! The threads of a report, with their registers.
 ghost use Rattle.std.specs.Prelude.{◌≡◌, ◌*◌, ◌^◌, ◌<◌, ◌≤◌, length};
+ghost use Rattle.plcr_cursor.specs.Walks.{IsIndex};
 ghost use Rattle.plcr_regs.specs.declared.limits.TheConstants.{MOST_REGISTERS};
 ghost use Rattle.plcr_wire.specs.Pen.{Wrote};
 ghost use Rattle.plcr_wire.specs.Message.{spelling};
 ghost use Rattle.plcr_report.specs.Messages.{register_message, thread_message};
 ghost use Rattle.plcr_encode.specs.inner.Rows.{message_fields};
 ghost use Rattle.plcr_regs.specs.Names.{register_count};
-ghost use Rattle.plcr_encode.specs.Values.{register_at, registers_of, threads_of};
+ghost use Rattle.plcr_encode.specs.Conditions.{AreWhole};
+ghost use Rattle.plcr_encode.specs.Values.{register_at, registers_of, threads_of, value_at};
 
+use crate::context::Context;
 use crate::fields::{
     Message, flag_len, message_len, number_len, put_flag, put_message, put_number, put_text,
     text_len,
 };
-use crate::frames::{find_frames, frames_len, put_frames, value};
+use crate::frame_rows::{FrameRow, frames_len, put_frames};
+use crate::frames::find_frames;
+use arrayvec::ArrayVec;
+use plcr_cursor::MOST_FRAMES;
+use plcr_macho::Images;
+use plcr_memory::Memory;
 use plcr_regs::{Registers, count, name};
 use plcr_report::{Register, Report, Thread};
 use plcr_wire::Ink;
@@ -49,6 +57,14 @@ impl Message for RegisterPart {
     ghost moderate = { lit< tt };
 }
 
+/// A register's value. In the states that are written each register is known.
+fn value(state: &Registers, i: usize) -> u64
+    requires { i < MOST_REGISTERS }
+    ensures { result ≡ value_at state.now i }
+{
+    state.value[i].unwrap_or(0)
+}
+
 /// Register `i` of a state.
 fn register(state: &Registers, i: usize) -> RegisterPart
     requires { i < register_count state.now.arch }
@@ -83,31 +99,32 @@ fn put_registers<W: Ink>(ink: &mut W, state: &Registers)
     }
 }
 
-/// A thread: its number, that of the thread that crashed, the program counters of its frames, and its state.
+/// A thread: its number, that of the thread that crashed, the rows of its frames, and its state.
 #[derive(Drop)]
 struct ThreadPart<'a> {
     number: u32,
     crashed: u32,
-    pcs: &'a [u64],
+    rows: &'a [FrameRow],
     state: &'a Registers,
 }
 
 impl Message for ThreadPart<'_> {
-    ghost use Rattle.std.specs.Prelude.{◌^◌, ◌≤◌, length};
+    ghost use Rattle.std.specs.Prelude.{◌^◌, ◌≤◌, length, map};
     ghost use Rattle.std.proofs.Common.{lit<};
-    ghost use Rattle.plcr_encode.specs.declared.frames.TheConstants.{MOST_FRAMES};
+    ghost use Rattle.plcr_cursor.specs.declared.limits.TheConstants.{MOST_FRAMES};
     ghost use Rattle.plcr_report.specs.Messages.{thread_message};
+    ghost use Rattle.plcr_encode.specs.inner.FrameRows.{frame_in};
     ghost use Rattle.plcr_encode.specs.Values.{thread_with};
 
-    ghost fields = { λ part. thread_message (thread_with part.crashed part.number part.pcs.now part.state.now) };
+    ghost fields = { λ part. thread_message (thread_with part.crashed part.number (map frame_in part.rows.now) part.state.now) };
 
-    ghost fits = { λ part. length part.pcs.now ≤ MOST_FRAMES };
+    ghost fits = { λ part. length part.rows.now ≤ MOST_FRAMES };
 
     ghost most = { 2 ^ 15 };
 
     fn len(&self) -> u64 {
         number_len(Thread::THREAD_NUMBER, self.number as u64)
-            + frames_len(self.pcs)
+            + frames_len(self.rows)
             + flag_len(Thread::CRASHED, self.number == self.crashed)
             + registers_len(self.state)
     }
@@ -115,7 +132,7 @@ impl Message for ThreadPart<'_> {
     #[tactic(auto, using(plcr_wire::proofs::Writing::wrote_twice, plcr_wire::proofs::Writing::wrote_none))]
     fn put<W: Ink>(&self, ink: &mut W) {
         put_number(ink, Thread::THREAD_NUMBER, self.number as u64);
-        put_frames(ink, self.pcs);
+        put_frames(ink, self.rows);
         put_flag(ink, Thread::CRASHED, self.number == self.crashed);
         put_registers(ink, self.state);
     }
@@ -124,20 +141,33 @@ impl Message for ThreadPart<'_> {
 }
 
 /// Writes the threads in these states, numbered from 0, and gives the length of what was written. The
-/// frames of a thread are found once, and kept while it is sized and written.
-pub(crate) fn put_threads<W: Ink>(ink: &mut W, states: &[Registers], crashed: u32) -> u64
-    requires { length states.now < 2 ^ 32 }
-    ensures wrote { Wrote (W.pen ink.old) (W.pen ink.new) (spelling (message_fields 3 thread_message (threads_of crashed states.now))) }
-    ensures size { result ≡ length (spelling (message_fields 3 thread_message (threads_of crashed states.now))) }
+/// frames of a thread are found once, and kept in the rows while it is sized and written.
+pub(crate) fn put_threads<I: Images, W: Ink>(
+    ink: &mut W,
+    rows: &mut ArrayVec<FrameRow, MOST_FRAMES>,
+    images: &mut I,
+    memory: &Memory,
+    states: &[Registers],
+    context: &Context,
+) -> u64
+    requires whole { AreWhole context.now.arch states.now }
+    requires bits { (32 ≤ context.now.bits) × (context.now.bits ≤ 64) }
+    requires index { IsIndex memory.now context.now.arch (I.images images.old) (I.extents images.old) }
+    ensures wrote { Wrote (W.pen ink.old) (W.pen ink.new) (spelling (message_fields 3 thread_message (threads_of memory.now (I.images images.old) context.now states.now))) }
+    ensures size { result ≡ length (spelling (message_fields 3 thread_message (threads_of memory.now (I.images images.old) context.now states.now))) }
     ensures short { result < 2 ^ 50 }
+    ensures same { I.images images.new ≡ I.images images.old }
+    ensures follows { I.follows images.old images.new }
 {
     let mut length = 0;
     for (number, state) in states.iter().enumerate() {
-        let pcs = find_frames(state);
+        // A read tells the proof how many places a state has.
+        let _first = state.value[0];
+        find_frames(rows, images, memory, state, context.bits);
         let part = ThreadPart {
             number: number as u32,
-            crashed,
-            pcs: pcs.as_slice(),
+            crashed: context.crashed,
+            rows: rows.as_slice(),
             state,
         };
         length += put_message(ink, Report::THREADS, &part);

@@ -10,10 +10,14 @@ use Rattle.plcr_encode.proofs.threads.put_threads.Given as goal
 -- the threads before this number are written, those from it on are left, and length is that of what is written
 abbrev pub invariant-loop-number : goal.invariant-loop-number
 invariant-loop-number g l =
-    let left = spelling (message_fields 3 thread_message (map (thread_of l.crashed) (enumerate_from l.number (drop l.number l.states)))) in
-    let all = spelling (message_fields 3 thread_message (threads_of l.crashed l.states)) in
+    let listed = g.I.Images.images l.fn.images in
+    let left = spelling (message_fields 3 thread_message (map (thread_of l.memory listed l.context) (enumerate_from l.number (drop l.number l.states)))) in
+    let all = spelling (message_fields 3 thread_message (threads_of l.memory listed l.context l.states)) in
     record {
       wrote : WroteUpTo (g.W.Put.pen l.initial.ink) (g.W.Put.pen l.ink) all left;
       size : l.length + length left ≡ length all;
       short : l.length ≤ 32788 * l.number;
+      same : g.I.Images.images l.images ≡ listed;
+      still : g.I.Images.extents l.images ≡ g.I.Images.extents l.fn.images;
+      follows : g.I.Images.follows l.fn.images l.images;
     }

@@ -1,4 +1,3 @@
-use Rattle.std.proofs.Common.{ap, ◌∙◌, length, arith}
 use Rattle.plcr_encode.proofs.ShortNames.{name_short}
 use Rattle.plcr_encode.proofs.threads.register.Goals as goal
 
