@@ -1,5 +1,5 @@
 -- The reports of the process that a core holds, in the contexts of a script.
-use Rattle.std.proofs.Common.{◌≡◌, List, ap, ◌∙◌, arith}
+use Rattle.std.proofs.Common.{◌≡◌, List, ap, arith}
 use Rattle.plcr_regs.specs.declared.arch.Arch.{Arch}
 use Rattle.plcr_regs.specs.declared.registers.Registers.{Registers}
 use Rattle.plcr_core.specs.declared.read.Core.{Core}
@@ -8,8 +8,7 @@ use Rattle.plcr_macho.specs.Images.{Listed}
 use Rattle.plcr_report.specs.Spelling.{spelling_of}
 use Rattle.plcr_encode.specs.declared.context.Context.{Context}
 use Rattle.plcr_encode.specs.Conditions.{AreWhole}
-use Rattle.plcr_encode.specs.Images.{images_of}
-use Rattle.plcr_encode.specs.Values.{report_of, process_report}
+use Rattle.plcr_encode.specs.Values.{process_report}
 use Rattle.plcr_script.specs.Contexts.{context_of, SaysSame}
 use Rattle.plcr_script.specs.Scripts.{ScriptValue}
 use Rattle.plcr_script.proofs.SameContexts.{same_report}
@@ -26,7 +25,4 @@ threads_writable arch threads are = record {
 pub report_is : (core : Core) (script : ScriptValue) (context : Context) → SaysSame context (context_of script core.arch) → (images : List Listed) → spelling_of (process_report context core.threads core.memory images) ≡ report_bytes core script images
 unfolding report_bytes
 report_is core script context same images =
-    let own = context_of script core.arch in
-    ap spelling_of
-    (same_report context own core.threads (images_of core.memory context.arch images) same
-    ∙ ap (λ (arch : Arch). report_of own core.threads (images_of core.memory arch images)) same.arch)
+    ap spelling_of (same_report context (context_of script core.arch) core.threads core.memory images same)
