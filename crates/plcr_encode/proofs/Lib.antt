@@ -1,3 +1,4 @@
+pub mod KnownRegisters
 pub mod Lengths
 pub mod Parsed
 pub mod Roots
