@@ -32,10 +32,11 @@ use Rattle.plcr_macho.proofs.Reading.{memory_is_plain}
 use Rattle.plcr_report.specs.Spelling.{spelling_of}
 use Rattle.plcr_encode.specs.declared.context.Context.{Context}
 use Rattle.plcr_encode.specs.Images.{image_with, image_of, images_of}
-use Rattle.plcr_encode.specs.Values.{process_report}
+use Rattle.plcr_encode.specs.Values.{process_report, threads_of}
 use Rattle.plcr_decode.specs.Reads.{reads}
-use Rattle.plcr_tool.specs.Laws.{IsHandedContext, AreHandedThreads, IsHandedImage, AreHandedImages, AreHandedListed}
+use Rattle.plcr_tool.specs.Laws.{IsHandedContext, AreHandedStates, IsHandedImage, AreHandedImages, AreHandedListed}
 use Rattle.plcr_tool.proofs.Stored.{IsPiece, first_found, piece_there, four_small, eight_small}
+use Rattle.plcr_tool.proofs.Threaded.{threads_handed}
 use Rattle.plcr_tool.proofs.Written.{written_again}
 
 -- a load command of bytes, as long as its kind asks for
@@ -174,7 +175,8 @@ images_handed m arch listed bytes handed =
     }
 
 -- each report of a process that is written is read again
-pub captured_again : (context : Context) (threads : List Registers) (memory : Contents) (listed : List Listed) → IsHandedContext context → AreHandedThreads context threads → IsBytes memory.file → AreHandedListed listed
-    → reads (spelling_of (process_report context threads memory listed)) ≡ Ok (process_report context threads memory listed)
-captured_again context threads memory listed about states bytes handed =
-    written_again context threads (images_of memory context.arch listed) about states (images_handed memory context.arch listed bytes handed)
+pub captured_again : (context : Context) (states : List Registers) (memory : Contents) (listed : List Listed) → IsHandedContext context → AreHandedStates context states → IsBytes memory.file → AreHandedListed listed
+    → reads (spelling_of (process_report context states memory listed)) ≡ Ok (process_report context states memory listed)
+captured_again context states memory listed about stopped bytes handed =
+    written_again context (threads_of memory listed context states) (images_of memory context.arch listed) about
+    (threads_handed memory listed context states bytes stopped) (images_handed memory context.arch listed bytes handed)

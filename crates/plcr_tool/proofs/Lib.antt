@@ -8,6 +8,7 @@ pub mod Places
 pub mod Shown
 pub mod Stepped
 pub mod Stored
+pub mod Threaded
 pub mod Turned
 pub mod Turning
 pub mod Written

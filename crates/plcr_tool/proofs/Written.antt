@@ -1,32 +1,30 @@
 -- The reports that a capture writes have a file: their numbers have the width of their types, and their bytes are few.
-use Rattle.std.proofs.Common.{◌≡◌, ℕ, pos, zero, suc, ◌+◌, ◌*◌, ◌^◌, ◌<◌, ◌≤◌, Bool, true, false, List, [], ◌∷◌, ◌++◌, length, map, Option, Some, None, Ok, refl, ◌∙◌, arith, length-append, lit<, lit≤}
-use Rattle.std.specs.Prelude.{slice_index_or, unwrap_or, IfSome, nat_le, ◌==◌, if◌then◌else◌}
-use Rattle.std.specs.List.{AllByRecursion, enumerate_from, range_with_len, list_all}
+use Rattle.std.proofs.Common.{◌≡◌, ℕ, pos, zero, suc, ◌+◌, ◌*◌, ◌^◌, ◌<◌, ◌≤◌, Bool, true, false, List, [], ◌∷◌, ◌++◌, length, map, Option, Some, None, Ok, refl, sym, subst, arith, length-append, lit<, lit≤}
+use Rattle.std.specs.Prelude.{IfSome, if◌then◌else◌}
+use Rattle.std.specs.List.{AllByRecursion}
 use Rattle.std.specs.Int.{w64}
-use Rattle.std.proofs.lemmas.List.FromFn.{length-map-range_with_len, length-enumerate_from}
-use Rattle.std.proofs.lemmas.List.{length-map}
-use Rattle.std.proofs.lemmas.Bool.{and_parts, leb-true}
 use Rattle.std.proofs.lemmas.Int.{fits_signed_from_abs}
 use Rattle.std.proofs.Math.Nat.{suc-mul}
 use Rattle.plcr_base.specs.declared.limits.TheConstants.{IMAGE_NAME_BYTES}
 use Rattle.plcr_wire.specs.Message.{Number, Bytes, Field, field_spelling, number_field, bytes_field, spelling}
 use Rattle.plcr_regs.specs.declared.arch.Arch.{Arch}
 use Rattle.plcr_regs.specs.declared.arch.Arch.TheVariants.{X86_64, Arm64}
-use Rattle.plcr_regs.specs.declared.registers.Registers.{Registers}
-use Rattle.plcr_regs.specs.Names.{register_names, register_count}
 use Rattle.plcr_report.specs.Spelling.{file_head, spelling_of}
 use Rattle.plcr_report.specs.Messages.{maybe, each, frame_message, register_message, thread_message, system_message, application_message, processor_message, image_message, signal_message, process_message, info_message, report_message}
 use Rattle.plcr_report.specs.declared.messages.Report.{Report}
 use Rattle.plcr_report.specs.declared.messages.Thread.{Thread}
+use Rattle.plcr_report.specs.declared.messages.Frame.{Frame}
+use Rattle.plcr_report.specs.declared.messages.Symbol.{Symbol}
+use Rattle.plcr_report.specs.declared.messages.Register.{Register}
 use Rattle.plcr_report.specs.declared.messages.Image.{Image}
 use Rattle.plcr_report.specs.declared.messages.Processor.{Processor}
 use Rattle.plcr_encode.specs.declared.context.Context.{Context}
-use Rattle.plcr_encode.specs.Values.{report_of, architecture_number, value_at, register_at, registers_of, pcs_of, frame_at, thread_of, threads_of, system_of, application_of, signal_of, process_of, info_of}
+use Rattle.plcr_encode.specs.Values.{report_of, architecture_number, system_of, application_of, signal_of, process_of, info_of}
 use Rattle.plcr_encode.proofs.Lengths.{number_short, bytes_short}
-use Rattle.plcr_decode.specs.Fits.{TypedRegister, TypedThread, TypedProcessor, TypedImage, TypedReport}
+use Rattle.plcr_decode.specs.Fits.{TypedSymbol, TypedFrame, TypedRegister, TypedThread, TypedProcessor, TypedImage, TypedReport}
 use Rattle.plcr_decode.specs.Reads.{reads}
 use Rattle.plcr_decode.proofs.Bounds.{file_again}
-use Rattle.plcr_tool.specs.Laws.{IsHandedContext, IsHandedState, AreHandedThreads, IsHandedImage, AreHandedImages}
+use Rattle.plcr_tool.specs.Laws.{IsHandedContext, IsHandedFrame, IsHandedRegister, IsHandedThread, AreHandedThreads, IsHandedImage, AreHandedImages}
 
 -- fields that are spelt in at most so many bytes
 pub record AtMost (n : ℕ) (fs : List Field) : Type 0 where
@@ -62,11 +60,7 @@ with_maybe : {A : Type 0} (field : ℕ) (bytes : A → List ℕ) (o : Option A) 
 with_maybe field bytes None m fs n small most short others = let rest = others.short in record { short = omega arith }
 with_maybe field bytes (Some x) m fs n small most short others = with_bytes field (bytes x) m fs n small short most others
 
--- what holds of each that a function gives
-all_mapped : {A B : Type 0} (P : B → Type 0) (f : A → B) → ((x : A) → P (f x)) → (xs : List A) → AllByRecursion P (map f xs)
-all_mapped P f holds [] = tt
-all_mapped P f holds (x ∷ xs) = (holds x, all_mapped P f holds xs)
-
+-- what holds of each
 all_weaker : {A : Type 0} (P Q : A → Type 0) → ((x : A) → P x → Q x) → (xs : List A) → AllByRecursion P xs → AllByRecursion Q xs
 all_weaker P Q f [] p = tt
 all_weaker P Q f (x ∷ xs) p = (f x p.0, all_weaker P Q f xs p.1)
@@ -75,70 +69,51 @@ some_weaker : {A : Type 0} (P Q : A → Type 0) → ((x : A) → P x → Q x) �
 some_weaker P Q f None p = tt
 some_weaker P Q f (Some x) p = f x p
 
--- the names of registers have at most 8 bytes
-each_short : (names : List (List ℕ)) (i : ℕ) → list_all (λ name. nat_le (length name) 8) names ≡ true → length (slice_index_or names i []) ≤ 8
-each_short [] i all = lit≤ tt
-each_short (name ∷ names) zero all = leb-true (length name) 8 (and_parts (nat_le (length name) 8) _ all).0
-each_short (name ∷ names) (suc i) all = each_short names i (and_parts (nat_le (length name) 8) _ all).1
+-- a register, whose name has at most 8 bytes
+register_typed : (register : Register) → IsHandedRegister register → TypedRegister register
+register_typed register handed = record { value = handed.value }
 
-name_short : (arch : Arch) (i : ℕ) → length (slice_index_or (register_names arch) i []) ≤ 8
-name_short X86_64 i = each_short (register_names X86_64) i refl
-name_short Arm64 i = each_short (register_names Arm64) i refl
-
-count_small : (arch : Arch) → register_count arch ≤ 34
-count_small X86_64 = lit≤ tt
-count_small Arm64 = lit≤ tt
-
--- the value of a register has 64 bits
-value_fits : (values : List (Option ℕ)) (i : ℕ) → AllByRecursion (λ value. IfSome value (λ n. n < 2 ^ 64)) values → unwrap_or (slice_index_or values i None) 0 < 2 ^ 64
-value_fits [] i all = lit< tt
-value_fits (None ∷ values) zero all = lit< tt
-value_fits (Some n ∷ values) zero all = all.0
-value_fits (value ∷ values) (suc i) all = value_fits values i all.1
-
--- a register of a state
-register_typed : (state : Registers) → IsHandedState state → (i : ℕ) → TypedRegister (register_at state i)
-register_typed state handed i = record { value = value_fits state.value i handed }
-
-register_len : (state : Registers) → IsHandedState state → (i : ℕ) → AtMost 48 (register_message (register_at state i))
+register_len : (register : Register) → IsHandedRegister register → AtMost 48 (register_message register)
 unfolding register_message
-register_len state handed i =
-    with_bytes 1 (slice_index_or (register_names state.arch) i []) 8 _ 20 (lit< tt) (name_short state.arch i) (lit< tt)
-    (with_number 2 (value_at state i) [] 0 (lit< tt) (value_fits state.value i handed) no_field)
+register_len register handed =
+    with_bytes 1 register.name 8 _ 20 (lit< tt) handed.name (lit< tt) (with_number 2 register.value [] 0 (lit< tt) handed.value no_field)
 
--- the one frame of a state
-frame_len : (pc : ℕ) → pc < 2 ^ 64 → AtMost 20 (frame_message (record { pc = pc; symbol = None }))
+-- a frame with no symbol
+frame_with : (pc : ℕ) (symbol : Option Symbol) → symbol ≡ None → pc < 2 ^ 64 → AtMost 20 (frame_message (record { pc = pc; symbol = symbol }))
 unfolding frame_message
-frame_len pc fits = with_number 3 pc [] 0 (lit< tt) fits no_field
+frame_with pc None none fits = with_number 3 pc [] 0 (lit< tt) fits no_field
+frame_with pc (Some symbol) none fits = absurd (cc)
+
+frame_len : (frame : Frame) → IsHandedFrame frame → AtMost 20 (frame_message frame)
+frame_len frame handed = frame_with frame.pc frame.symbol handed.symbol handed.pc
+
+frame_typed : (frame : Frame) → IsHandedFrame frame → TypedFrame frame
+frame_typed frame handed = record { pc = handed.pc; symbol = subst (λ (o : Option Symbol). IfSome o TypedSymbol) (sym handed.symbol) tt }
 
 bool_small : (b : Bool) → (if b then 1 else 0) < 2 ^ 64
 bool_small true = lit< tt
 bool_small false = lit< tt
 
 -- a thread, whatever its number and whether it crashed
-thread_len : (number crashed : ℕ) (state : Registers) → number < 2 ^ 32 → IsHandedState state → AtMost 2392 (thread_message (thread_of crashed (number, state)))
+thread_len : (thread : Thread) → IsHandedThread thread → AtMost 22832 (thread_message thread)
 unfolding thread_message
-thread_len number crashed state small handed =
-    let registers = with_rows 4 register_message (registers_of state) 48 [] 0 (lit< tt) (lit< tt) (all_mapped (λ r. AtMost 48 (register_message r)) (register_at state) (register_len state handed) (range_with_len 0 (register_count state.arch))) no_field in
-    let count : length (registers_of state) ≡ register_count state.arch = length-map-range_with_len (register_at state) 0 (register_count state.arch) in
-    let few : register_count state.arch ≤ 34 = count_small state.arch in
-    let flag = with_number 3 (if number == crashed then 1 else 0) _ (length (registers_of state) * (20 + 48) + 0) (lit< tt) (bool_small (number == crashed)) registers in
-    let frames = with_rows 2 frame_message (map frame_at (pcs_of state)) 20 _ _ (lit< tt) (lit< tt) (frame_len _ (value_fits state.value _ handed), tt) flag in
-    let all = (with_number 1 number _ _ (lit< tt) (omega arith) frames).short in
-    record { short = omega (arith, all, count, few) }
+thread_len thread handed =
+    let each_register = all_weaker IsHandedRegister (λ r. AtMost 48 (register_message r)) register_len thread.registers handed.registers in
+    let registers = with_rows 4 register_message thread.registers 48 [] 0 (lit< tt) (lit< tt) each_register no_field in
+    let flag = with_number 3 (if thread.crashed then 1 else 0) _ (length thread.registers * (20 + 48) + 0) (lit< tt) (bool_small thread.crashed) registers in
+    let each_frame = all_weaker IsHandedFrame (λ f. AtMost 20 (frame_message f)) frame_len thread.frames handed.frames in
+    let frames = with_rows 2 frame_message thread.frames 20 _ _ (lit< tt) (lit< tt) each_frame flag in
+    let all = (with_number 1 thread.thread_number _ _ (lit< tt) (let small = handed.thread_number in omega arith) frames).short in
+    let few : length thread.registers ≤ 34 = handed.few_registers in
+    let most : length thread.frames ≤ 512 = handed.few_frames in
+    record { short = omega (arith, all, few, most) }
 
-thread_typed : (number crashed : ℕ) (state : Registers) → number < 2 ^ 32 → IsHandedState state → TypedThread (thread_of crashed (number, state))
-thread_typed number crashed state small handed = record {
-  thread_number = small;
-  frames = (record { pc = value_fits state.value _ handed; symbol = tt }, tt);
-  registers = all_mapped TypedRegister (register_at state) (register_typed state handed) (range_with_len 0 (register_count state.arch));
+thread_typed : (thread : Thread) → IsHandedThread thread → TypedThread thread
+thread_typed thread handed = record {
+  thread_number = handed.thread_number;
+  frames = all_weaker IsHandedFrame TypedFrame frame_typed thread.frames handed.frames;
+  registers = all_weaker IsHandedRegister TypedRegister register_typed thread.registers handed.registers;
 }
-
--- the threads in these states, numbered from this on
-threads_hold : (P : Thread → Type 0) (crashed : ℕ) → ((number : ℕ) → (state : Registers) → number < 2 ^ 32 → IsHandedState state → P (thread_of crashed (number, state)))
-    → (first : ℕ) (states : List Registers) → first + length states < 2 ^ 32 → AllByRecursion IsHandedState states → AllByRecursion P (map (thread_of crashed) (enumerate_from first states))
-threads_hold P crashed holds first [] few all = tt
-threads_hold P crashed holds first (state ∷ states) few all = (holds first state (omega arith) all.0, threads_hold P crashed holds (first + 1) states (omega arith) all.1)
 
 -- an image
 processor_len : (p : Processor) → TypedProcessor p → AtMost 60 (processor_message p)
@@ -213,24 +188,22 @@ tail_len context handed fs same =
     rw same all
 
 -- the root message
-root_len : (context : Context) (threads : List Registers) (images : List Image) → IsHandedContext context → AreHandedThreads context threads → AreHandedImages images → length (spelling (report_message (report_of context threads images))) < 2 ^ 63
+root_len : (context : Context) (threads : List Thread) (images : List Image) → IsHandedContext context → AreHandedThreads threads → AreHandedImages images → length (spelling (report_message (report_of context threads images))) < 2 ^ 63
 unfolding report_message report_of
 root_len context threads images about states walked =
-    let rows = threads_of context.crashed threads in
-    let count : length rows ≡ length threads = length-map (enumerate_from 0 threads) (thread_of context.crashed) ∙ length-enumerate_from 0 threads in
-    let short = threads_hold (λ t. AtMost 2392 (thread_message t)) context.crashed (λ number state small handed. thread_len number context.crashed state small handed) 0 threads (let few = states.whole.few in omega arith) states.each in
+    let short = all_weaker IsHandedThread (λ t. AtMost 22832 (thread_message t)) thread_len threads states.each in
     let each_image = all_weaker IsHandedImage (λ image. AtMost 1200 (image_message image)) image_len images walked.each in
     let tail = tail_len context about _ refl in
     let behind = with_rows 4 image_message images 1200 _ 12884902108 (lit< tt) (lit< tt) each_image tail in
-    let middle = with_rows 3 thread_message rows 2392 _ (length images * (20 + 1200) + 12884902108) (lit< tt) (lit< tt) short behind in
-    let second = with_bytes 2 (spelling (application_message (application_of context))) 8589934632 _ (length rows * (20 + 2392) + (length images * (20 + 1200) + 12884902108)) (lit< tt) (application_len context about).short (lit< tt) middle in
-    let all = with_bytes 1 (spelling (system_message (system_of context))) 4294967376 _ (20 + 8589934632 + (length rows * (20 + 2392) + (length images * (20 + 1200) + 12884902108))) (lit< tt) (system_len context about).short (lit< tt) second in
+    let middle = with_rows 3 thread_message threads 22832 _ (length images * (20 + 1200) + 12884902108) (lit< tt) (lit< tt) short behind in
+    let second = with_bytes 2 (spelling (application_message (application_of context))) 8589934632 _ (length threads * (20 + 22832) + (length images * (20 + 1200) + 12884902108)) (lit< tt) (application_len context about).short (lit< tt) middle in
+    let all = with_bytes 1 (spelling (system_message (system_of context))) 4294967376 _ (20 + 8589934632 + (length threads * (20 + 22832) + (length images * (20 + 1200) + 12884902108))) (lit< tt) (system_len context about).short (lit< tt) second in
     let short = all.short in
-    let few = states.whole.few in
+    let few = states.few in
     let less = walked.few in
-    omega (arith, short, count, few, less)
+    omega (arith, short, few, less)
 
-report_typed : (context : Context) (threads : List Registers) (images : List Image) → IsHandedContext context → AreHandedThreads context threads → AreHandedImages images → TypedReport (report_of context threads images)
+report_typed : (context : Context) (threads : List Thread) (images : List Image) → IsHandedContext context → AreHandedThreads threads → AreHandedImages images → TypedReport (report_of context threads images)
 unfolding report_of
 report_typed context threads images about states walked = record {
   system_info = record {
@@ -238,7 +211,7 @@ report_typed context threads images about states walked = record {
     architecture = architecture_small context.arch;
     timestamp = fits_signed_from_abs w64 (pos context.timestamp) about.writable.timestamp;
   };
-  threads = threads_hold TypedThread context.crashed (λ number state small handed. thread_typed number context.crashed state small handed) 0 threads (let few = states.whole.few in omega arith) states.each;
+  threads = all_weaker IsHandedThread TypedThread thread_typed threads states.each;
   binary_images = all_weaker IsHandedImage TypedImage image_typed images walked.each;
   signal = record { address = about.address };
   process_info = record { id = about.pid; parent_id = about.ppid };
@@ -249,7 +222,7 @@ unfolding spelling_of
 file_len r few = let l = length-append file_head (spelling (report_message r)) in omega arith
 
 -- each report that is written is read again
-pub written_again : (context : Context) (threads : List Registers) (images : List Image) → IsHandedContext context → AreHandedThreads context threads → AreHandedImages images → reads (spelling_of (report_of context threads images)) ≡ Ok (report_of context threads images)
+pub written_again : (context : Context) (threads : List Thread) (images : List Image) → IsHandedContext context → AreHandedThreads threads → AreHandedImages images → reads (spelling_of (report_of context threads images)) ≡ Ok (report_of context threads images)
 written_again context threads images about states walked =
     file_again (report_of context threads images) (record {
       typed = report_typed context threads images about states walked;

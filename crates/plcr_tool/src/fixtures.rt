@@ -3,6 +3,7 @@
 ghost use Rattle.std.specs.Prelude.{◌≡◌, ◌+◌, ◌*◌, ◌<◌};
 
 use plcr_io::{MemDesk, MemFile, MemOut, NoMemory};
+use plcr_regs::Arch;
 use std::alloc::{AllocError, Global};
 use std::test::Fail;
 
@@ -139,6 +140,73 @@ fn core_bytes(alloc: Global, core: Core) -> Result<Vec<u8>, AllocError> {
         bytes.truncate(100);
     }
     Ok(bytes)
+}
+
+/// The registers of a thread that was stopped with this pc and this frame pointer, and with its stack at 0x7000, all
+/// else 0.
+fn add_registers(bytes: &mut Vec<u8>, arch: Arch, pc: u64, fp: u64) -> Result<(), AllocError> {
+    let (count, places) = match arch {
+        Arch::X86_64 => (21, [6, 7, 16]),
+        Arch::Arm64 => (34, [29, 31, 32]),
+    };
+    for register in 0..count {
+        let value = match places.iter().position(|place| *place == register) {
+            Some(0) => fp,
+            Some(1) => 0x7000,
+            Some(2) => pc,
+            _ => 0,
+        };
+        add_u64s(bytes, &[value])?;
+    }
+    Ok(())
+}
+
+/// A core of one thread with this pc and this frame pointer. These words stand at 0x7100; without any, a segment at
+/// 0x7000 has no file bytes.
+pub fn thread_core(
+    alloc: Global,
+    arch: Arch,
+    pc: u64,
+    fp: u64,
+    words: &[u64],
+) -> Result<Vec<u8>, AllocError> {
+    let mut bytes = Vec::new(alloc);
+    let (cpu, state, flavor) = match arch {
+        Arch::X86_64 => (0x0100_0007, 42, 4),
+        Arch::Arm64 => (0x0100_000c, 68, 6),
+    };
+    let thread = 16 + 4 * state;
+    add_u32s(
+        &mut bytes,
+        &[0xfeed_facf, cpu, 0, 4, 2, 72 + thread, 0, 0],
+    )?;
+    if words.is_empty() {
+        add_segment(&mut bytes, 0x7000, 0x1000)?;
+    } else {
+        let size = 8 * (words.len() % 4096) as u64;
+        add_u32s(&mut bytes, &[0x19, 72, 0, 0, 0, 0])?;
+        add_u64s(&mut bytes, &[0x7100, size, 104 + u64::from(thread), size])?;
+        add_u32s(&mut bytes, &[3, 3, 0, 0])?;
+    }
+    add_u32s(&mut bytes, &[4, thread, flavor, state])?;
+    add_registers(&mut bytes, arch, pc, fp)?;
+    add_u64s(&mut bytes, words)?;
+    Ok(bytes)
+}
+
+/// A desk with the core `c` of these bytes and the script `s`, and one output.
+pub fn desk_with(alloc: Global, core: Vec<u8>, script: &[u8]) -> Result<MemDesk, Fail> {
+    let core = MemFile {
+        name: String::from_str(alloc, "c")?,
+        bytes: core,
+    };
+    let script = MemFile {
+        name: String::from_str(alloc, "s")?,
+        bytes: Vec::from_slice(alloc, script)?,
+    };
+    let out = MemOut::new(alloc, 20_000, 300, Vec::new(alloc))?;
+    let files = vec![in alloc; core, script]?;
+    Ok(MemDesk::new(alloc, files, vec![in alloc; out]?, Vec::new(alloc))?)
 }
 
 /// A desk with the core `c` and the script `s`, and two outputs; its calls of these numbers fail, and the

@@ -7,6 +7,8 @@ mod entries;
 #[cfg(test)]
 mod fixtures;
 #[cfg(test)]
+mod frame_tests;
+#[cfg(test)]
 mod image_tests;
 mod laws;
 mod list;
