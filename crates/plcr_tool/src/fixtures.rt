@@ -176,10 +176,7 @@ pub fn thread_core(
         Arch::Arm64 => (0x0100_000c, 68, 6),
     };
     let thread = 16 + 4 * state;
-    add_u32s(
-        &mut bytes,
-        &[0xfeed_facf, cpu, 0, 4, 2, 72 + thread, 0, 0],
-    )?;
+    add_u32s(&mut bytes, &[0xfeed_facf, cpu, 0, 4, 2, 72 + thread, 0, 0])?;
     if words.is_empty() {
         add_segment(&mut bytes, 0x7000, 0x1000)?;
     } else {

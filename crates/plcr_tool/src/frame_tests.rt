@@ -32,6 +32,7 @@ fn the_bytes_of_frames(rt: HostRuntime) -> Result<(), Fail> {
     assert_eq!(rt; report_command(alloc, "c", "s", &mut desk, &mut lines), 0);
     assert_eq!(rt; lines.bytes(), b"1 report a 384 0 0 0\n".as_slice());
     let file = desk.file("a").ok_or("not kept")?;
+    assert!(rt; file.len() == 384);
     let thread = [
         0x1a, 0xbe, 0x02, 0x08, 0x00, 0x12, 0x06, 0x18, 0xd0, 0x9e, 0x80, 0x80, 0x10, 0x12, 0x03,
         0x18, 0x80, 0x40, 0x18, 0x01, 0x22, 0x06, 0x0a, 0x02, b'x', b'0', 0x10, 0x00,
