@@ -1,4 +1,3 @@
-pub mod KnownRegisters
 pub mod Lengths
 pub mod Parsed
 pub mod Roots

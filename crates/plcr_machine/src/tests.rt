@@ -3,7 +3,7 @@ use crate::plain::{
     counts, follow, images, is_free, is_inside, is_lawful_walk, is_legal, is_listed, lists_after,
     loads, stamp_of,
 };
-use crate::{Change, Entry, Image, Named};
+use crate::{Change, Entry, Image, MOST_CHANGES, MOST_NODES, MOST_PASSES, Named};
 use std::alloc::{AllocError, Global};
 use std::collections::LinkedList;
 use std::process::Abort;
@@ -78,6 +78,13 @@ fn expect(
         listed
     );
     assert!(rt; is_legal(history, 3, 1));
+}
+
+#[test]
+fn the_limits_of_a_list(rt: HostRuntime) {
+    assert_eq!(rt; MOST_NODES, 4_096);
+    assert_eq!(rt; MOST_PASSES, 1_024);
+    assert_eq!(rt; MOST_CHANGES, 4_294_967_295);
 }
 
 #[test]

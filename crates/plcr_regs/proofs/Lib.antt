@@ -1,2 +1,3 @@
+pub mod KnownRegisters
 pub mod WholeStates
 pub mod Wide

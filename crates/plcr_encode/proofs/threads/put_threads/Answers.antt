@@ -3,7 +3,7 @@ use Rattle.plcr_regs.specs.declared.arch.Arch.TheVariants.{X86_64}
 use Rattle.plcr_regs.specs.declared.limits.TheConstants.{MOST_REGISTERS}
 use Rattle.plcr_regs.specs.declared.registers.Registers.{Registers}
 use Rattle.plcr_regs.specs.States.{IsWhole}
-use Rattle.plcr_encode.proofs.KnownRegisters.{pc_known}
+use Rattle.plcr_regs.proofs.KnownRegisters.{pc_known}
 use Rattle.plcr_macho.specs.Index.{index_of}
 use Rattle.plcr_report.specs.Messages.{thread_message}
 use Rattle.plcr_encode.specs.inner.FrameRows.{frame_in}
