@@ -9,6 +9,7 @@ mod hold;
 mod index;
 #[cfg(test)]
 mod index_tests;
+mod kept_hold;
 mod list;
 #[cfg(test)]
 mod overlap_tests;
@@ -26,6 +27,7 @@ mod writer;
 
 pub use change::{Change, Progress};
 pub use hold::{Hold, Pass, Window};
+pub use kept_hold::KeptHold;
 pub use list::{ImageList, OpenError};
 pub use refusals::{LoadRefused, UnloadRefused};
 pub use telling::Note;
