@@ -1,14 +1,15 @@
 -- Walks go with any map of the images that keeps their numbers.
-use Rattle.std.proofs.Common.{◌≡◌, ℕ, zero, suc, ◌<◌, List, [], ◌∷◌, map, eqb, refl, sym, ap, ◌∙◌, subst}
+use Rattle.std.proofs.Common.{◌≡◌, ℕ, zero, suc, ◌<◌, ◌≤◌, List, [], ◌∷◌, map, Contains, eqb, refl, sym, ap, ◌∙◌, subst}
 use Rattle.std.specs.Option.{option_map}
 use Rattle.plcr_machine.specs.declared.image.Image.{Image}
 use Rattle.plcr_machine.specs.declared.entry.Entry.{Entry}
+use Rattle.plcr_machine.specs.declared.change.Named.{Named}
 use Rattle.plcr_machine.specs.Lists.{load_number, list_after}
 use Rattle.plcr_machine.specs.Walks.{RisesAbove, is_listed, first_of_list, next_in, last_with, follow, last_met, Meets, IsWholeWalk, IsLawfulWalk}
 use Rattle.plcr_machine.specs.Histories.{IsLegal}
 use Rattle.plcr_machine.specs.Changes.{load_of, named, all_named, TakesFirst, changes_of, list_after_changes}
 use Rattle.plcr_machine.proofs.Cases.{by_cases}
-use Rattle.plcr_machine.proofs.Lawful.{whole_walk_lawful}
+use Rattle.plcr_machine.proofs.Lawful.{whole_walk_lawful, met_rise, met_listed}
 use Rattle.plcr_machine.proofs.Loaded.{list_after_rises}
 use Rattle.plcr_machine.proofs.ListsMade.{lists_after}
 
@@ -76,3 +77,12 @@ module _ (nodes passes : ℕ) (names : List (List ℕ)) (h : List Entry) (l : Is
       rising-map load_number load_of (named names) (λ x. refl) (list_after h) (list_after_changes (changes_of names h)) (λ j. lists_after nodes passes names h j l f)
       (list_after_rises nodes passes h l) in
       (whole, whole_walk_lawful load_of (list_after_changes (changes_of names h)) rising a b (all_named names met) whole)
+
+  pub met_named : (a b : ℕ) (met : List Image) → Meets load_number (list_after h) 0 a b met
+      → Meets load_of (list_after_changes (changes_of names h)) 0 a b (all_named names met) × RisesAbove load_of 0 (all_named names met)
+      × ((x : Named) → Contains (all_named names met) x → (j : ℕ) × (a ≤ j) × (j ≤ b) × Contains (list_after_changes (changes_of names h) j) x)
+  met_named a b met m =
+      let lists : ℕ → List Named = list_after_changes (changes_of names h) in
+      let meets = meets-map load_number load_of (named names) (λ x. refl) (list_after h) lists (λ j. lists_after nodes passes names h j l f) 0 a b met m in
+      let rising = rising-map load_number load_of (named names) (λ x. refl) (list_after h) lists (λ j. lists_after nodes passes names h j l f) (list_after_rises nodes passes h l) in
+      (meets, met_rise load_of lists rising a b (all_named names met) meets, met_listed load_of lists rising a b (all_named names met) meets)

@@ -1,15 +1,17 @@
 -- What ties histories to their changes, walks to later and named lists, and entries to those who made them. Each of
 -- these is the contract of a function of the crate.
-use Rattle.std.specs.Prelude.{◌≡◌, ◌↔◌, ℕ, ◌+◌, ◌<◌, ◌≤◌, List, ◌∷◌, length, IsTrue, IsFalse, Contains}
+use Rattle.std.specs.Prelude.{◌≡◌, ◌↔◌, ℕ, ◌+◌, ◌<◌, ◌≤◌, List, ◌∷◌, ◌++◌, length, IsTrue, IsFalse, Contains}
 use Rattle.std.specs.Option.{option_map}
 use Rattle.plcr_machine.specs.declared.image.Image.{Image}
 use Rattle.plcr_machine.specs.declared.entry.Entry.{Entry}
+use Rattle.plcr_machine.specs.declared.change.Named.{Named}
+use Rattle.plcr_machine.specs.declared.change.Change.{Change}
 use Rattle.plcr_machine.specs.declared.entry.Entry.TheVariants.{Enter, Look}
 use Rattle.plcr_machine.specs.Lists.{Grows, load_number, live, changes, loads, unloads, list_after}
 use Rattle.plcr_machine.specs.Walks.{RisesAbove, follow, Meets, IsWholeWalk, IsLawfulWalk}
 use Rattle.plcr_machine.specs.Passes.{is_inside, is_announced, counts}
 use Rattle.plcr_machine.specs.Nodes.{is_free, free_count, waiting_count}
-use Rattle.plcr_machine.specs.Histories.{IsLegal}
+use Rattle.plcr_machine.specs.Histories.{IsLegal, IsHistory}
 use Rattle.plcr_machine.specs.Parts.{own_entries, owner_entries, total}
 use Rattle.plcr_machine.specs.Holds.{before_enter}
 use Rattle.plcr_machine.specs.Changes.{load_of, named, all_named, TakesFirst, changes_of, list_after_changes}
@@ -70,14 +72,26 @@ EndedWalksStay = (past history : List Entry) (a b : ℕ) (met : List Image) → 
     → (IsWholeWalk load_number (list_after past) a b met → IsWholeWalk load_number (list_after history) a b met)
     × (IsLawfulWalk load_number (list_after past) a b met → IsLawfulWalk load_number (list_after history) a b met)
 
--- a lawful walk is lawful between an earlier list and a later one
-abbrev pub LawfulWhenWider : Type 0
-LawfulWhenWider = (lists : ℕ → List Image) (a b c d : ℕ) (met : List Image) → c ≤ a → a ≤ b → b ≤ d → IsLawfulWalk load_number lists a b met → IsLawfulWalk load_number lists c d met
+-- a lawful walk is lawful between an earlier list and a later one, whatever the lists are of
+abbrev pub LawfulWhenWider : {A : Type 0} (number : A → ℕ) → Type 0
+LawfulWhenWider {A = A} number = (lists : ℕ → List A) (a b c d : ℕ) (met : List A) → c ≤ a → a ≤ b → b ≤ d → IsLawfulWalk number lists a b met → IsLawfulWalk number lists c d met
+
+-- as a history goes on, with the names of its loads, the changes that it had stay
+abbrev pub ChangesStay : Type 0
+ChangesStay = (nodes passes : ℕ) (past history : List Entry) (names : List (List ℕ)) (more : List (List ℕ)) → IsHistory nodes passes past names → Grows past history
+    → (added : List Change) × (changes_of (more ++ names) history ≡ added ++ changes_of names past)
 
 -- what a walk has met that has not ended yet: the numbers rise, and each image was in one of the lists so far
 abbrev pub MetWereListed : Type 0
 MetWereListed = (nodes passes : ℕ) (history : List Entry) (a b : ℕ) (met : List Image) → IsLegal nodes passes history → Meets load_number (list_after history) 0 a b met
     → RisesAbove load_number 0 met × ((image : Image) → Contains met image → (j : ℕ) × (a ≤ j) × (j ≤ b) × Contains (list_after history j) image)
+
+-- and so it was by headers and names
+abbrev pub MetWereNamed : Type 0
+MetWereNamed = (nodes passes : ℕ) (names : List (List ℕ)) (history : List Entry) (a b : ℕ) (met : List Image) → IsLegal nodes passes history → TakesFirst history
+    → Meets load_number (list_after history) 0 a b met
+    → Meets load_of (list_after_changes (changes_of names history)) 0 a b (all_named names met) × RisesAbove load_of 0 (all_named names met)
+    × ((image : Named) → Contains (all_named names met) image → (j : ℕ) × (a ≤ j) × (j ≤ b) × Contains (list_after_changes (changes_of names history) j) image)
 
 -- what follows an image is the same by nodes and by names
 abbrev pub FollowWithoutNodes : Type 0

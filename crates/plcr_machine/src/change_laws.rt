@@ -1,11 +1,14 @@
 //! What ties histories to their changes, walks to later and named lists, and entries to those who made them, each as
 //! the contract of a function that does nothing.
 
-ghost use Rattle.plcr_machine.specs.ChangeLaws.{ChangesLeaveTheLists, UnloadsAreLoads, WriterTakesFirst, NodesAreCounted, NoneIsFree, EachEntryHasOneMaker, NothingElse, MetFindsNobody, BeforeEnterStays, BeforeEnterIsEntered, NumbersGrow, EndedWalksStay, LawfulWhenWider, MetWereListed, FollowWithoutNodes, EndedWalkOfChangesIsLawful};
+ghost use Rattle.plcr_machine.specs.Lists.{load_number};
+ghost use Rattle.plcr_machine.specs.Changes.{load_of};
+ghost use Rattle.plcr_machine.specs.ChangeLaws.{ChangesLeaveTheLists, ChangesStay, UnloadsAreLoads, WriterTakesFirst, NodesAreCounted, NoneIsFree, EachEntryHasOneMaker, NothingElse, MetFindsNobody, BeforeEnterStays, BeforeEnterIsEntered, NumbersGrow, EndedWalksStay, LawfulWhenWider, MetWereListed, MetWereNamed, FollowWithoutNodes, EndedWalkOfChangesIsLawful};
 
-/// The changes of a history, by headers and names, leave its lists.
+/// The changes of a history, by headers and names, leave its lists, and stay as it goes on.
 pub fn changes_leave_the_lists()
     ensures lists { ChangesLeaveTheLists }
+    ensures stay { ChangesStay }
     ensures loads { UnloadsAreLoads }
     ensures writer { WriterTakesFirst }
 {}
@@ -41,12 +44,14 @@ pub fn numbers_grow()
 /// A walk that has ended stays so in longer histories, and a lawful one is lawful between wider windows.
 pub fn ended_walks_stay()
     ensures stay { EndedWalksStay }
-    ensures wider { LawfulWhenWider }
+    ensures wider { LawfulWhenWider load_number }
+    ensures named { LawfulWhenWider load_of }
 {}
 
 /// What a walk has met stood in a list so far.
 pub fn met_were_listed()
-    ensures { MetWereListed }
+    ensures listed { MetWereListed }
+    ensures named { MetWereNamed }
 {}
 
 /// What follows, and which walks are lawful, is the same without the nodes.
