@@ -1,10 +1,9 @@
 -- How a text is written run by run.
-use Rattle.std.proofs.Common.{◌≡◌, ℕ, zero, suc, ◌+◌, ◌<◌, ◌≤◌, List, [], ◌∷◌, ◌++◌, length, take, get_or, Bool, true, cond, refl, sym, ap, subst, ◌∙◌, append_assoc, append-nil, add-one, take-append-drop, arith}
+use Rattle.std.proofs.Common.{◌≡◌, ℕ, zero, suc, ◌+◌, ◌<◌, List, [], ◌∷◌, ◌++◌, length, take, get_or, Bool, true, cond, refl, sym, ap, subst, ◌∙◌, append_assoc, append-nil, add-one, arith}
 use Rattle.plcr_wire.specs.Pen.{Pen, Wrote}
 use Rattle.plcr_wire.proofs.Writing.{wrote_none, wrote_twice}
 use Rattle.plcr_decode.specs.Text.{all_from, byte_text, is_plain, hex}
 use Rattle.plcr_decode.specs.inner.Escapes.{escaped, EscapesUpTo}
-use Rattle.plcr_decode.proofs.Lines.{all_next}
 
 -- a byte's text is the same at each place
 any_place : (n m : ℕ) (xs : List ℕ) → all_from (λ n b. byte_text b) n xs ≡ all_from (λ n b. byte_text b) m xs

@@ -1,9 +1,9 @@
 -- Values kept under their numbers.
-use Rattle.std.proofs.Common.{◌≡◌, ◌≢◌, ℕ, zero, suc, ◌<◌, ◌≤◌, ◌==◌, List, [], ◌∷◌, ◌++◌, length, Bool, true, false, cond, Option, Some, None, set, get_or, replicate, refl, sym, ap, subst, ◌∙◌, append-nil, arith}
+use Rattle.std.proofs.Common.{◌≡◌, ◌≢◌, ℕ, zero, suc, ◌<◌, ◌≤◌, ◌==◌, List, [], ◌∷◌, length, Bool, true, false, cond, Some, set, get_or, replicate, refl, sym, ap, subst, ◌∙◌, append-nil, arith}
 use Rattle.std.proofs.lemmas.Bool.Decides.{nat_tests}
 use Rattle.std.proofs.lemmas.List.{get_or-set_other}
 use Rattle.std.proofs.lemmas.Grind.{get_or-set_at}
-use Rattle.plcr_wire.specs.Message.{Value, Field, value_bytes}
+use Rattle.plcr_wire.specs.Message.{Field, value_bytes}
 use Rattle.plcr_wire.specs.Reading.{value_slice}
 use Rattle.plcr_wire.specs.declared.slices.ValueSlice.{ValueSlice}
 use Rattle.plcr_decode.specs.Fields.{fields_of, messages_in, together, joined, last_or, last_value}
@@ -11,10 +11,10 @@ use Rattle.plcr_decode.specs.declared.found.Last.{Last}
 use Rattle.plcr_decode.specs.declared.found.Last.TheVariants.{Never, Once, Again}
 use Rattle.plcr_decode.specs.inner.Lasts.{shown, again, Stand, KeepsOne, KeepsUpTo, Keeps}
 
-equal : (m n : ℕ) → (m == n) ≡ true → n ≡ m
+pub equal : (m n : ℕ) → (m == n) ≡ true → n ≡ m
 equal m n h = grind (arith, nat_tests)
 
-other : (m n : ℕ) → (m == n) ≡ false → n ≢ m
+pub other : (m n : ℕ) → (m == n) ≡ false → n ≢ m
 other m n h = grind (arith, nat_tests)
 
 set_either : (b : Bool) (lasts : List Last) (i n : ℕ) (c : ValueSlice) → (i == n) ≡ b → i < length lasts
@@ -27,7 +27,7 @@ pub kept_new : (lasts : List Last) (i : ℕ) (c : ValueSlice) → i < length las
     → get_or (set lasts i (again (get_or lasts i Never) c)) n Never ≡ cond (i == n) (again (get_or lasts n Never) c) (get_or lasts n Never)
 kept_new lasts i c h n small = set_either (i == n) lasts i n c refl h
 
-past : (m n : ℕ) → 10 ≤ m → n < 10 → (m == n) ≡ false
+pub past : (m n : ℕ) → 10 ≤ m → n < 10 → (m == n) ≡ false
 past m n h small = grind (arith, nat_tests)
 
 pub kept_same : (lasts : List Last) (i : ℕ) (c : ValueSlice) → 10 ≤ i → (n : ℕ) → n < 10 → get_or lasts n Never ≡ cond (i == n) (again (get_or lasts n Never) c) (get_or lasts n Never)

@@ -3,6 +3,7 @@ pub mod Listed
 pub mod Kept
 pub mod Wholes
 pub mod Levels
+pub mod Marked
 pub mod Again
 pub mod Bounded
 pub mod AgainLeaves

@@ -1,7 +1,7 @@
 -- How a loop writes the texts of several, one after the other.
-use Rattle.std.proofs.Common.{◌≡◌, ℕ, zero, suc, ◌+◌, ◌-◌, ◌/◌, ◌%◌, ◌<◌, ◌≤◌, List, [], ◌∷◌, ◌++◌, length, map, take, drop, set, get_or, refl, sym, ap, subst, ◌∙◌, append_assoc, append-nil, add-one, arith}
+use Rattle.std.proofs.Common.{◌≡◌, ℕ, zero, suc, ◌+◌, ◌/◌, ◌%◌, ◌<◌, ◌≤◌, List, [], ◌∷◌, ◌++◌, length, map, take, drop, set, get_or, refl, sym, ap, subst, ◌∙◌, append_assoc, append-nil, add-one, arith}
 use Rattle.plcr_wire.specs.Pen.{Pen, Wrote}
-use Rattle.plcr_wire.proofs.Writing.{wrote_none, wrote_twice}
+use Rattle.plcr_wire.proofs.Writing.{wrote_twice}
 use Rattle.plcr_decode.specs.Text.{all_from, hex_digit, hex}
 
 module _ {A : Type 0} (text : ℕ → A → List ℕ) where

@@ -7,6 +7,7 @@ use Rattle.plcr_wire.specs.Reading.{field_at, number_at}
 use Rattle.plcr_wire.specs.declared.fields.WireFault.{WireFault}
 use Rattle.plcr_decode.specs.Fields.{front_of, fields_within, fields_of, messages_in, together, joined, last_or, is_there, has}
 use Rattle.plcr_wire.proofs.Smaller.{field_smaller}
+use Rattle.plcr_wire.proofs.AnyEnd.{field_any}
 
 -- what follows a field may be listed by any number of steps that is enough
 front_same : (r : Result (Field × List ℕ) WireFault) (f g : List ℕ → List Field) → ((x : Field × List ℕ) → r ≡ Ok x → f x.1 ≡ g x.1) → front_of f r ≡ front_of g r
@@ -42,6 +43,10 @@ fields_front (b ∷ bs) =
 
 pub fields_step : (bytes : List ℕ) (x : Field × List ℕ) → field_at (length bytes) bytes ≡ Ok x → fields_of bytes ≡ x.0 ∷ fields_of x.1
 fields_step bytes x h = fields_front bytes ∙ ap (front_of fields_of) h
+
+-- whatever place its message ends at
+pub fields_any : (end : ℕ) (bytes : List ℕ) (x : Field × List ℕ) → field_at end bytes ≡ Ok x → fields_of bytes ≡ x.0 ∷ fields_of x.1
+fields_any end bytes x h = fields_step bytes x (field_any end (length bytes) bytes x h)
 
 pub fields_fault : (bytes : List ℕ) (e : WireFault) → field_at (length bytes) bytes ≡ Err e → fields_of bytes ≡ []
 fields_fault bytes e h = fields_front bytes ∙ ap (front_of fields_of) h

@@ -1,6 +1,5 @@
 -- What each kind of message lacks, written out.
-use Rattle.std.proofs.Common.{◌≡◌, ℕ, zero, suc, List, [], ◌∷◌, Result, Ok, Err, cond, refl, ap, ◌∙◌, lit<, ◌-◌, ◌<◌, sym, arith}
-use Rattle.std.specs.List.{AllByRecursion}
+use Rattle.std.proofs.Common.{◌≡◌, ℕ, zero, suc, List, [], ◌∷◌, Result, Ok, Err, cond, refl, ap, ◌∙◌}
 use Rattle.plcr_wire.specs.Message.{Field}
 use Rattle.plcr_base.specs.Chains.{◌>>=◌}
 use Rattle.plcr_report.specs.Schema.{rows}
@@ -9,7 +8,6 @@ use Rattle.plcr_report.specs.declared.kinds.Kind.TheVariants as kinds
 use Rattle.plcr_decode.specs.declared.faults.DecodeFault.{DecodeFault}
 use Rattle.plcr_decode.specs.Fields.{has, messages_in, joined}
 use Rattle.plcr_decode.specs.Required.{has_all, each_whole, one_whole, inner_whole, whole_within, whole}
-use Rattle.plcr_decode.specs.inner.Judging.{PlainRow}
 
 unfoldable pub symbol_whole : List Field → Result (Unit {0}) DecodeFault
 symbol_whole fs = has_all kinds.Symbol fs
@@ -50,7 +48,7 @@ report_whole fs =
     >>= λ u. (each_whole thread_whole (messages_in 3 fs) >>= λ u. (each_whole image_whole (messages_in 4 fs)
     >>= λ u. (one_whole signal_whole 6 fs >>= λ u. (one_whole process_whole 7 fs >>= λ u. one_whole info_whole 9 fs))))))
 
-bind_unit : (r : Result (Unit {0}) DecodeFault) → (r >>= λ u. Ok tt) ≡ r
+pub bind_unit : (r : Result (Unit {0}) DecodeFault) → (r >>= λ u. Ok tt) ≡ r
 bind_unit (Ok u) = refl
 bind_unit (Err e) = refl
 
@@ -93,21 +91,6 @@ plain_process = plain kinds.Process (λ w fs. refl)
 pub plain_info : (k : ℕ) (fs : List Field) → whole_within k kinds.Info fs ≡ has_all kinds.Info fs
 plain_info = plain kinds.Info (λ w fs. refl)
 
--- each message whose parts are joined holds none
-pub rows_plain : (kind : Kind) → AllByRecursion PlainRow (rows kind)
-rows_plain kinds.Root = ((lit< tt, plain_system), ((lit< tt, plain_application), ((lit< tt, tt), ((lit< tt, tt), ((lit< tt, plain_signal), ((lit< tt, plain_process), ((lit< tt, plain_info), tt)))))))
-rows_plain kinds.System = ((lit< tt, tt), ((lit< tt, tt), ((lit< tt, tt), ((lit< tt, tt), ((lit< tt, tt), tt)))))
-rows_plain kinds.Application = ((lit< tt, tt), ((lit< tt, tt), tt))
-rows_plain kinds.Thread = ((lit< tt, tt), ((lit< tt, tt), ((lit< tt, tt), ((lit< tt, tt), tt))))
-rows_plain kinds.Frame = ((lit< tt, tt), ((lit< tt, plain_symbol), tt))
-rows_plain kinds.Symbol = ((lit< tt, tt), ((lit< tt, tt), ((lit< tt, tt), tt)))
-rows_plain kinds.Register = ((lit< tt, tt), ((lit< tt, tt), tt))
-rows_plain kinds.Image = ((lit< tt, tt), ((lit< tt, tt), ((lit< tt, tt), ((lit< tt, tt), ((lit< tt, plain_processor), tt)))))
-rows_plain kinds.Processor = ((lit< tt, tt), ((lit< tt, tt), ((lit< tt, tt), tt)))
-rows_plain kinds.Signal = ((lit< tt, tt), ((lit< tt, tt), ((lit< tt, tt), tt)))
-rows_plain kinds.Process = ((lit< tt, tt), ((lit< tt, tt), ((lit< tt, tt), ((lit< tt, tt), ((lit< tt, tt), ((lit< tt, tt), tt))))))
-rows_plain kinds.Info = ((lit< tt, tt), ((lit< tt, tt), tt))
-
 frame_written : (fs : List Field) → whole_within 1 kinds.Frame fs ≡ frame_whole fs
 unfolding frame_whole symbol_whole
 frame_written fs =
@@ -143,16 +126,3 @@ root_written fs =
     (bind_same _ _ _ _ (one_same (whole_within 2 kinds.Signal) signal_whole 6 fs (plain_signal 2))
     (bind_same _ _ _ _ (one_same (whole_within 2 kinds.Process) process_whole 7 fs (plain_process 2))
     (bind_unit (one_whole (whole_within 2 kinds.Info) 9 fs) ∙ one_same (whole_within 2 kinds.Info) info_whole 9 fs (plain_info 2))))))))
-
--- a message lacks a field of its own
-pub whole_own : (n : ℕ) (kind : Kind) (fs found : List Field) (e : DecodeFault) → found ≡ fs → has_all kind found ≡ Err e → whole_within n kind fs ≡ Err e
-whole_own zero kind fs found e same h = ap (has_all kind) (sym same) ∙ h
-whole_own (suc k) kind fs found e same h =
-    ap (λ (r : Result (Unit {0}) DecodeFault). r >>= λ u. inner_whole (whole_within k) (rows kind) fs) (ap (has_all kind) (sym same) ∙ h)
-
--- or what the messages in it lack
-pub whole_inner : (n : ℕ) (kind : Kind) (fs found : List Field) → 0 < n → found ≡ fs → has_all kind found ≡ Ok tt → whole_within n kind fs ≡ inner_whole (whole_within (n - 1)) (rows kind) fs
-whole_inner zero kind fs found some same h = absurd (omega arith)
-whole_inner (suc k) kind fs found some same h =
-    let e : suc k - 1 ≡ k = omega arith in
-    rw e (ap (λ (r : Result (Unit {0}) DecodeFault). r >>= λ u. inner_whole (whole_within k) (rows kind) fs) (ap (has_all kind) (sym same) ∙ h))

@@ -1,7 +1,7 @@
 -- Definitions that only private functions' contracts cite.
 pub mod Entries
 pub mod Escapes
-pub mod Judging
+pub mod Marks
 pub mod Lasts
 pub mod Views
 pub mod Words

@@ -1,14 +1,15 @@
 //! Reads the file of a crash report: the report that its bytes spell, or their first fault with its place.
 #![tactic(auto)]
 
+mod checking;
 mod display;
 mod faults;
 mod fields;
 mod found;
 mod ink;
-mod judging;
 mod laws;
 mod leaves;
+mod marks;
 mod messages;
 mod nodes;
 mod numbers;

@@ -4,10 +4,9 @@ ghost use Rattle.plcr_wire.specs.Reading.{Returns};
 ghost use Rattle.plcr_decode.specs.Reads as spec;
 ghost use Rattle.plcr_decode.specs.Reads.{reads};
 
+use crate::checking::check;
 use crate::faults::DecodeFault;
-use crate::judging::judge;
 use crate::messages::Row;
-use crate::scanning::scan;
 use plcr_report::{Kind, MAGIC, Report, VERSION};
 use std::alloc::Global;
 
@@ -67,7 +66,8 @@ pub fn decode(alloc: Global, bytes: &[u8]) -> Result<Report, DecodeFault>
     ensures memory { IfErr result (λ e. e ≡ DecodeFault.Memory → IsOk (reads bytes.now)) }
 {
     let root = root_of(bytes)?;
-    scan(Kind::Root, root, bytes.len())?;
-    judge(Kind::Root, root)?;
+    if let Some(lack) = check(Kind::Root, root, bytes.len())? {
+        return Err(lack.fault());
+    }
     Report::build(alloc, root).map_err(|_| DecodeFault::Memory)
 }

@@ -1,22 +1,22 @@
-//! The first fault of a message's bytes.
-ghost use Rattle.std.specs.Prelude.{◌≡◌, ◌≢◌, ◌+◌, ◌-◌, ◌<◌, ◌≤◌, length, IfOk, IfErr};
-ghost use Rattle.plcr_wire.specs.Reading.{Returns, value_slice, value_slice_len};
+//! One field of a message, by the table of fields.
+ghost use Rattle.std.specs.Prelude.{◌≡◌, ◌≢◌, ◌+◌, ◌<◌, ◌≤◌, ◌∷◌, length, IfOk, IfErr};
+ghost use Rattle.plcr_wire.specs.Reading.{Returns, field_at, field_slice, value_slice, value_slice_len};
 ghost use Rattle.plcr_report.specs.Schema.{rule};
 ghost use Rattle.plcr_wire.specs.Message as message;
+ghost use Rattle.plcr_decode.specs.Fields.{fields_of};
 ghost use Rattle.plcr_decode.specs.Scan as spec;
 ghost use Rattle.plcr_decode.specs.inner.Views.{step_view};
 
 use crate::faults::{DecodeFault, fault_of};
 use crate::table::held;
 use plcr_report::{Holds, Kind};
-use plcr_wire::{ValueSlice, field_of};
+use plcr_wire::{FieldSlice, ValueSlice, field_of};
 
-/// What is read after a field's own bytes: first the message in it, then the rest of the message around it.
+/// A field, and what its message's table says that it holds; nothing where it isn't known.
 #[derive(Clone, Copy)]
 pub(crate) struct Step<'a> {
-    kind: Kind,
-    text: &'a [u8],
-    rest: &'a [u8],
+    pub(crate) piece: FieldSlice<'a>,
+    pub(crate) holds: Option<Holds>,
 }
 
 /// Whether a value has the wire type of its field.
@@ -31,25 +31,6 @@ fn fits(holds: Option<Holds>, value: ValueSlice<'_>) -> bool
     }
 }
 
-/// The message that stands in a field; an empty one where the field holds none.
-fn inside<'a>(kind: Kind, holds: Option<Holds>, value: ValueSlice<'a>, rest: &'a [u8]) -> Step<'a>
-    ensures view { step_view result ≡ spec.inside kind holds (value_slice value.entry) rest.now }
-    ensures within { length result.text.now ≤ value_slice_len value.entry }
-{
-    match holds {
-        Some(Holds::Message(inner)) => Step {
-            kind: inner,
-            text: text_of(value),
-            rest,
-        },
-        _ => Step {
-            kind,
-            text: &[],
-            rest,
-        },
-    }
-}
-
 /// The bytes that may hold a message, none in a number.
 pub(crate) fn text_of(value: ValueSlice<'_>) -> &[u8]
     ensures bytes { result.now ≡ message.value_bytes (value_slice value.entry) }
@@ -61,15 +42,32 @@ pub(crate) fn text_of(value: ValueSlice<'_>) -> &[u8]
     }
 }
 
-/// The field that these bytes, the last of a message that ends at `end`, begin with, and what is read after it.
-#[tactic(auto, unfolding(crate::specs::Scan::step_at))]
-fn step_of(kind: Kind, bytes: &[u8], end: usize) -> Result<Step<'_>, DecodeFault>
+/// The field that these bytes, the last of a message that ends at `end`, begin with.
+#[tactic(auto, using(crate::proofs::Listed::fields_any))]
+fn piece_of(bytes: &[u8], end: usize) -> Result<FieldSlice<'_>, DecodeFault>
     requires { length bytes.now ≤ end }
-    ensures reads { Returns step_view result (spec.step_at kind end bytes.now) }
-    ensures shorter { IfOk result (λ s. length s.text.now + length s.rest.now < length bytes.now) }
+    ensures reads { Returns field_slice result (spec.lifted (field_at end bytes.now)) }
+    ensures field { IfOk result (λ p. fields_of bytes.now ≡ (field_slice p).0 ∷ fields_of p.rest.now) }
+    ensures shorter { IfOk result (λ p. value_slice_len p.value + length p.rest.now < length bytes.now) }
     ensures real { IfErr result (λ e. e ≢ DecodeFault.Memory) }
 {
-    let piece = field_of(bytes, end).map_err(fault_of)?;
+    match field_of(bytes, end) {
+        Ok(piece) => Ok(piece),
+        Err(fault) => Err(fault_of(fault)),
+    }
+}
+
+/// The same, with what its message's table says of it.
+#[tactic(auto, unfolding(crate::specs::Scan::step_at))]
+pub(crate) fn step_of(kind: Kind, bytes: &[u8], end: usize) -> Result<Step<'_>, DecodeFault>
+    requires { length bytes.now ≤ end }
+    ensures reads { Returns (step_view kind) result (spec.step_at kind end bytes.now) }
+    ensures known { IfOk result (λ s. s.holds ≡ rule kind s.piece.number) }
+    ensures field { IfOk result (λ s. fields_of bytes.now ≡ (field_slice s.piece).0 ∷ fields_of s.piece.rest.now) }
+    ensures shorter { IfOk result (λ s. value_slice_len s.piece.value + length s.piece.rest.now < length bytes.now) }
+    ensures real { IfErr result (λ e. e ≢ DecodeFault.Memory) }
+{
+    let piece = piece_of(bytes, end)?;
     let holds = held(kind, piece.number);
     if !fits(holds, piece.value) {
         return Err(DecodeFault::WrongWire {
@@ -77,21 +75,5 @@ fn step_of(kind: Kind, bytes: &[u8], end: usize) -> Result<Step<'_>, DecodeFault
             at: end - bytes.len(),
         });
     }
-    Ok(inside(kind, holds, piece.value, piece.rest))
-}
-
-/// The first fault of a message that ends at `end`, in reading order.
-#[tactic(auto, using(crate::proofs::Scans::scan_fault))]
-pub(crate) fn scan(kind: Kind, bytes: &[u8], end: usize) -> Result<(), DecodeFault>
-    requires { length bytes.now ≤ end }
-    ensures exact { result ≡ spec.scan kind end bytes.now }
-    ensures real { IfErr result (λ e. e ≢ DecodeFault.Memory) }
-{
-    let mut rest = bytes;
-    while rest.len() > 0 {
-        let step = step_of(kind, rest, end)?;
-        scan(step.kind, step.text, end - step.rest.len())?;
-        rest = step.rest;
-    }
-    Ok(())
+    Ok(Step { piece, holds })
 }

@@ -2,14 +2,16 @@
 use Rattle.std.specs.Prelude.{ℕ, ◌+◌, List, ◌++◌, length, Option, Some, None}
 use Rattle.std.specs.Borrow.{Bor}
 use Rattle.plcr_wire.specs.Message.{Field}
+use Rattle.plcr_wire.specs.Reading.{value_slice}
+use Rattle.plcr_report.specs.declared.kinds.Kind.{Kind}
 use Rattle.plcr_decode.specs.Fields.{fields_of, joined}
 use Rattle.plcr_decode.specs.declared.fields.Fields.{Fields}
 use Rattle.plcr_decode.specs.Scan as spec
 use Rattle.plcr_decode.specs.declared.scanning.Step.{Step}
 
--- a step
-abbrev pub step_view : Step → spec.Step
-step_view s = record { kind = s.kind; text = s.text.now; rest = s.rest.now }
+-- what is read after a field's own bytes
+abbrev pub step_view : Kind → Step → spec.Step
+step_view kind s = spec.inside kind s.holds (value_slice s.piece.value) s.piece.rest.now
 
 -- the fields that a cursor has left
 abbrev pub left : Fields → List Field

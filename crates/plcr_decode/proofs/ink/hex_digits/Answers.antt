@@ -1,5 +1,5 @@
 -- Each digit stands before those that are there.
-use Rattle.std.proofs.Common.{ℕ, ◌+◌, ◌-◌, ◌≡◌, ◌<◌, suc, length, rules, arith}
+use Rattle.std.proofs.Common.{◌+◌, ◌-◌, rules, arith}
 use Rattle.plcr_decode.proofs.Lines.{digits_more, digits_all}
 use Rattle.plcr_decode.proofs.ink.hex_digits.Goals as goal
 

@@ -1,4 +1,4 @@
-use Rattle.std.proofs.Common.{sym, ◌∙◌, arith}
+use Rattle.std.proofs.Common.{sym, ◌∙◌}
 use Rattle.plcr_decode.proofs.Escaping.{plain_more}
 use Rattle.plcr_decode.proofs.ink.plain_len.Goals as goal
 
