@@ -17,3 +17,5 @@ pub mod Opened
 pub mod Told
 pub mod Reread
 pub mod Indexed
+pub mod Sees
+pub mod Changed

@@ -22,7 +22,7 @@ use Rattle.plcr_imagelist.proofs.Looking.{went_again}
 use Rattle.plcr_imagelist.proofs.Meeting.{before_enter-same, ended_on}
 use Rattle.plcr_imagelist.proofs.Walking.{hold_of}
 
-goes_again : (nodes passes p : ℕ) (a b c : List Entry) (a' b' c' : List (List ℕ)) → GoesOn nodes passes false (p ∷ []) a a' b b' → GoesOn nodes passes false (p ∷ []) b b' c c' → GoesOn nodes passes false (p ∷ []) a a' c c'
+pub goes_again : (nodes passes p : ℕ) (a b c : List Entry) (a' b' c' : List (List ℕ)) → GoesOn nodes passes false (p ∷ []) a a' b b' → GoesOn nodes passes false (p ∷ []) b b' c c' → GoesOn nodes passes false (p ∷ []) a a' c c'
 goes_again nodes passes p a b c a' b' c' g h = record { added = adds_again false (p ∷ []) a b c g.added h.added; named = went_again a' b' c' g.named h.named; legal = h.legal; short = h.short }
 
 -- what an entry of a pass leaves as it was

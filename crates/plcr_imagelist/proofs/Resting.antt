@@ -54,6 +54,7 @@ unloaded_at old image new k first =
       sees = k.sees;
       now = ap writer_state k.now;
       legal = k.legal;
+      first = first;
       list = ap (λ (s : OwnerState). live s.history) k.now ∙ ap (without image.node) lists ∙ first_cut image.header (live old.history) image apart first;
     }
 

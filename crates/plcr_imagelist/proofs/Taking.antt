@@ -15,7 +15,7 @@ first_node-with header (y ∷ ys) x e =
     (λ t. let found : Some y ≡ Some x = rw t at e in let same : y ≡ x = cc in rw t (ap (λ (z : Image). z.node) same))
     (λ t. let later : first_with header ys ≡ Some x = rw t at e in rw t (first_node-with header ys x later))
 
-header_at-first : (header : ℕ) (xs : List Image) (x : Image) → IsApart xs → first_with header xs ≡ Some x → header_at x.node xs ≡ x.header
+pub header_at-first : (header : ℕ) (xs : List Image) (x : Image) → IsApart xs → first_with header xs ≡ Some x → header_at x.node xs ≡ x.header
 header_at-first header [] x a e = cc
 header_at-first header (y ∷ ys) x a e =
     by_cases (eqb y.header header)

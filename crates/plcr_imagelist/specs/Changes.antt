@@ -1,5 +1,5 @@
 -- What each call of the writer and of a change says.
-use Rattle.std.specs.Prelude.{◌≡◌, ℕ, zero, suc, ◌+◌, true, List, ◌∷◌, ◌==◌, if◌then◌else◌}
+use Rattle.std.specs.Prelude.{◌≡◌, ℕ, zero, suc, ◌+◌, true, List, ◌∷◌, Some, ◌==◌, if◌then◌else◌}
 use Rattle.plcr_machine.specs.declared.image.Image.{Image}
 use Rattle.plcr_machine.specs.declared.entry.Entry.{Entry}
 use Rattle.plcr_machine.specs.declared.entry.Entry.TheVariants.{Load, Unload, Count, Look}
@@ -8,7 +8,7 @@ use Rattle.plcr_machine.specs.Histories.{IsHistory}
 use Rattle.plcr_machine.specs.declared.limits.TheConstants.{MOST_CHANGES}
 use Rattle.plcr_nodes.specs.Names.{stored_elsewhere}
 use Rattle.plcr_nodes.specs.Seeing.{GoesOn}
-use Rattle.plcr_imagelist.specs.Finding.{NoneFree, IsFreeIn, without_first}
+use Rattle.plcr_imagelist.specs.Finding.{NoneFree, IsFreeIn, first_with, without_first}
 use Rattle.plcr_imagelist.specs.States.{WriterState, Doing, Loads, Unloads, ChangeState}
 
 -- the writer saw more of the history, none of it an entry of a writer or of a pass that it had met
@@ -53,6 +53,7 @@ pub record IsUnloadedAt (old : WriterState) (image : Image) (new : WriterState) 
   pub sees : WriterSeesMore old past names
   pub now : new ≡ record old { history = Unload image.node ∷ past; names = names }
   pub legal : IsHistory new.nodes new.passes new.history new.names
+  pub first : first_with image.header (live old.history) ≡ Some image
   pub list : live new.history ≡ without_first image.header (live old.history)
 
 -- the change itself was made: a load on this node, or an unload

@@ -10,4 +10,6 @@ pub mod Tellings
 pub mod Walk
 pub mod SameWalk
 pub mod Lending
+pub mod Carrying
+pub mod Listing
 pub mod inner

@@ -6,6 +6,7 @@ ghost use Rattle.plcr_nodes.specs.Names.{words_of, store};
 ghost use Rattle.plcr_imagelist.specs.States.{IsAtRest, Loads, is_load, change_step, steps_of};
 ghost use Rattle.plcr_imagelist.specs.Changes.{IsCountedAt};
 ghost use Rattle.plcr_imagelist.specs.Steps.{word_stored, value_stored, IsStepped, Advances, table_of, history_of};
+ghost use Rattle.plcr_imagelist.specs.Listing.{HasLists, AddsChanges, made_by_step, writer_of};
 ghost use Rattle.plcr_imagelist.specs.inner.Making.{doing_of, IsMaking, MakesStep, IsFinished};
 
 use crate::books::Books;
@@ -164,6 +165,8 @@ impl Change {
         ensures step { IsStepped self result }
         ensures list { table_of result ≡ self.writer.table }
         ensures paced { IsPaced (history_of result) }
+        ensures changes { AddsChanges self.writer (made_by_step self) (writer_of result) }
+        ensures lists { HasLists (writer_of result) }
     {
         if self.made == change_step(&self.task, &self.name) {
             Progress::Done(self.count(list))
@@ -194,6 +197,7 @@ impl Change {
         requires last { self.made ≡ change_step self.doing }
         ensures counted { IsCountedAt self.writer result }
         ensures rest { IsAtRest result }
+        ensures lists { HasLists result }
         ensures list { result.table ≡ self.writer.table }
     {
         let Change {
@@ -214,6 +218,7 @@ impl Change {
         ensures step { Advances self result }
         ensures list { result.writer.table ≡ self.writer.table }
         ensures paced { IsPaced result.writer.history }
+        ensures lists { HasLists result.writer }
     {
         make_step(
             &mut self.books,

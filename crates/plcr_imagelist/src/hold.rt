@@ -2,6 +2,7 @@
 ghost use Rattle.std.specs.Prelude.{◌≡◌, All, map, length, IfOk};
 ghost use Rattle.plcr_imagelist.specs.inner.Holding.{walker_state, IsReady};
 ghost use Rattle.plcr_imagelist.specs.Holds.{IsHeld, IsNext, IsReleased, IsWalking};
+ghost use Rattle.plcr_imagelist.specs.Carrying.{OnlySees};
 
 use crate::books::last_of;
 use crate::index::open_spots;
@@ -132,6 +133,7 @@ impl Hold {
     pub fn next(&mut self, list: &ImageList) -> bool
         requires { self.old.walker.table ≡ list.now }
         ensures next { IsNext self.old result self.new }
+        ensures sees { OnlySees self.old.walker self.new.walker }
         ensures walking { IsWalking self.new }
         ensures list { self.new.walker.table ≡ self.old.walker.table }
     {

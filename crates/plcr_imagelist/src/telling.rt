@@ -1,8 +1,10 @@
 //! What one token of a list has seen is told to another: by a note, or as the writer meets a pass for good.
-ghost use Rattle.std.specs.Prelude.{◌≡◌};
+ghost use Rattle.std.specs.Prelude.{◌≡◌, []};
 ghost use Rattle.plcr_machine.specs.Passes.{IsPaced};
 ghost use Rattle.plcr_imagelist.specs.States.{IsAtRest};
 ghost use Rattle.plcr_imagelist.specs.Holds.{IsWalking};
+ghost use Rattle.plcr_imagelist.specs.Carrying.{OnlySees};
+ghost use Rattle.plcr_imagelist.specs.Listing.{HasLists, AddsChanges};
 ghost use Rattle.plcr_imagelist.specs.Tellings.{note_of_writer, note_of_walker, IsWriterTold, IsWalkerTold, IsChangeTold, IsHoldTold, IsMet};
 
 use crate::change::Change;
@@ -43,6 +45,7 @@ impl Writer {
         requires list { self.old.table ≡ list.now }
         requires note { note.table ≡ list.now }
         ensures told { IsWriterTold self.old note self.new }
+        ensures changes { AddsChanges self.old [] self.new }
         ensures list { self.new.table ≡ self.old.table }
         ensures rest { IsAtRest self.new }
     {
@@ -55,6 +58,7 @@ impl Writer {
         requires list { self.table ≡ list.now }
         requires pass { pass.table ≡ list.now }
         ensures met { IsMet self pass result }
+        ensures changes { AddsChanges self [] result }
         ensures rest { IsAtRest result }
         ensures list { result.table ≡ self.table }
     {
@@ -86,6 +90,8 @@ impl Change {
         requires list { self.old.writer.table ≡ list.now }
         requires note { note.table ≡ list.now }
         ensures told { IsChangeTold self.old note self.new }
+        ensures changes { AddsChanges self.old.writer [] self.new.writer }
+        ensures lists { HasLists self.new.writer }
         ensures list { self.new.writer.table ≡ self.old.writer.table }
         ensures paced { IsPaced self.new.writer.history }
     {
@@ -111,6 +117,7 @@ impl Pass {
         requires list { self.old.table ≡ list.now }
         requires note { note.table ≡ list.now }
         ensures told { IsWalkerTold self.old note self.new }
+        ensures sees { OnlySees self.old self.new }
         ensures list { self.new.table ≡ self.old.table }
     {
         let Note { note: seen } = note;
@@ -135,6 +142,7 @@ impl Hold {
         requires list { self.old.walker.table ≡ list.now }
         requires note { note.table ≡ list.now }
         ensures told { IsHoldTold self.old note self.new }
+        ensures sees { OnlySees self.old.walker self.new.walker }
         ensures walking { IsWalking self.new }
         ensures list { self.new.walker.table ≡ self.old.walker.table }
     {

@@ -1,9 +1,10 @@
 //! The writer, which loads and unloads images.
-ghost use Rattle.std.specs.Prelude.{◌≡◌, ◌≢◌, ◌<◌, ◌≤◌, length, slice_index_or, vec_capacity, Some, Err, IfOk, IfErr};
+ghost use Rattle.std.specs.Prelude.{◌≡◌, [], ◌≢◌, ◌<◌, ◌≤◌, length, slice_index_or, vec_capacity, Some, Err, IfOk, IfErr};
 ghost use Rattle.plcr_base.specs.declared.limits.TheConstants.{IMAGE_NAME_BYTES};
 ghost use Rattle.plcr_base.specs.Limits.{IsImageName};
 ghost use Rattle.plcr_machine.specs.Lists.{live, changes};
 ghost use Rattle.plcr_machine.specs.Passes.{IsPaced};
+ghost use Rattle.plcr_machine.specs.declared.change.Change.TheVariants.{Loads, Unloads};
 ghost use Rattle.plcr_machine.specs.declared.limits.TheConstants.{MOST_CHANGES};
 ghost use Rattle.plcr_nodes.specs.Opening.{IsSized, opened_owner};
 ghost use Rattle.plcr_imagelist.specs.Finding.{first_with, without_first};
@@ -11,6 +12,7 @@ ghost use Rattle.plcr_imagelist.specs.inner.Keeping.{writer_state};
 ghost use Rattle.plcr_imagelist.specs.States.{IsAtRest};
 ghost use Rattle.plcr_imagelist.specs.Changes.{IsWorn, begun_load};
 ghost use Rattle.plcr_imagelist.specs.Steps.{BeginsLoad, BeginsUnload, begun_unload, IsOpen};
+ghost use Rattle.plcr_imagelist.specs.Listing.{HasLists, AddsChanges, change_of, made_by_load, made_by_unload};
 ghost use Rattle.plcr_imagelist.specs.Loading.{made_by, writer_left, HasMade, LoadsOrRefuses, UnloadsOrRefuses};
 
 use crate::books::Books;
@@ -122,6 +124,9 @@ impl Writer {
         ensures back { IfErr result (λ r. (r.0.table ≡ self.table) × IsAtRest r.0) }
         ensures paced { IfOk result (λ change. IsPaced change.writer.history) }
         ensures made { HasMade self 0 (writer_left result) }
+        ensures changes { AddsChanges self [] (writer_left result) }
+        ensures change { IfOk result (λ change. change_of change.doing change.load ≡ Loads (record { load = change.load; header = header; name = name.now })) }
+        ensures lists { IfOk result (λ change. HasLists change.writer) }
     {
         let Writer {
             mut books,
@@ -157,6 +162,9 @@ impl Writer {
         ensures back { IfErr result (λ r. (r.0.table ≡ self.table) × IsAtRest r.0) }
         ensures paced { IfOk result (λ change. IsPaced change.writer.history) }
         ensures made { HasMade self 0 (writer_left result) }
+        ensures changes { AddsChanges self [] (writer_left result) }
+        ensures change { IfOk result (λ change. change_of change.doing change.load ≡ Unloads header) }
+        ensures lists { IfOk result (λ change. HasLists change.writer) }
     {
         let _ = list;
         let Writer { books, name: kept } = self;
@@ -187,6 +195,8 @@ impl Writer {
         ensures rest { IsAtRest result.0 }
         ensures loads { ¬ IsWorn self → IsImageName name.now → LoadsOrRefuses self header name.now result.0 result.1 }
         ensures made { HasMade self (made_by result.1) result.0 }
+        ensures changes { AddsChanges self (made_by_load header name.now result.1) result.0 }
+        ensures lists { HasLists result.0 }
     {
         match self.begin_load(list, header, name) {
             Ok(change) => {
@@ -205,6 +215,8 @@ impl Writer {
         ensures rest { IsAtRest result.0 }
         ensures unloads { ¬ IsWorn self → UnloadsOrRefuses self (first_with header (live self.history)) result.0 result.1 }
         ensures made { HasMade self (made_by result.1) result.0 }
+        ensures changes { AddsChanges self (made_by_unload header result.1) result.0 }
+        ensures lists { HasLists result.0 }
         ensures first { ¬ IsWorn self → IfOk result.1 (λ _. live result.0.history ≡ without_first header (live self.history)) }
     {
         match self.begin_unload(list, header) {

@@ -4,12 +4,14 @@ use Rattle.plcr_nodes.specs.Entries.{among}
 use Rattle.plcr_nodes.specs.Tokens.{PassState, IsFollowed}
 use Rattle.plcr_imagelist.specs.inner.Keeping.{last_of}
 use Rattle.plcr_imagelist.specs.Holds.{HoldState, IsNext, IsWalking}
-use Rattle.plcr_imagelist.specs.inner.Holding.{IsHolding}
+use Rattle.plcr_imagelist.specs.inner.Holding.{IsHolding, walker_state}
 use Rattle.plcr_imagelist.proofs.Meeting.{among_last, length-images_on}
 use Rattle.plcr_macho.specs.Index.{Extent}
 use Rattle.plcr_imagelist.specs.inner.Indexing.{extents_in}
 use Rattle.plcr_imagelist.proofs.Indexed.{with, next_with, walking_with}
 use Rattle.plcr_imagelist.proofs.Walking.{hold_of, holding_ended, next_ended, holding_met, next_met}
+use Rattle.plcr_imagelist.specs.Carrying.{OnlySees}
+use Rattle.plcr_imagelist.proofs.Sees.{only_sees}
 use Rattle.plcr_imagelist.proofs.hold.Hold.next.Goals as goal
 
 pub next_link-found-requires-clause-known : goal.next_link-found-requires-clause-known
@@ -104,3 +106,15 @@ returns-clause-walking c =
     (subst (λ (e : Bool). IsWalking (hold_of c.next_link-found.new.self c.push_reserved.new.self.items e)) (sym c.if-self.false)
     (subst (λ (xs : List ℕ). IsWalking (hold_of c.next_link-found.new.self xs false)) (sym c.push_reserved.ensures.items)
     (holding_met h.pass h.met.items c.next_link-found.result c.next_link-found.new.self h.low followed going c.if-found-eq0.false).walking))
+
+pub returns-then-found-eq0-clause-sees : goal.returns-then-found-eq0-clause-sees
+returns-then-found-eq0-clause-sees c =
+    let new = walker_state c.next_link-found.new.self in
+    let f = c.next_link-found.ensures.link in
+    subst (λ (s : HoldState). OnlySees s.walker new) c.self.view_is (only_sees (walker_state c.self.inside.pass) new f.past f.names f.sees (ap walker_state f.now) c.self.invariant.0.walking.known.named)
+
+pub returns-clause-sees : goal.returns-clause-sees
+returns-clause-sees c =
+    let new = walker_state c.next_link-found.new.self in
+    let f = c.next_link-found.ensures.link in
+    subst (λ (s : HoldState). OnlySees s.walker new) c.self.view_is (only_sees (walker_state c.self.inside.pass) new f.past f.names f.sees (ap walker_state f.now) c.self.invariant.0.walking.known.named)

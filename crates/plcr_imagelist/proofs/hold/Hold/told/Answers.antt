@@ -7,6 +7,9 @@ use Rattle.plcr_imagelist.proofs.Walking.{hold_of}
 use Rattle.plcr_imagelist.specs.inner.Indexing.{extents_in}
 use Rattle.plcr_imagelist.proofs.Indexed.{with, told_with, walking_with}
 use Rattle.plcr_imagelist.proofs.Told.{holding_told, hold_told}
+use Rattle.plcr_imagelist.specs.Carrying.{OnlySees}
+use Rattle.plcr_imagelist.specs.inner.Holding.{walker_state}
+use Rattle.plcr_imagelist.proofs.Sees.{only_sees}
 use Rattle.plcr_imagelist.proofs.hold.Hold.told.Goals as goal
 
 pub invariant_of-self : goal.invariant_of-self
@@ -30,3 +33,10 @@ returns-clause-told c =
     subst (λ (n : NoteState). IsHoldTold c.args.self.now n new) c.note.view_is
     (subst (λ (s : HoldState). IsHoldTold s c.note.inside.note new) c.self.view_is
     (told_with (hold_of h.pass h.met.items h.ended) c.note.inside.note (hold_of c.told.new.self h.met.items h.ended) es (hold_told h.pass c.note.inside.note c.told.new.self h.met.items h.ended h.low c.told.ensures.told c.self.invariant.0)))
+
+pub returns-clause-sees : goal.returns-clause-sees
+returns-clause-sees c =
+    let h = c.self.inside in
+    let new = walker_state c.told.new.self in
+    let t = c.told.ensures.told in
+    subst (λ (s : HoldState). OnlySees s.walker new) c.self.view_is (only_sees (walker_state h.pass) new t.past t.names t.sees (ap walker_state t.now) c.self.invariant.0.walking.known.named)

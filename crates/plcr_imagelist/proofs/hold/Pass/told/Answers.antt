@@ -4,6 +4,8 @@ use Rattle.plcr_imagelist.specs.Holds.{WalkerState}
 use Rattle.plcr_imagelist.specs.inner.Holding.{walker_state}
 use Rattle.plcr_imagelist.specs.Tellings.{IsWalkerTold}
 use Rattle.plcr_imagelist.proofs.Told.{out_told, walker_told}
+use Rattle.plcr_imagelist.specs.Carrying.{OnlySees}
+use Rattle.plcr_imagelist.proofs.Sees.{only_sees}
 use Rattle.plcr_imagelist.proofs.hold.Pass.told.Goals as goal
 
 pub invariant_of-self : goal.invariant_of-self
@@ -18,3 +20,9 @@ returns-clause-told c =
     let new = walker_state c.told.new.self in
     subst (λ (n : NoteState). IsWalkerTold c.args.self.now n new) c.note.view_is
     (subst (λ (s : WalkerState). IsWalkerTold s c.note.inside.note new) c.self.view_is (walker_told c.self.inside.pass c.note.inside.note c.told.new.self c.told.ensures.told))
+
+pub returns-clause-sees : goal.returns-clause-sees
+returns-clause-sees c =
+    let new = walker_state c.told.new.self in
+    let t = c.told.ensures.told in
+    subst (λ (s : WalkerState). OnlySees s new) c.self.view_is (only_sees (walker_state c.self.inside.pass) new t.past t.names t.sees (ap walker_state t.now) c.self.invariant.0.known.named)

@@ -1,0 +1,21 @@
+//! What the clauses of several calls come to, each as the contract of a function that does nothing.
+
+ghost use Rattle.plcr_imagelist.specs.Carrying.{SeeingGoesOn, ReadingOnlySees, MetStayNamed, VisitsAreMade};
+ghost use Rattle.plcr_imagelist.specs.Listing.{RestHasLists};
+
+/// What a pass or a hold sees by several calls, it sees; and so it does as images are read.
+pub fn seeing_goes_on()
+    ensures again { SeeingGoesOn }
+    ensures reading { ReadingOnlySees }
+    ensures named { MetStayNamed }
+{}
+
+/// A pass that goes in, sees and comes out has made a visit.
+pub fn visits_are_made()
+    ensures { VisitsAreMade }
+{}
+
+/// The changes of a writer at rest, by headers and names, leave its lists.
+pub fn rest_has_lists()
+    ensures { RestHasLists }
+{}
