@@ -5,6 +5,7 @@ use Rattle.std.specs.List.{AllByRecursion}
 use Rattle.std.specs.Int.{w64}
 use Rattle.std.proofs.lemmas.Int.{fits_signed_from_abs}
 use Rattle.std.proofs.Math.Nat.{suc-mul}
+use Rattle.plcr_base.proofs.Plain.{some_weaker}
 use Rattle.plcr_base.specs.declared.limits.TheConstants.{IMAGE_NAME_BYTES}
 use Rattle.plcr_wire.specs.Message.{Number, Bytes, Field, field_spelling, number_field, bytes_field, spelling}
 use Rattle.plcr_regs.specs.declared.arch.Arch.{Arch}
@@ -64,10 +65,6 @@ with_maybe field bytes (Some x) m fs n small most short others = with_bytes fiel
 all_weaker : {A : Type 0} (P Q : A → Type 0) → ((x : A) → P x → Q x) → (xs : List A) → AllByRecursion P xs → AllByRecursion Q xs
 all_weaker P Q f [] p = tt
 all_weaker P Q f (x ∷ xs) p = (f x p.0, all_weaker P Q f xs p.1)
-
-some_weaker : {A : Type 0} (P Q : A → Type 0) → ((x : A) → P x → Q x) → (o : Option A) → IfSome o P → IfSome o Q
-some_weaker P Q f None p = tt
-some_weaker P Q f (Some x) p = f x p
 
 -- a register, whose name has at most 8 bytes
 register_typed : (register : Register) → IsHandedRegister register → TypedRegister register
