@@ -6,7 +6,7 @@ use Rattle.std.proofs.lemmas.Bool.Decides.{nat_tests}
 use Rattle.std.proofs.Math.Seq.{drop-cons}
 use Rattle.byteorder.specs.Endian.{little_number}
 use Rattle.byteorder.specs.Numbers.{little_from-take}
-use Rattle.plcr_memory.specs.Regions.{Contents, byte_at, bytes_at, number_at}
+use Rattle.plcr_memory.specs.Regions.{Contents, byte_at, bytes_at, cons_known, number_at}
 use Rattle.plcr_memory.proofs.Fronts.{cons_known_some, bytes_front, bytes_count}
 use Rattle.plcr_leb128.specs.Cells.{bytes_of, number_in, piece_bytes, list_bytes}
 

@@ -1,7 +1,7 @@
 -- Bytes of a list and of a memory.
-use Rattle.std.proofs.Common.{◌≡◌, ◌≤◌, ◌<◌, ℕ, zero, suc, ◌+◌, ◌-◌, List, [], ◌∷◌, take, drop, Option, Some, None, is_some, refl, sym, ap, subst, ◌∙◌, arith}
+use Rattle.std.proofs.Common.{◌≡◌, ◌≤◌, ◌<◌, ℕ, ◌+◌, ◌-◌, List, [], ◌∷◌, take, drop, Option, Some, None, is_some, refl, sym, ap, subst, ◌∙◌, arith}
 use Rattle.std.specs.Prelude.{IsSome, unwrap_or}
-use Rattle.plcr_memory.specs.Regions.{Contents, byte_at, bytes_at}
+use Rattle.plcr_memory.specs.Regions.{Contents, byte_at, bytes_at, cons_known}
 use Rattle.plcr_memory.proofs.Fronts.{bytes_front, bytes_back}
 use Rattle.plcr_loader.specs.Commands.{IsPlain}
 use Rattle.plcr_macho.specs.Sources.{plus, memory_bytes}
