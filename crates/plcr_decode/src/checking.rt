@@ -16,6 +16,7 @@ use crate::scanning::{Step, step_of, text_of};
 use plcr_report::{Holds, Kind};
 
 /// Whether a message of this kind may stand in parts, in several fields. None of these holds another message.
+#[inline(always)]
 fn is_joined(kind: Kind) -> bool
     ensures { result ≡ view.is_joined kind }
 {
@@ -102,6 +103,7 @@ fn take_message(
 }
 
 /// The first of two.
+#[inline(always)]
 fn first_of(first: Option<Lack>, next: Option<Lack>) -> Option<Lack>
     ensures { told_lack result ≡ before (told_lack first) (told_lack next) }
 {

@@ -25,6 +25,7 @@ pub(crate) enum Last<'a> {
 
 impl<'a> Last<'a> {
     /// The last value, once this one stands there too.
+    #[inline(always)]
     fn followed_by(self, value: ValueSlice<'a>) -> Last<'a>
         ensures { result ≡ again self.entry value.entry }
     {
@@ -35,6 +36,7 @@ impl<'a> Last<'a> {
     }
 
     /// The last value, where there is one.
+    #[inline(always)]
     fn value(self) -> Option<ValueSlice<'a>>
         ensures { told_value result ≡ shown self.entry }
     {
@@ -67,6 +69,7 @@ impl<'a> Model for Found<'a> {
 }
 
 /// Keeps the value of a field under its number.
+#[inline(always)]
 #[tactic(auto, using(crate::proofs::Kept::kept_new, crate::proofs::Kept::kept_same))]
 fn keep<'a>(lasts: &mut [Last<'a>; NUMBERS], piece: FieldSlice<'a>)
     ensures { (n : ℕ) → n < NUMBERS → slice_index_or lasts.new n Never ≡ (if piece.entry.number == n then again (slice_index_or lasts.old n Never) piece.entry.value else slice_index_or lasts.old n Never) }

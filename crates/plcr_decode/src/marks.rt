@@ -47,6 +47,7 @@ impl Seen {
     }
 
     /// Once a field of this number is passed too.
+    #[inline(always)]
     #[tactic(auto, using(crate::proofs::Marked::seen_new, crate::proofs::Marked::seen_same))]
     pub(crate) fn and(self, number: u32) -> Seen
         ensures { (n : ℕ) → n < NUMBERS → seen result n ≡ (if number == n then true else seen self n) }
@@ -60,6 +61,7 @@ impl Seen {
     }
 
     /// Whether a field of this number was passed.
+    #[inline(always)]
     fn has(self, number: u32) -> bool
         requires { number < NUMBERS }
         ensures { result ≡ seen self number }
