@@ -24,4 +24,4 @@ pub returns-else-self-change_step-clause-changes :
     goal.returns-else-self-change_step-clause-changes
 returns-else-self-change_step-clause-changes c =
     let known = subst (λ (s : ChangeState). IsHistory s.writer.nodes s.writer.passes s.writer.history s.writer.names) c.self.view_is c.self.invariant.0.known in
-    stepped_adds c.args.self (More c.advance.result) known (returns-else-self-change_step-clause-step c)
+    stepped_adds c.args.self (More c.advance.new.self) known (returns-else-self-change_step-clause-step c)
