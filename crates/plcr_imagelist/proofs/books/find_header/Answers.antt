@@ -1,4 +1,4 @@
-use Rattle.std.proofs.Common.{◌≡◌, ◌∙◌, List, ap, sym}
+use Rattle.std.proofs.Common.{◌∙◌, List, ap, sym}
 use Rattle.plcr_machine.specs.declared.image.Image.{Image}
 use Rattle.plcr_imagelist.specs.Finding.{first_with}
 use Rattle.plcr_imagelist.proofs.Placed.{found_left, found_right, first_right}

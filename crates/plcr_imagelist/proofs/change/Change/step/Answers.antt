@@ -1,8 +1,7 @@
-use Rattle.std.proofs.Common.{◌≡◌, suc, sym, ap, subst, ◌∙◌, arith, rules}
+use Rattle.std.proofs.Common.{subst, rules}
 use Rattle.plcr_machine.specs.Histories.{IsHistory}
 use Rattle.plcr_imagelist.specs.declared.change.Progress.TheVariants.{More, Done}
-use Rattle.plcr_imagelist.specs.States.{ChangeState, change_step}
-use Rattle.plcr_imagelist.specs.inner.Making.{doing_of}
+use Rattle.plcr_imagelist.specs.States.{ChangeState}
 use Rattle.plcr_imagelist.proofs.Changed.{stepped_adds}
 use Rattle.plcr_imagelist.proofs.change.Change.step.Goals as goal
 
