@@ -1,5 +1,5 @@
 -- Numbers of a fixed size and single bytes, in a piece of memory and in a list.
-use Rattle.std.proofs.Common.{◌≡◌, ◌≤◌, ◌<◌, ℕ, zero, suc, ◌+◌, ◌%◌, ◌^◌, inl, inr, List, [], ◌∷◌, Option, Some, None, option_map, true, false, length, take, drop, slice_index, refl, sym, ap, subst, ◌∙◌, arith}
+use Rattle.std.proofs.Common.{◌≡◌, ◌≤◌, ◌<◌, ℕ, zero, suc, ◌+◌, ◌%◌, ◌^◌, inl, inr, List, [], Option, Some, None, option_map, true, false, length, take, drop, slice_index, refl, sym, ap, ◌∙◌, arith}
 use Rattle.std.specs.Prelude.{is_some, nat_le}
 use Rattle.std.proofs.lemmas.Bool.{cases_lt}
 use Rattle.std.proofs.lemmas.Bool.Decides.{nat_tests}
@@ -7,7 +7,7 @@ use Rattle.std.proofs.Math.Seq.{drop-cons}
 use Rattle.byteorder.specs.Endian.{little_number}
 use Rattle.byteorder.specs.Numbers.{little_from-take}
 use Rattle.plcr_memory.specs.Regions.{Contents, byte_at, bytes_at, cons_known, number_at}
-use Rattle.plcr_memory.proofs.Fronts.{cons_known_some, bytes_front, bytes_count}
+use Rattle.plcr_memory.proofs.Fronts.{bytes_count, bytes_within}
 use Rattle.plcr_leb128.specs.Cells.{bytes_of, number_in, piece_bytes, list_bytes}
 
 -- bytes within a piece are those of the memory
@@ -84,18 +84,6 @@ list_has xs n place h = ap is_some (list_run xs n place h)
 
 pub list_lacks : (xs : List ℕ) (n place : ℕ) → length xs < place + n → is_some (list_bytes xs place n) ≡ false
 list_lacks xs n place h = ap is_some (list_past xs n place h)
-
--- bytes of those that stand there
-bytes_within : (m : Contents) (at n place size : ℕ) (xs : List ℕ) → place + n ≤ size → bytes_at m at size ≡ Some xs → bytes_at m (at + place) n ≡ Some (take n (drop place xs))
-bytes_within m at n zero size xs le h =
-    let here : at ≡ at + 0 = omega arith in
-    subst (λ (a : ℕ). bytes_at m a n ≡ Some (take n xs)) here (bytes_front m at n size xs (omega (arith, le)) h)
-bytes_within m at n (suc place) zero xs le h = absurd (omega (arith, le))
-bytes_within m at n (suc place) (suc size) xs le h =
-    let c = cons_known_some (byte_at m at) (bytes_at m (at + 1) size) xs h in
-    let rest : bytes_at m ((at + 1) + place) n ≡ Some (take n (drop place c.1)) = bytes_within m (at + 1) n place size c.1 (omega (arith, le)) c.3 in
-    let same : at + suc place ≡ (at + 1) + place = omega arith in
-    ap (λ (a : ℕ). bytes_at m a n) same ∙ rest ∙ ap (λ (ys : List ℕ). let r : Option (List ℕ) = Some (take n (drop (suc place) ys)) in r) (sym c.4)
 
 -- bytes that end within the addresses of 64 bits stand where they are counted from an address, modulo 2^64
 bytes_modulo : (m : Contents) (at place n size : ℕ) → place + n ≤ size → at + size ≤ 2 ^ 64 → bytes_at m ((at + place) % 2 ^ 64) n ≡ bytes_at m (at + place) n

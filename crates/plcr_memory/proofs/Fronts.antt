@@ -1,4 +1,4 @@
--- The bytes of a piece of memory: how many, the first of them, and those from a later place on.
+-- The bytes of a piece of memory: how many, the first of them, those from a later place on, and those between.
 use Rattle.std.proofs.Common.{◌≡◌, ◌≤◌, ℕ, zero, suc, ◌+◌, List, [], ◌∷◌, length, take, drop, Option, Some, None, refl, sym, ap, subst, ◌∙◌, arith}
 use Rattle.plcr_memory.specs.Regions.{Contents, byte_at, bytes_at, cons_known}
 
@@ -40,3 +40,15 @@ bytes_count m at zero xs h =
 bytes_count m at (suc size) xs h =
     let c = cons_known_some (byte_at m at) (bytes_at m (at + 1) size) xs h in
     ap length c.4 ∙ ap (λ (n : ℕ). suc n) (bytes_count m (at + 1) size c.1 c.3)
+
+-- so many of them from a later place on
+pub bytes_within : (m : Contents) (at n place size : ℕ) (xs : List ℕ) → place + n ≤ size → bytes_at m at size ≡ Some xs → bytes_at m (at + place) n ≡ Some (take n (drop place xs))
+bytes_within m at n zero size xs le h =
+    let here : at ≡ at + 0 = omega arith in
+    subst (λ (a : ℕ). bytes_at m a n ≡ Some (take n xs)) here (bytes_front m at n size xs (omega (arith, le)) h)
+bytes_within m at n (suc place) zero xs le h = absurd (omega (arith, le))
+bytes_within m at n (suc place) (suc size) xs le h =
+    let c = cons_known_some (byte_at m at) (bytes_at m (at + 1) size) xs h in
+    let rest : bytes_at m ((at + 1) + place) n ≡ Some (take n (drop place c.1)) = bytes_within m (at + 1) n place size c.1 (omega (arith, le)) c.3 in
+    let same : at + suc place ≡ (at + 1) + place = omega arith in
+    ap (λ (a : ℕ). bytes_at m a n) same ∙ rest ∙ ap (λ (ys : List ℕ). let r : Option (List ℕ) = Some (take n (drop (suc place) ys)) in r) (sym c.4)
