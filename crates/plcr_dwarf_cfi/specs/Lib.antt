@@ -1,0 +1,9 @@
+pub mod Caller
+pub mod Entries
+pub mod Faults
+pub mod Instructions
+pub mod Lists
+pub mod Pointers
+pub mod Rows
+pub mod Sections
+pub mod inner
