@@ -22,7 +22,7 @@ pub(crate) struct Fields<'a> {
 /// The field that these bytes begin with; none at a fault.
 #[inline(always)]
 #[tactic(auto, using(crate::proofs::Listed::fields_step))]
-fn first(bytes: &[u8]) -> Option<FieldSlice<'_>>
+pub(crate) fn first(bytes: &[u8]) -> Option<FieldSlice<'_>>
     ensures first { MatchOption result (fields_of bytes.now ≡ []) (λ p. fields_of bytes.now ≡ (field_slice p).0 ∷ fields_of p.rest.now) }
     ensures shorter { IfSome result (λ p. value_slice_len p.value + length p.rest.now < length bytes.now) }
 {
@@ -105,19 +105,5 @@ impl<'a> Fields<'a> {
                 }
             }
         }
-    }
-
-    /// The bytes of the next message that stands in a field of this number.
-    #[inline(always)]
-    pub(crate) fn next_message(&mut self, number: u32) -> Option<&'a [u8]>
-        ensures next { MatchOption result (messages_in number (left self.old) ≡ []) (λ m. messages_in number (left self.old) ≡ fields_of m.now ∷ messages_in number (left self.new)) }
-        ensures smaller { IfSome result (λ m. size self.new < size self.old) }
-    {
-        while let Some(piece) = self.next() {
-            if piece.number == number {
-                return Some(text_of(piece.value));
-            }
-        }
-        None
     }
 }

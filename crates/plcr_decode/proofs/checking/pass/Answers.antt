@@ -28,8 +28,8 @@ loop-rest-preserved c =
           sym (leaf_more c.args.kind c.args.end c.loop-rest.rest.now step.holds step.piece.number (value_slice step.piece.value) step.piece.rest.now
           c.requires.joined some c.in_ok-step.ensures.known c.in_ok-step.ensures.reads) ∙ c.loop-rest.invariant.same;
       sees = λ m less.
-          sees_next c.loop-rest.fields c.and-fields.result (field_slice step.piece).0 m (fields_of step.piece.rest.now) (c.and-fields.ensures m less)
-          ∙ ap (λ gs. cond (seen c.loop-rest.fields m) true (has m gs)) (sym c.in_ok-step.ensures.field) ∙ c.loop-rest.invariant.sees m less;
+          sees_next c.loop-rest.seen c.note.new.self (field_slice step.piece).0 m (fields_of step.piece.rest.now) (c.note.ensures m less)
+          ∙ ap (λ gs. cond (seen c.loop-rest.seen m) true (has m gs)) (sym c.in_ok-step.ensures.field) ∙ c.loop-rest.invariant.sees m less;
     }
 
 pub returns-clause-none : goal.returns-clause-none
@@ -40,5 +40,5 @@ returns-clause-none c =
 pub returns-clause-seen : goal.returns-clause-seen
 returns-clause-seen c = λ m less.
     let none : c.loop-rest.rest.now ≡ [] = nothing c.loop-rest.rest.now (omega arith) in
-    sym (or_none (seen c.loop-rest.fields m))
-    ∙ ap (λ gs. cond (seen c.loop-rest.fields m) true (has m gs)) (sym (ap fields_of none ∙ fields_none)) ∙ c.loop-rest.invariant.sees m less
+    sym (or_none (seen c.loop-rest.seen m))
+    ∙ ap (λ gs. cond (seen c.loop-rest.seen m) true (has m gs)) (sym (ap fields_of none ∙ fields_none)) ∙ c.loop-rest.invariant.sees m less
