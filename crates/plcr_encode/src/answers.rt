@@ -107,8 +107,8 @@ fn answer_rows<I: Images>(
     give_symbols(rows, lookups, found);
 }
 
-/// Finds the symbols of the rows of a thread's frames. The lookups are sorted by image and address, so that the table of
-/// each image is gone through once, and the rows keep their order.
+/// Finds the symbols of the rows of a thread's frames. The lookups are sorted by image and address,
+/// so that the table of each image is gone through once, and the rows keep their order.
 pub(crate) fn find_symbols<I: Images>(room: &mut Room, images: &mut I, memory: &Memory, arch: Arch)
     requires { All (IsPlaced (I.images images.old)) room.old.rows.items }
     ensures found { room.new.rows.items ≡ map (answered (symbol_by memory.now arch (I.images images.old))) room.old.rows.items }

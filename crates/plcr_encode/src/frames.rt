@@ -16,8 +16,8 @@ use plcr_macho::Images;
 use plcr_memory::Memory;
 use plcr_regs::Registers;
 
-/// Walks over the frames of a thread that was stopped in this state, and keeps them in place of those before. Their
-/// symbols aren't found yet.
+/// Walks over the frames of a thread that was stopped in this state, and keeps them in place of
+/// those before. Their symbols aren't found yet.
 fn walk_frames<I: Images>(
     rows: &mut ArrayVec<FrameRow, MOST_FRAMES>,
     images: &mut I,
@@ -48,8 +48,8 @@ fn walk_frames<I: Images>(
     }
 }
 
-/// Finds the frames of a thread that was stopped in this state, with their symbols, and keeps them in place of those
-/// before.
+/// Finds the frames of a thread that was stopped in this state, with their symbols, and keeps them
+/// in place of those before.
 pub(crate) fn find_frames<I: Images>(
     room: &mut Room,
     images: &mut I,

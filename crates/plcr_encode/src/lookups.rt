@@ -44,7 +44,8 @@ pub(crate) fn list_lookups(lookups: &mut ArrayVec<Lookup, MOST_FRAMES>, rows: &[
     }
 }
 
-/// Lists the addresses that are looked for, with room for an answer to each, in place of those before.
+/// Lists the addresses that are looked for, with room for an answer to each, in place of those
+/// before.
 pub(crate) fn list_addresses(
     addresses: &mut ArrayVec<u64, MOST_FRAMES>,
     found: &mut ArrayVec<Option<SymbolAt>, MOST_FRAMES>,

@@ -69,7 +69,8 @@ fn put_root<I: Images, W: Ink>(
 /// length in bytes. At `PutFailed` the sink has a front of it, and not all. File format:
 /// PLCrashReporter's crash_report.proto, behind the text `plcrash` and the version 1.
 ///
-/// The list of images is indexed first, for this memory and architecture. It takes no memory. The sink is given pieces of at most 256 bytes.
+/// The list of images is indexed first, for this memory and architecture. It takes no memory. The
+/// sink is given pieces of at most 256 bytes.
 pub fn capture<I: Images, K: Sink>(
     images: &mut I,
     memory: &Memory,

@@ -20,7 +20,8 @@ const EXTERNAL: u8 = 0x0f;
 
 const STAB: u8 = 0x2e;
 
-/// A row of a table of symbols: the place of its name, its type, and how far its value is behind the header.
+/// A row of a table of symbols: the place of its name, its type, and how far its value is behind
+/// the header.
 #[derive(Clone, Copy)]
 struct Row(u32, u8, u64);
 
@@ -34,7 +35,8 @@ const ROWS: [Row; 4] = [
 
 const NAMES: &[u8; 26] = b"\0_main\0_alias\0_stab\0_next\0";
 
-/// The frames of these addresses of A0 in a report: two in `_main`, one in `_next`, and one without a symbol.
+/// The frames of these addresses of A0 in a report: two in `_main`, one in `_next`, and one without
+/// a symbol.
 const MAIN: &[u8; 23] =
     b"\x12\x15\x18\xd0\x9e\x80\x80\x10\x32\x0d\x0a\x05_main\x10\x80\x9e\x80\x80\x10";
 
@@ -101,7 +103,8 @@ impl Made {
         self.add_words(&[5, 5, 0, 0])
     }
 
-    // An image of so many bytes that was linked at one address and lies at another, with its tables 0x8000 bytes behind.
+    // An image of so many bytes that was linked at one address and lies at another, with its tables
+    // 0x8000 bytes behind.
     fn add_image(
         &mut self,
         linked: u64,
@@ -111,13 +114,13 @@ impl Made {
         names: &[u8],
     ) -> Result<(), AllocError> {
         let from = self.file.len();
-        let count = rows.len() as u32;
+        let count = rows.len().min(1000) as u32;
         let strings = 0x1000u32.wrapping_add(count.wrapping_mul(16));
         self.add_words(&[0xfeed_facf, 0x0100_0007, 3, 6, 3, 168, 0, 0])?;
         self.add_segment(b"__TEXT\0\0\0\0\0\0\0\0\0\0", [linked, size, 0, size])?;
         let tables = [linked.wrapping_add(0x8000), 0x4000, 0x1000, 0x4000];
         self.add_segment(b"__LINKEDIT\0\0\0\0\0\0", tables)?;
-        self.add_words(&[2, 24, 0x1000, count, strings, names.len() as u32])?;
+        self.add_words(&[2, 24, 0x1000, count, strings, names.len().min(5000) as u32])?;
         self.place(header, from)?;
         let behind = self.file.len();
         for Row(name, kind, value) in rows {
@@ -134,13 +137,19 @@ impl Made {
 }
 
 /// The memory of one image at A0.
-fn one_image(alloc: Global, linked: u64, rows: &[Row], names: &[u8]) -> Result<Memory, MemoryFault> {
+fn one_image(
+    alloc: Global,
+    linked: u64,
+    rows: &[Row],
+    names: &[u8],
+) -> Result<Memory, MemoryFault> {
     let mut made = Made::new(alloc);
     made.add_image(linked, A0, 0x4000, rows, names)?;
     made.memory(alloc)
 }
 
-/// The memory of an image at A0 and of one at A1, which has `_far`, and of four saved frames at 0x70.
+/// The memory of an image at A0 and of one at A1, which has `_far`, and of four saved frames at
+/// 0x70.
 fn two_images(alloc: Global) -> Result<Memory, MemoryFault> {
     let mut made = Made::new(alloc);
     made.add_image(A0, A0, 0x4000, &ROWS, NAMES)?;
@@ -158,7 +167,7 @@ fn report(
     memory: &Memory,
     images: &[PlainImage],
     thread: Registers,
-) -> Result<Vec<u8>, Fail> 
+) -> Result<Vec<u8>, Fail>
     requires { IsWhole Arch.X86_64 thread }
 {
     let mut out = MemOut::new(alloc, 4000, 1000, Vec::new(alloc))?;
@@ -167,8 +176,8 @@ fn report(
     Ok(out.bytes().to_vec(alloc)?)
 }
 
-/// Whether the first thread of a report has just these frames: behind its number, before the field `crashed`. Its own
-/// length has two bytes.
+/// Whether the first thread of a report has just these frames: behind its number, before the field
+/// `crashed`. Its own length has two bytes.
 fn has_frames(report: &[u8], frames: &[&[u8]]) -> bool {
     let mut rest = report.split_at(report.len().min(34)).1;
     for frame in frames {
@@ -198,7 +207,8 @@ fn the_bytes_of_a_symbol(rt: HostRuntime) -> Result<(), Fail> {
     Ok(())
 }
 
-// Each frame has the symbol of the image that it lies in, and of the address before the one it goes back to.
+// Each frame has the symbol of the image that it lies in, and of the address before the one it goes
+// back to.
 #[test]
 fn symbols_of_saved_frames(rt: HostRuntime) -> Result<(), Fail> {
     let alloc = rt.alloc();
@@ -225,11 +235,17 @@ fn symbols_of_two_threads(rt: HostRuntime) -> Result<(), Fail> {
     // The first thread has 220 bytes, the second 219.
     let second = out.bytes().split_at(out.bytes().len().min(252)).1;
     assert!(rt; second.starts_with(b"\x1a\xdb\x01\x08\x01\x12\x14\x18\x91\x80\x81\x80\x10"));
-    assert!(rt; second.split_at(second.len().min(5)).1.starts_with(FAR_AT_11));
+    assert!(rt;
+        second
+            .split_at(second.len().min(5))
+            .1
+            .starts_with(FAR_AT_11)
+    );
     Ok(())
 }
 
-// Where an image lies counts, and not where it was linked, also where its slide passes the last address.
+// Where an image lies counts, and not where it was linked, also where its slide passes the last
+// address.
 #[test]
 fn symbols_of_moved_images(rt: HostRuntime) -> Result<(), Fail> {
     let alloc = rt.alloc();
@@ -251,30 +267,32 @@ fn long_name(alloc: Global, len: u32) -> Result<Vec<u8>, AllocError> {
     Ok(name)
 }
 
+// Whether the frame in the one symbol of an image, which has this name, is this.
+fn named(alloc: Global, name: &[u8], frame: &[&[u8]]) -> Result<bool, Fail> {
+    let memory = one_image(alloc, A0, &[Row(0, SECT, 0xf00)], name)?;
+    let found = report(alloc, &memory, &[image(A0, b"x")], stopped())?;
+    Ok(has_frames(found.as_slice(), frame))
+}
+
 #[test]
 fn names_of_symbols(rt: HostRuntime) -> Result<(), Fail> {
     let alloc = rt.alloc();
-    let rows = [Row(0, SECT, 0xf00)];
     let empty = b"\x12\x10\x18\xd0\x9e\x80\x80\x10\x32\x08\x0a\x00\x10\x80\x9e\x80\x80\x10";
-    let cases: [(&[u8], &[u8]); 3] = [(b"\0", empty), (b"_main\0", MAIN), (b"_main", BARE)];
-    for (names, want) in cases {
-        let memory = one_image(alloc, A0, &rows, names)?;
-        let found = report(alloc, &memory, &[image(A0, b"x")], stopped())?;
-        assert!(rt; has_frames(found.as_slice(), &[want]));
-    }
+    assert!(rt; named(alloc, b"\0", &[empty])?);
+    assert!(rt; named(alloc, b"_main\0", &[MAIN])?);
+    assert!(rt; named(alloc, b"_main", &[BARE])?);
 
     let name = long_name(alloc, 1024)?;
-    let memory = one_image(alloc, A0, &rows, name.as_slice())?;
-    let found = report(alloc, &memory, &[image(A0, b"x")], stopped())?;
     let front = b"\x12\x92\x08\x18\xd0\x9e\x80\x80\x10\x32\x89\x08\x0a\x80\x08";
     let letters = name.as_slice().split_at(name.len().min(1024)).0;
-    let parts: [&[u8]; 3] = [front, letters, b"\x10\x80\x9e\x80\x80\x10"];
-    assert!(rt; has_frames(found.as_slice(), &parts));
-
-    let name = long_name(alloc, 1025)?;
-    let memory = one_image(alloc, A0, &rows, name.as_slice())?;
-    let found = report(alloc, &memory, &[image(A0, b"x")], stopped())?;
-    assert!(rt; has_frames(found.as_slice(), &[BARE]));
+    assert!(rt;
+        named(
+            alloc,
+            name.as_slice(),
+            &[front, letters, b"\x10\x80\x9e\x80\x80\x10"]
+        )?
+    );
+    assert!(rt; named(alloc, long_name(alloc, 1025)?.as_slice(), &[BARE])?);
     Ok(())
 }
 

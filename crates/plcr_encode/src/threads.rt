@@ -101,7 +101,8 @@ fn put_registers<W: Ink>(ink: &mut W, state: &Registers)
     }
 }
 
-/// A thread: its number, that of the thread that crashed, the memory and the rows of its frames, and its state.
+/// A thread: its number, that of the thread that crashed, the memory and the rows of its frames,
+/// and its state.
 #[derive(Drop)]
 struct ThreadPart<'a> {
     number: u32,
@@ -143,8 +144,8 @@ impl Message for ThreadPart<'_> {
     ghost moderate = { lit< tt };
 }
 
-/// Writes the threads in these states, numbered from 0, and gives the length of what was written. The
-/// frames of a thread are found once, and kept in the rows while it is sized and written.
+/// Writes the threads in these states, numbered from 0, and gives the length of what was written.
+/// The frames of a thread are found once, and kept in the rows while it is sized and written.
 pub(crate) fn put_threads<I: Images, W: Ink>(
     ink: &mut W,
     room: &mut Room,
