@@ -11,7 +11,10 @@ mod decode;
 mod encodings;
 mod entries;
 mod fault;
+#[cfg(test)]
+mod fixtures;
 mod instructions;
+mod laws;
 mod limits;
 mod opcodes;
 mod pointers;
@@ -24,5 +27,11 @@ mod unwind;
 
 pub use entries::{CommonInformation, Encoding, Extent, Format, FrameDescription};
 pub use fault::{CallFrameFault, EXPRESSION};
+pub use laws::{instructions_are_spelled, rows_end_at_locations, the_first_is_found};
 pub use limits::{LINK_REGISTER, MOST_REMEMBERED, MOST_RULES};
 pub use steps::{find, step, step_from};
+
+#[cfg(test)]
+mod entry_tests;
+#[cfg(test)]
+mod tests;
