@@ -1,13 +1,10 @@
 -- Messages in the fields of a number, one field after the other.
 use Rattle.std.proofs.Common.{◌≡◌, ◌≢◌, ℕ, suc, ◌+◌, ◌≤◌, ◌==◌, List, [], ◌∷◌, ◌++◌, length, map, Bool, true, false, cond, refl, sym, ap, ◌∙◌, length-append, arith}
-use Rattle.std.proofs.lemmas.List.{map-append, append_assoc}
-use Rattle.std.proofs.lemmas.Bool.Decides.{nat_tests}
+use Rattle.std.proofs.lemmas.List.{nil_from_length, map-append, append_assoc}
 use Rattle.std.proofs.lemmas.Bool.{ne_eqb}
 use Rattle.plcr_wire.specs.Message.{Field, value_bytes}
 use Rattle.plcr_decode.specs.Fields.{fields_of, messages_in}
-
-same_number : (m n : ℕ) → m ≡ n → (m == n) ≡ true
-same_number m n h = grind (arith, nat_tests)
+use Rattle.plcr_decode.proofs.Listed.{same_number}
 
 chosen : {A : Type 0} (b c : Bool) (x y : A) → b ≡ c → cond b x y ≡ cond c x y
 chosen b c x y e = ap (λ (b : Bool). cond b x y) e
@@ -55,10 +52,6 @@ room_more n k now most f fs gs e put room =
     let all : length (messages_in n gs) ≡ length (messages_in n (f ∷ [])) + length (messages_in n fs) = ap (λ gs. length (messages_in n gs)) e ∙ rows_count n f fs in
     omega (arith, all, put, room)
 
-empty : (ms : List (List Field)) → length ms ≡ 0 → ms ≡ []
-empty [] e = refl
-empty (m ∷ ms) e = absurd (omega (arith, e))
-
 -- of none the list is empty
 pub none_counted : (n k : ℕ) (fs : List Field) → k ≡ length (messages_in n fs) → k ≡ 0 → messages_in n fs ≡ []
-none_counted n k fs h z = empty (messages_in n fs) (sym h ∙ z)
+none_counted n k fs h z = nil_from_length (messages_in n fs) (sym h ∙ z)

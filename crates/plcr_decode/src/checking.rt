@@ -53,6 +53,7 @@ fn pass(seen: &mut Seen, kind: Kind, bytes: &[u8], end: usize) -> Result<(), Dec
 }
 
 /// Passes a field, whose value ends at `end`.
+#[inline(always)]
 #[cycle(checking)]
 fn take(marks: &mut Marks, kind: Kind, step: Step<'_>, end: usize) -> Result<(), DecodeFault>
     requires within { value_slice_len step.piece.value ≤ end }
@@ -79,6 +80,7 @@ fn take(marks: &mut Marks, kind: Kind, step: Step<'_>, end: usize) -> Result<(),
 }
 
 /// Passes a message in a field of this number, or a part of it.
+#[inline(always)]
 #[cycle(checking)]
 fn take_message(
     marks: &mut Marks,
@@ -141,6 +143,7 @@ fn pass_field<'a>(
 
 /// Checks a message that ends at `end`: what it lacks, where it has no fault in reading order. Passes each of its bytes
 /// once, and takes no memory.
+#[inline(never)]
 #[cycle(checking)]
 fn check(kind: Kind, bytes: &[u8], end: usize) -> Result<Option<Lack>, DecodeFault>
     requires { length bytes.now ≤ end }

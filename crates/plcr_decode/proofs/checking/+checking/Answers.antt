@@ -1,5 +1,6 @@
 -- The first fault is that of a field or of the message in it; where there is none, what is known of all fields tells.
 use Rattle.std.proofs.Common.{◌≡◌, ◌<◌, [], rules, sym, ap, ◌∙◌, length, Some, None, arith}
+use Rattle.std.proofs.lemmas.List.{nil_from_length}
 use Rattle.std.proofs.lemmas.Result.{err_from_is_err_and}
 use Rattle.plcr_report.specs.declared.kinds.Holds.TheVariants as holds
 use Rattle.plcr_wire.specs.Reading.{field_slice, value_slice}
@@ -7,7 +8,7 @@ use Rattle.plcr_decode.specs.Fields.{fields_of}
 use Rattle.plcr_decode.specs.Scan as spec
 use Rattle.plcr_decode.proofs.Listed.{fields_none}
 use Rattle.plcr_decode.proofs.Scans.{scan_fault, scan_none}
-use Rattle.plcr_decode.proofs.Marked.{nothing, field_fault, field_more, held_is, known_small, marks_more, marks_tell}
+use Rattle.plcr_decode.proofs.Marked.{field_fault, field_more, held_is, known_small, marks_more, marks_tell}
 use Rattle.plcr_decode.proofs.checking.+checking.Goals as goal
 
 pub pass_field-returns-in_err-step-clause-fault : goal.pass_field-returns-in_err-step-clause-fault
@@ -42,12 +43,12 @@ check-loop-rest-preserved t c =
 
 pub check-returns-clause-none : goal.check-returns-clause-none
 check-returns-clause-none t c =
-    let none : c.loop-rest.rest.now ≡ [] = nothing c.loop-rest.rest.now (omega arith) in
+    let none : c.loop-rest.rest.now ≡ [] = nil_from_length c.loop-rest.rest.now (omega arith) in
     sym c.loop-rest.invariant.same ∙ (ap (spec.scan c.args.kind c.args.end) none ∙ scan_none c.args.kind c.args.end)
 
 pub check-returns-clause-lack : goal.check-returns-clause-lack
 check-returns-clause-lack t c =
-    let none : c.loop-rest.rest.now ≡ [] = nothing c.loop-rest.rest.now (omega arith) in
+    let none : c.loop-rest.rest.now ≡ [] = nil_from_length c.loop-rest.rest.now (omega arith) in
     c.lack.ensures
     ∙ marks_tell c.args.kind c.loop-rest.marks (fields_of c.args.bytes.now) (fields_of c.loop-rest.rest.now) (ap fields_of none ∙ fields_none) c.loop-rest.invariant.marks
 
