@@ -1,7 +1,7 @@
 -- Where an image stands in the list: the place before it, and the list without it.
 use Rattle.std.proofs.Common.{◌≡◌, ◌≢◌, ◌⊎◌, inl, inr, ℕ, zero, suc, ◌+◌, ◌-◌, ◌<◌, ◌≤◌, List, [], ◌∷◌, ◌++◌, length, take, drop, get_or, true, false, ◌||◌, eqb, refl, sym, ap, ◌∙◌, subst, arith, Some, None, ne_eqb, add-one, drop-cons}
 use Rattle.std.proofs.lemmas.Bool.{or_left, or_right}
-use Rattle.std.proofs.lemmas.List.{length-append}
+use Rattle.std.proofs.lemmas.List.{length-append, get_or_append_left, get_or-append-add}
 use Rattle.plcr_machine.specs.declared.image.Image.{Image}
 use Rattle.plcr_machine.specs.declared.entry.Entry.{Entry}
 use Rattle.plcr_machine.specs.Lists.{has, without, live, loads, changes}
@@ -127,24 +127,15 @@ pub first_right : (header : ℕ) (xs ys : List Image) → first_with header xs �
 first_right header [] ys e = refl
 first_right header (z ∷ xs) ys e = by_cases (eqb z.header header) (λ t. let found : Some z ≡ None = rw t at e in cc) (λ t. rw t (first_right header xs ys (rw t at e)))
 
-get_left : (xs ys : List Image) (i : ℕ) (x : Image) → i < length xs → get_or (xs ++ ys) i x ≡ get_or xs i x
-get_left [] ys i x below = absurd (omega arith)
-get_left (z ∷ xs) ys zero x below = refl
-get_left (z ∷ xs) ys (suc i) x below = get_left xs ys i x (omega arith)
-
-get_right : (xs ys : List Image) (i : ℕ) (x : Image) → get_or (xs ++ ys) (length xs + i) x ≡ get_or ys i x
-get_right [] ys i x = let none : 0 + i ≡ i = omega arith in ap (λ k. get_or ys k x) none
-get_right (z ∷ xs) ys i x = let more : suc (length xs) + i ≡ suc (length xs + i) = omega arith in ap (λ k. get_or (z ∷ (xs ++ ys)) k x) more ∙ get_right xs ys i x
-
 abbrev pub IsFirst : ℕ → List Image → ℕ → Image → Type 0
 IsFirst header xs at x = (at < length xs) × (x ≡ get_or xs at x) × (first_with header xs ≡ Some x) × (x.header ≡ header)
 
 pub found_left : (header at : ℕ) (xs ys zs : List Image) (x : Image) → xs ++ ys ≡ zs → IsFirst header xs at x → IsFirst header zs at x
 found_left header at xs ys zs x e f =
     let more = length-append xs ys in
-    subst (λ (l : List Image). IsFirst header l at x) e (omega (arith, f.0, more), f.1 ∙ sym (get_left xs ys at x f.0), first_left header xs ys x f.2, f.3)
+    subst (λ (l : List Image). IsFirst header l at x) e (omega (arith, f.0, more), f.1 ∙ sym (get_or_append_left xs ys x at f.0), first_left header xs ys x f.2, f.3)
 
 pub found_right : (header at : ℕ) (xs ys zs : List Image) (x : Image) → xs ++ ys ≡ zs → first_with header xs ≡ None → IsFirst header ys at x → IsFirst header zs (length xs + at) x
 found_right header at xs ys zs x e none f =
     let more = length-append xs ys in
-    subst (λ (l : List Image). IsFirst header l (length xs + at) x) e (omega (arith, f.0, more), f.1 ∙ sym (get_right xs ys at x), first_right header xs ys none ∙ f.2, f.3)
+    subst (λ (l : List Image). IsFirst header l (length xs + at) x) e (omega (arith, f.0, more), f.1 ∙ sym (get_or-append-add xs ys at x), first_right header xs ys none ∙ f.2, f.3)

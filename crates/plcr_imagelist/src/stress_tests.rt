@@ -114,11 +114,7 @@ fn read_at(hold: &mut Hold, list: &ImageList, at: usize) -> (u64, usize, u64)
     let mut images = hold.images(list);
     let header = images.header(at);
     let len = images.name_len(at);
-    let word = if len == 0 {
-        0
-    } else {
-        images.name_word(at, 0)
-    };
+    let word = if len == 0 { 0 } else { images.name_word(at, 0) };
     (header, len, word)
 }
 
@@ -154,12 +150,7 @@ fn is_lawful(lists: &[Vec<Named>], met: &[Named], window: Window) -> bool {
 }
 
 // Goes in, walks to the end and comes out. Gives how many changes were counted by then, and whether the walk was lawful.
-fn walk_once(
-    alloc: Global,
-    list: &ImageList,
-    lists: &[Vec<Named>],
-    pass: Pass,
-) -> (Pass, usize, bool)
+fn walk_once(alloc: Global, list: &ImageList, lists: &[Vec<Named>], pass: Pass) -> (Pass, u32, bool)
     requires { pass.table ≡ list.now }
     ensures { result.0.table ≡ list.now }
 {
@@ -175,7 +166,7 @@ fn walk_once(
         Ok(met) => is_lawful(lists, &met, window),
         Err(_) => false,
     };
-    (pass, window.high as usize, lawful)
+    (pass, window.high, lawful)
 }
 
 // Walks until all changes were made, and says whether each walk was lawful.
@@ -186,7 +177,7 @@ fn walk_all(alloc: Global, list: &ImageList, lists: &[Vec<Named>], pass: Pass) -
     for _ in 0..MOST_TRIES {
         let (out, high, lawful) = walk_once(alloc, list, lists, pass);
         pass = out;
-        if !lawful || high + 1 == lists.len() {
+        if !lawful || high as usize + 1 == lists.len() {
             return lawful;
         }
     }
