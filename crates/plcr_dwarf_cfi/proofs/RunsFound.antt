@@ -42,15 +42,15 @@ run_step c count address instruction items fault t next last false goes past res
     elim (rest h) [
       | inl whole ↦ inl (record { ends = whole.ends; carried = (next, goes, past, whole.carried) })
       | inr until ↦ inr (record {
-          front = instruction ∷ until.front;
-          instruction = until.instruction;
-          behind = until.behind;
-          stands = ap (λ (xs : List Instruction). instruction ∷ xs) until.stands;
-          before = until.before;
-          carried = (next, goes, past, until.carried);
-          goes = until.goes;
-          past = until.past;
-        })
+        front = instruction ∷ until.front;
+        instruction = until.instruction;
+        behind = until.behind;
+        stands = ap (λ (xs : List Instruction). instruction ∷ xs) until.stands;
+        before = until.before;
+        carried = (next, goes, past, until.carried);
+        goes = until.goes;
+        past = until.past;
+      })
     ]
 
 run_by : (c : CommonInformation) (count : ℕ) (address : Option ℕ) (items : List Instruction) (fault : Option CallFrameFault) (t last : Table)
@@ -111,14 +111,14 @@ fail_step c count address instruction items fault t next e false goes past rest 
     elim (rest h) [
       | inl stops ↦ inl (record { last = stops.last; stops = stops.stops; carried = (next, goes, past, stops.carried) })
       | inr fails ↦ inr (record {
-          front = instruction ∷ fails.front;
-          instruction = fails.instruction;
-          behind = fails.behind;
-          stands = ap (λ (xs : List Instruction). instruction ∷ xs) fails.stands;
-          before = fails.before;
-          carried = (next, goes, past, fails.carried);
-          fails = fails.fails;
-        })
+        front = instruction ∷ fails.front;
+        instruction = fails.instruction;
+        behind = fails.behind;
+        stands = ap (λ (xs : List Instruction). instruction ∷ xs) fails.stands;
+        before = fails.before;
+        carried = (next, goes, past, fails.carried);
+        fails = fails.fails;
+      })
     ]
 
 fail_by : (c : CommonInformation) (count : ℕ) (address : Option ℕ) (items : List Instruction) (fault : Option CallFrameFault) (t : Table) (e : CallFrameFault)

@@ -87,7 +87,7 @@ block_by s inside at next size (Some bytes) b there ends h =
 block_ends : (s : Section) → Inside s → (at : ℕ) (b : Block × ℕ) → block_read s at ≡ Ok b → Forward s at b.1
 block_ends s inside at b e =
     let n = bind_ok (unsigned s.cells at)
-        (λ (size : Number). cond (is_some (s.cells size.next size.value)) (Ok (block_at s size.next size.value, size.next + size.value)) (Err Truncated)) b e in
+    (λ (size : Number). cond (is_some (s.cells size.next size.value)) (Ok (block_at s size.next size.value, size.next + size.value)) (Err Truncated)) b e in
     block_by s inside at n.0.next n.0.value (s.cells n.0.next n.0.value) b refl (unsigned_ends s inside at n.0 n.1) n.2
 
 block_reads : (s : Section) → Inside s → (make : Block → Instruction) → Reads s (block make)
@@ -127,9 +127,9 @@ pointer_ends : (s : Section) → Inside s → (encoding : Encoding) (at : ℕ) (
 unfolding pointer_at
 pointer_ends s inside encoding at n h =
     let b = bind_ok (number_of encoding.format s.cells at)
-        (λ (k : Number). held_pointer s encoding.indirect (told_address s encoding.relative at k.value) >>= λ p. let r : Result Number CallFrameFault = Ok (record { value = p; next = k.next }) in r) n h in
+    (λ (k : Number). held_pointer s encoding.indirect (told_address s encoding.relative at k.value) >>= λ p. let r : Result Number CallFrameFault = Ok (record { value = p; next = k.next }) in r) n h in
     let p = bind_ok (held_pointer s encoding.indirect (told_address s encoding.relative at b.0.value))
-        (λ (k : ℕ). let r : Result Number CallFrameFault = Ok (record { value = k; next = b.0.next }) in r) n b.2 in
+    (λ (k : ℕ). let r : Result Number CallFrameFault = Ok (record { value = k; next = b.0.next }) in r) n b.2 in
     let is : record { value = p.0; next = b.0.next } ≡ n = let e = p.2 in cc in
     let same : b.0.next ≡ n.next = ap (λ (k : Number). k.next) is in
     let ends = format_ends s inside encoding.format at b.0 b.1 in
@@ -174,8 +174,8 @@ opcode_reads : (s : Section) → Inside s → (opcode : ℕ) → Reads s (readin
 unfolding reading_of
 opcode_reads s inside opcode =
     restore_by s opcode (nat_lt opcode DW_CFA_advance_loc) _ _ (extended_reads s inside opcode)
-        (restore_by s opcode (nat_lt opcode DW_CFA_offset) _ _ (plain_reads s _)
-            (restore_by s opcode (nat_lt opcode DW_CFA_restore) _ _ (number_reads s inside _) (plain_reads s _)))
+    (restore_by s opcode (nat_lt opcode DW_CFA_offset) _ _ (plain_reads s _)
+    (restore_by s opcode (nat_lt opcode DW_CFA_restore) _ _ (number_reads s inside _) (plain_reads s _)))
 
 pub instruction_ends : (s : Section) → Inside s → (encoding : Encoding) (place : ℕ) (d : Decoded) → instruction_at s encoding place ≡ Ok d → Forward s (place + 1) d.next
 instruction_ends s inside encoding place d h =

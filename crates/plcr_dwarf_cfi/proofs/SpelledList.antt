@@ -69,8 +69,8 @@ only_list s inside encoding end (suc left) place (instruction ∷ items) fault w
     let f = instruction_ends s inside encoding place d h.1.1 in
     let rest = only_list s inside encoding end left d.next items fault f.within (omega (arith, more, f.forward)) h.1.3 in
     rw (before_other s encoding end place h.0) (rw h.1.1
-        (ap (λ (list : Listed Instruction). let l : Listed Instruction = record { items = d.instruction ∷ list.items; fault = list.fault } in l) rest
-        ∙ ap (λ (i : Instruction). let l : Listed Instruction = record { items = i ∷ items; fault = fault } in l) h.1.2))
+    (ap (λ (list : Listed Instruction). let l : Listed Instruction = record { items = d.instruction ∷ list.items; fault = list.fault } in l) rest
+    ∙ ap (λ (i : Instruction). let l : Listed Instruction = record { items = i ∷ items; fault = fault } in l) h.1.2))
 
 pub instructions_spelled : (memory : Contents) (at size : ℕ) (encoding : Encoding) (e : Extent) → 1 ≤ e.start → e.start ≤ size
     → Spells (within (section_at memory at size) e) encoding e (instructions_in (within (section_at memory at size) e) encoding e)

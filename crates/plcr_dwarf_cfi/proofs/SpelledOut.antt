@@ -40,7 +40,7 @@ front_ends end size place n source bytes false test ends h = let none = rw test 
 pub entry_inside : (memory : Contents) (at size : ℕ) (e : Extent) → Inside (within (section_at memory at size) e)
 entry_inside memory at size e = record {
   ends = λ place n bytes h. front_ends e.end size place n (piece_bytes memory at size) bytes (nat_le (place + n) e.end) refl
-      (λ there. piece_ends memory at size place n bytes (nat_le (place + n) size) refl there) h
+      (λ there. piece_ends memory at size place n bytes (nat_le (place + n) size) refl there) h;
 }
 
 mapped : {A B : Type 0} (f : A → B) (o : Option A) (y : B) → option_map f o ≡ Some y → (x : A) × (o ≡ Some x)
@@ -79,9 +79,9 @@ bytes_end : (s : Section) → Inside s → (left place : ℕ) (bytes : List ℕ)
 bytes_end s inside zero place bytes h = let h2 = h in cc
 bytes_end s inside (suc left) place bytes h =
     let first = bind_ok (ok_or (bytes_of s.cells place) Absent)
-        (λ (b : ℕ). cond (nat_lt b HIGH_BIT) (Ok (b ∷ [])) (bytes_within left (bytes_of s.cells) (place + 1) >>= λ more. Ok (b ∷ more))) bytes h in
+    (λ (b : ℕ). cond (nat_lt b HIGH_BIT) (Ok (b ∷ [])) (bytes_within left (bytes_of s.cells) (place + 1) >>= λ more. Ok (b ∷ more))) bytes h in
     bytes_step s inside left place first.0 bytes (nat_lt first.0 HIGH_BIT) (ok_or_ok (bytes_of s.cells place) Absent first.0 first.1)
-        (λ more there. bytes_end s inside left (place + 1) more there) first.2
+    (λ more there. bytes_end s inside left (place + 1) more there) first.2
 
 result_mapped : {A B E : Type 0} (f : A → B) (r : Result A E) (y : B) → result_map f r ≡ Ok y → (x : A) × (r ≡ Ok x) × (f x ≡ y)
 result_mapped f (Ok x) y h = let e : f x ≡ y = cc in (x, refl, e)

@@ -1,5 +1,5 @@
 use crate::fixtures::*;
-use crate::step;
+use crate::{step, the_first_is_found};
 use plcr_macho::{Image, Part};
 use plcr_memory::{Memory, MemoryFault, Region, are_backed};
 use plcr_regs::{Arch, Step};
@@ -281,6 +281,7 @@ fn pointers_in_each_encoding(rt: HostRuntime) -> Result<(), Fail> {
 
 #[test]
 fn the_first_description_counts(rt: HostRuntime) -> Result<(), Fail> {
+    the_first_is_found();
     // Two descriptions of the same code, a third that is cut short, and one of other code.
     let mut section = function(rt.alloc(), COMMON, &[])?;
     let mut fields = F.to_le_bytes().to_vec(rt.alloc())?;

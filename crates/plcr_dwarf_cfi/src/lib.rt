@@ -14,6 +14,7 @@ mod fault;
 #[cfg(test)]
 mod fixtures;
 mod instructions;
+mod known;
 mod laws;
 mod limits;
 mod opcodes;
@@ -27,6 +28,7 @@ mod unwind;
 
 pub use entries::{CommonInformation, Encoding, Extent, Format, FrameDescription};
 pub use fault::{CallFrameFault, EXPRESSION};
+pub use known::{KNOWN_DESCRIPTIONS, KnownDescriptions};
 pub use laws::{instructions_are_spelled, rows_end_at_locations, the_first_is_found};
 pub use limits::{LINK_REGISTER, MOST_REMEMBERED, MOST_RULES};
 pub use steps::{find, step, step_from};

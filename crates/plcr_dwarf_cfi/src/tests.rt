@@ -1,5 +1,7 @@
 use crate::fixtures::*;
-use crate::{CallFrameFault, find, step, step_from};
+use crate::{
+    CallFrameFault, find, instructions_are_spelled, rows_end_at_locations, step, step_from,
+};
 use plcr_dwarf_expr::ExprFault;
 use plcr_macho::Part;
 use plcr_regs::{Arch, Frame, Step};
@@ -15,6 +17,8 @@ const SAVES_RBP: &[u8] = &[
 
 #[test]
 fn rows_of_a_function(rt: HostRuntime) -> Result<(), Fail> {
+    instructions_are_spelled();
+    rows_end_at_locations();
     let section = function(rt.alloc(), COMMON, SAVES_RBP)?;
     // How far the function has come, and what is known of the frame and of its caller.
     let at_end = answer(
@@ -139,7 +143,7 @@ fn instructions_make_a_row(rt: HostRuntime) -> Result<(), Fail> {
     ];
     for (instructions, rbx, rsp, back) in cases {
         let found = by_instructions(rt.alloc(), instructions)?;
-        assert!(rt; found == caller(rbx, rsp, WORD + back), "{instructions:?}");
+        assert!(rt; found == caller(rbx, rsp, WORD.wrapping_add(back)), "{instructions:?}");
     }
     Ok(())
 }
