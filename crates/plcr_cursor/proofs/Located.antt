@@ -2,6 +2,7 @@
 use Rattle.std.proofs.Common.{◌≡◌, ℕ, ◌≤◌, ◌<◌, List, length, Option, Some, None, refl, sym, ap, subst, ◌∙◌}
 use Rattle.std.specs.Prelude.{option_map, Ok, IsSomeAnd}
 use Rattle.std.specs.Option.{option_and_then}
+use Rattle.std.specs.Result.{result_ok}
 use Rattle.plcr_memory.specs.Regions.{Contents}
 use Rattle.plcr_regs.specs.declared.frame.Frame.{Frame}
 use Rattle.plcr_regs.specs.Frames.{frame_lookup}
@@ -21,6 +22,12 @@ pub record IsLocated (memory : Contents) (images : List Listed) (frame : Frame) 
   pub reads : image_at memory frame.registers.arch (listed_at images place).header ≡ Ok image
   pub over : image_over memory images frame ≡ Some image
   pub below : IsSomeAnd (frame_lookup frame) (λ address. image.header ≤ address)
+
+-- it is what stands at the header of its place
+pub image_there : {memory : Contents} {images : List Listed} {frame : Frame} {place header : ℕ} (found : IsLocated memory images frame place)
+    → header ≡ (listed_at images place).header → result_ok (image_at memory frame.registers.arch header) ≡ Some found.image
+image_there {memory} {images} {frame} {place} {header} found is =
+    ap (λ (h : ℕ). result_ok (image_at memory frame.registers.arch h)) is ∙ ap result_ok found.reads
 
 module _ (memory : Contents) (images : List Listed) (frame : Frame) (address : ℕ) (extents : Option (List Extent)) (looked : Some address ≡ frame_lookup frame)
     (index : extents ≡ Some (index_of memory frame.registers.arch images)) where
