@@ -1,8 +1,7 @@
 -- Runs of entries that are passed over, and searches that do so.
-use Rattle.std.proofs.Common.{◌≡◌, ◌≢◌, ◌≤◌, ◌<◌, ◌⊎◌, inl, inr, ℕ, zero, suc, ◌+◌, ◌-◌, ◌==◌, Bool, true, false, cond, Option, Some, None, Ok, Err, Result, refl, sym, ap, ◌∙◌, arith}
+use Rattle.std.proofs.Common.{◌≡◌, ◌≢◌, ◌≤◌, ◌<◌, ◌⊎◌, inl, inr, ℕ, suc, ◌+◌, ◌-◌, ◌==◌, Bool, true, false, cond, Some, None, Ok, Err, refl, sym, ap, ◌∙◌, arith}
 use Rattle.std.specs.Prelude.{◌^◌, ◌||◌, ◌&&◌, nat_lt, nat_le, min, max}
 use Rattle.std.proofs.lemmas.Bool.Decides.{nat_tests}
-use Rattle.plcr_dwarf_cfi.specs.declared.entries.CommonInformation.{CommonInformation}
 use Rattle.plcr_dwarf_cfi.specs.declared.entries.Entry.{Entry}
 use Rattle.plcr_dwarf_cfi.specs.declared.entries.Entry.TheVariants.{Common, Description}
 use Rattle.plcr_dwarf_cfi.specs.declared.entries.FrameDescription.{FrameDescription}

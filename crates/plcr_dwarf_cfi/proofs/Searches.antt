@@ -1,5 +1,5 @@
 -- The search for a frame description entry, entry by entry.
-use Rattle.std.proofs.Common.{◌≡◌, ◌<◌, ℕ, zero, suc, ◌+◌, ◌-◌, Option, Some, None, Ok, Err, Result, refl, ap, ◌∙◌, arith}
+use Rattle.std.proofs.Common.{◌≡◌, ◌<◌, ℕ, zero, ◌+◌, ◌-◌, Option, Some, None, Ok, Err, refl, ap, ◌∙◌, arith}
 use Rattle.plcr_dwarf_cfi.specs.declared.common.Recent.{Recent}
 use Rattle.plcr_dwarf_cfi.specs.declared.entries.Entry.{Entry}
 use Rattle.plcr_dwarf_cfi.specs.declared.entries.FrameDescription.{FrameDescription}

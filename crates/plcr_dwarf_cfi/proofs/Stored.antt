@@ -1,5 +1,5 @@
 -- A section that stands in a file as it stands in memory.
-use Rattle.std.proofs.Common.{◌≡◌, ℕ, ◌+◌, List, Some, refl, ap, subst, sym}
+use Rattle.std.proofs.Common.{◌≡◌, ℕ, ◌+◌, List, Some, ap, subst, sym}
 use Rattle.std.specs.Prelude.{◌≤◌, ◌^◌, All}
 use Rattle.plcr_memory.specs.Regions.{Contents, bytes_at}
 use Rattle.plcr_leb128.specs.Cells.{Source, list_bytes}

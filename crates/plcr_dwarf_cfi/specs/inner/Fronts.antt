@@ -1,5 +1,5 @@
 -- Fronts of sections that were read, of which runs of entries are passed over.
-use Rattle.std.specs.Prelude.{◌≡◌, ◌≤◌, ◌<◌, ℕ, ◌+◌, ◌-◌, ◌^◌, ◌==◌, ◌&&◌, ◌||◌, nat_lt, min, max, Bool, true, if◌then◌else◌, List, All, Option, Some, None, IfSome, Result, Ok}
+use Rattle.std.specs.Prelude.{◌≡◌, ◌<◌, ℕ, ◌+◌, ◌-◌, ◌^◌, ◌==◌, ◌||◌, nat_lt, min, max, Bool, true, if◌then◌else◌, List, All, Option, IfSome, Result}
 use Rattle.plcr_dwarf_cfi.specs.declared.common.Recent.{Recent}
 use Rattle.plcr_dwarf_cfi.specs.declared.entries.Entry.{Entry}
 use Rattle.plcr_dwarf_cfi.specs.declared.entries.Entry.TheVariants.{Common, Description}

@@ -1,6 +1,5 @@
-use Rattle.std.proofs.Common.{◌≡◌, ◌<◌, ◌+◌, ◌∙◌, ℕ, Err, sym, subst, ap, arith}
+use Rattle.std.proofs.Common.{◌<◌, ◌+◌, ◌∙◌, ℕ, sym, subst, ap, arith}
 use Rattle.plcr_dwarf_cfi.specs.declared.front.Run.{Run}
-use Rattle.plcr_dwarf_cfi.specs.Entries.{description_for}
 use Rattle.plcr_dwarf_cfi.specs.Sections.{Section}
 use Rattle.plcr_dwarf_cfi.specs.inner.Fronts.{IsRun, found_from}
 use Rattle.plcr_dwarf_cfi.specs.inner.Settings.{section}

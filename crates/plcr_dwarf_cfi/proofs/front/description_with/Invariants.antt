@@ -1,4 +1,3 @@
-use Rattle.std.proofs.Common.{◌≡◌, ℕ}
 use Rattle.plcr_dwarf_cfi.specs.inner.Fronts.{Walking}
 use Rattle.plcr_dwarf_cfi.specs.inner.Settings.{section}
 use Rattle.plcr_dwarf_cfi.proofs.front.description_with.Given as goal

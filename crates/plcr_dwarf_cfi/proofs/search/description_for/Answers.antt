@@ -1,4 +1,4 @@
-use Rattle.std.proofs.Common.{◌≡◌, ◌<◌, ◌∙◌, ℕ, ◌+◌, ◌-◌, ap, sym, refl, arith}
+use Rattle.std.proofs.Common.{◌≡◌, ◌<◌, ◌∙◌, ℕ, ◌+◌, ◌-◌, ap, sym, arith}
 use Rattle.plcr_dwarf_cfi.specs.Sections.{Section}
 use Rattle.plcr_dwarf_cfi.specs.inner.Settings.{section}
 use Rattle.plcr_dwarf_cfi.proofs.Searches.{search_fails, search_out, search_start}
