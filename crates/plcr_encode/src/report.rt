@@ -98,7 +98,15 @@ pub fn capture<I: Images, K: Sink>(
     let mut known = Known::new(memory);
     let mut buffered = Buffered::new(sink);
     let head = put_head(&mut buffered);
-    let length = put_root(&mut buffered, &mut room, images, &mut known, memory, threads, context);
+    let length = put_root(
+        &mut buffered,
+        &mut room,
+        images,
+        &mut known,
+        memory,
+        threads,
+        context,
+    );
     buffered.finish()?;
     Ok(head + length)
 }

@@ -213,7 +213,15 @@ pub(crate) fn put_threads<I: Images, W: Ink>(
     let mut done = 0;
     while done < states.len() {
         let left = &states[done..];
-        let count = find_frames(room, images, known, memory, context.arch, left, context.bits);
+        let count = find_frames(
+            room,
+            images,
+            known,
+            memory,
+            context.arch,
+            left,
+            context.bits,
+        );
         length += put_group(
             ink,
             memory,

@@ -23,8 +23,7 @@ use Rattle.plcr_turns.proofs.Working.{named_then}
 pub grows_through : (start : WriterState) (lines : List ChangeLine) (end : WriterState) → Applied start lines end → Grows start.history end.history × WentOn start.names end.names
 grows_through start [] end a = (a.added.grows, a.named)
 grows_through start (line ∷ lines) end a =
-    let rest = grows_through a.1 lines end a.5 in
-    (
+    let rest = grows_through a.1 lines end a.5 in (
       grows_again start.history a.1.history end.history (grows_again start.history a.0.history a.1.history a.3.added.grows a.4.does.made.grows) rest.0,
       went_again start.names a.1.names end.names (went_again start.names a.0.names a.1.names a.3.named a.4.does.made.names) rest.1,
     )
