@@ -1,5 +1,5 @@
 -- What running a script comes to, statement by statement, and what its image list has seen at the end.
-use Rattle.std.specs.Prelude.{ℕ, List, [], ◌∷◌, None, fold, map, flat_map}
+use Rattle.std.specs.Prelude.{ℕ, List, [], ◌∷◌, None, map, flat_map}
 use Rattle.plcr_machine.specs.declared.change.Change.{Change}
 use Rattle.plcr_machine.specs.declared.entry.Entry.{Entry}
 use Rattle.plcr_machine.specs.Events.{Event, changes_in, HasEvents}

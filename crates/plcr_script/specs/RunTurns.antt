@@ -1,5 +1,5 @@
 -- What each statement of a script comes to.
-use Rattle.std.specs.Prelude.{ℕ, ◌+◌, ◌-◌, ◌*◌, List, [], ◌∷◌, Option, Some, None, Result, Ok, Err, ◌==◌, length, map, nat_le, if◌then◌else◌}
+use Rattle.std.specs.Prelude.{ℕ, ◌+◌, ◌-◌, ◌*◌, List, [], ◌∷◌, Some, None, Result, Ok, Err, length, map, nat_le, if◌then◌else◌}
 use Rattle.plcr_machine.specs.declared.limits.TheConstants.{COUNT_UNIT}
 use Rattle.plcr_machine.specs.declared.change.Named.{Named}
 use Rattle.plcr_machine.specs.Passes.{announced_count}
@@ -13,7 +13,7 @@ use Rattle.plcr_script.specs.declared.outcomes.Outcome.TheVariants.{Busy, Idle, 
 use Rattle.plcr_script.specs.Contexts.{lent}
 use Rattle.plcr_script.specs.Meanings.{Meanings}
 use Rattle.plcr_script.specs.RunChanges.{Plan, planned_load, planned_unload, made_outcome}
-use Rattle.plcr_script.specs.RunStates.{Opened, steps_in, steps_left, steps, is_full, searched, Place, met_in, has_ended, walk, walk_to_end, State, entered, entered_if_out, walked, left, low_of, high_of}
+use Rattle.plcr_script.specs.RunStates.{Opened, steps_in, steps_left, steps, is_full, searched, met_in, has_ended, walk, walk_to_end, State, entered, entered_if_out, walked, left, low_of, high_of}
 
 -- what a statement comes to: its outcome, the state after it, and the files that it keeps
 pub record Turn : Type 0 where
