@@ -18,7 +18,7 @@ use Rattle.plcr_base.proofs.Chained.{bind_ok}
 use Rattle.plcr_script.specs.declared.faults.Kind.{Kind}
 use Rattle.plcr_script.specs.declared.faults.Kind.TheVariants.{BadWord, NoSuchPass}
 use Rattle.plcr_script.specs.declared.statements.Statement.{Statement}
-use Rattle.plcr_script.specs.declared.statements.Statement.TheVariants.{Load, Unload, Report}
+use Rattle.plcr_script.specs.declared.statements.Statement.TheVariants.{Report}
 use Rattle.plcr_script.specs.Splits.{lines, words, first_word}
 use Rattle.plcr_script.specs.Refusals.{only_if}
 use Rattle.plcr_script.specs.Values.{default_values}
@@ -244,10 +244,9 @@ one_apart before files file free h =
     }
 
 statement_apart : (before : List (List ℕ)) (earlier : List NumberedStatement) (line : ℕ) (s : Statement) → is_taken (file_of s) (before ++ files_of earlier) ≡ false → AreApart before (files_of earlier) → AreApart before (files_of (earlier ++ record { line = line; statement = s } ∷ []))
-statement_apart before earlier line (Load header name) free h = rw (files_more earlier (record { line = line; statement = Load header name }), append-nil (files_of earlier)) h
-statement_apart before earlier line (Unload header) free h = rw (files_more earlier (record { line = line; statement = Unload header }), append-nil (files_of earlier)) h
 statement_apart before earlier line (Report pass file) free h =
     rw (files_more earlier (record { line = line; statement = Report pass file })) (one_apart before (files_of earlier) file free h)
+statement_apart before earlier line other free h = rw (files_more earlier (record { line = line; statement = other }), append-nil (files_of earlier)) h
 
 abbrev IsApart : DraftValue → Type 0
 IsApart draft = AreApart (written_by draft.before) (files_of draft.script.statements)

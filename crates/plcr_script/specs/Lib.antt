@@ -12,5 +12,10 @@ pub mod Contexts
 pub mod Lawful
 pub mod Laws
 pub mod Changes
+pub mod Meanings
 pub mod Runs
+pub mod RunChanges
+pub mod RunStates
+pub mod RunTurns
+pub mod Run
 pub mod Worked

@@ -9,7 +9,7 @@ use Rattle.plcr_script.specs.declared.faults.ScriptFault.{ScriptFault}
 use Rattle.plcr_script.specs.declared.faults.ScriptFault.TheVariants as faults
 use Rattle.plcr_script.specs.declared.modes.Mode.{Mode}
 use Rattle.plcr_script.specs.declared.statements.Statement.{Statement}
-use Rattle.plcr_script.specs.declared.statements.Statement.TheVariants.{Load, Unload, Report}
+use Rattle.plcr_script.specs.declared.statements.Statement.TheVariants.{Report}
 use Rattle.plcr_script.specs.declared.statements.NumberedStatement.{NumberedStatement}
 use Rattle.plcr_script.specs.declared.limits.TheConstants.{DEFAULT_NODES, DEFAULT_PASSES}
 use Rattle.plcr_script.specs.Splits.{lines}
@@ -21,9 +21,8 @@ use Rattle.plcr_script.specs.Sayings.{Saying, Sizes, Number, Words, States, says
 
 -- the file that a statement writes, if it writes one
 abbrev pub file_of : Statement → Option (List ℕ)
-file_of (Load header name) = None
-file_of (Unload header) = None
 file_of (Report pass file) = Some file
+file_of other = None
 
 -- the files that statements write, in order
 abbrev pub files_of : List NumberedStatement → List (List ℕ)

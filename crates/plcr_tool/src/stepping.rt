@@ -62,6 +62,7 @@ pub(crate) fn take_step<P: Process, D: Desk, L: Sink>(
         Statement::Report { pass: _, file } => {
             report(process, context, number, file.as_slice(), list, desk, lines)
         }
+        _ => tell(number, &Outcome::Idle, lines),
     }
 }
 
