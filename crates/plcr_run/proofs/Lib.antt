@@ -1,2 +1,4 @@
 pub mod Between
 pub mod Still
+pub mod Steps
+pub mod Acting

@@ -1,2 +1,4 @@
 -- Definitions that only private functions' contracts cite.
 pub mod Slots
+pub mod Tokens
+pub mod Walks

@@ -3,3 +3,7 @@
 #![tactic(auto)]
 
 mod slots;
+mod walking;
+mod writing;
+
+pub use walking::{walk, walk_to_end};
