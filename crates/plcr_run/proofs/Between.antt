@@ -8,10 +8,10 @@ use Rattle.plcr_machine.proofs.Cases.{by_cases}
 
 own-append : (p : ℕ) (xs ys : List Entry) → own_entries p (xs ++ ys) ≡ own_entries p xs ++ own_entries p ys
 own-append p [] ys = refl
-own-append p (Announce q seen ∷ xs) ys = by_cases (eqb q p) (λ d. rw (d, d) (ap (λ (l : List Entry). Announce q seen ∷ l) (own-append p xs ys))) (λ d. rw (d, d) (own-append p xs ys))
-own-append p (Enter q ∷ xs) ys = by_cases (eqb q p) (λ d. rw (d, d) (ap (λ (l : List Entry). Enter q ∷ l) (own-append p xs ys))) (λ d. rw (d, d) (own-append p xs ys))
-own-append p (Leave q ∷ xs) ys = by_cases (eqb q p) (λ d. rw (d, d) (ap (λ (l : List Entry). Leave q ∷ l) (own-append p xs ys))) (λ d. rw (d, d) (own-append p xs ys))
-own-append p (Retire q ∷ xs) ys = by_cases (eqb q p) (λ d. rw (d, d) (ap (λ (l : List Entry). Retire q ∷ l) (own-append p xs ys))) (λ d. rw (d, d) (own-append p xs ys))
+own-append p (Announce q seen ∷ xs) ys = by_cases (eqb q p) (λ d. rw d (ap (λ (l : List Entry). Announce q seen ∷ l) (own-append p xs ys))) (λ d. rw d (own-append p xs ys))
+own-append p (Enter q ∷ xs) ys = by_cases (eqb q p) (λ d. rw d (ap (λ (l : List Entry). Enter q ∷ l) (own-append p xs ys))) (λ d. rw d (own-append p xs ys))
+own-append p (Leave q ∷ xs) ys = by_cases (eqb q p) (λ d. rw d (ap (λ (l : List Entry). Leave q ∷ l) (own-append p xs ys))) (λ d. rw d (own-append p xs ys))
+own-append p (Retire q ∷ xs) ys = by_cases (eqb q p) (λ d. rw d (ap (λ (l : List Entry). Retire q ∷ l) (own-append p xs ys))) (λ d. rw d (own-append p xs ys))
 own-append p (Load n i a ∷ xs) ys = own-append p xs ys
 own-append p (Unload n ∷ xs) ys = own-append p xs ys
 own-append p (Count ∷ xs) ys = own-append p xs ys
@@ -33,7 +33,7 @@ empty_of [] e = refl
 empty_of (x ∷ xs) e = absurd (omega arith)
 
 -- of two that came on top of a list, where the whole is the list
-middle : (x y z : List Entry) → x ++ y ++ z ≡ z → y ++ z ≡ z
+middle : (x y z : List Entry) → x ++ (y ++ z) ≡ z → y ++ z ≡ z
 middle x y z e =
     let whole = ap (λ (l : List Entry). length l) e in
     let first = length-append x (y ++ z) in
@@ -44,7 +44,7 @@ middle x y z e =
 between : (part : List Entry → List Entry) → ((xs ys : List Entry) → part (xs ++ ys) ≡ part xs ++ part ys) → (a b c : List Entry) → Grows a b → Grows b c → part c ≡ part a → part b ≡ part a
 between part over a b c g h same =
     let mid : part b ≡ part g.0 ++ part a = ap part g.1 ∙ over g.0 a in
-    let whole : part c ≡ part h.0 ++ part g.0 ++ part a = ap part h.1 ∙ over h.0 b ∙ ap (λ (l : List Entry). part h.0 ++ l) mid in
+    let whole : part c ≡ part h.0 ++ (part g.0 ++ part a) = ap part h.1 ∙ over h.0 b ∙ ap (λ (l : List Entry). part h.0 ++ l) mid in
     mid ∙ middle (part h.0) (part g.0) (part a) (sym whole ∙ same)
 
 pub own_between : (p : ℕ) (a b c : List Entry) → Grows a b → Grows b c → own_entries p c ≡ own_entries p a → own_entries p b ≡ own_entries p a

@@ -1,3 +1,4 @@
+pub mod Walked
 pub mod Between
 pub mod Still
 pub mod Steps

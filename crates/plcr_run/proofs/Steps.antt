@@ -44,9 +44,9 @@ one_more passes r entry now top o own g = record {
 }
 
 -- a pass that saw more, and saw nothing new
-pub record SawNothing (old : WalkerState) (past : List Entry) (names : List (List ℕ)) : Type 0 where
+pub record SawNothing (old : WalkerState) (past : List Entry) (named : List (List ℕ)) : Type 0 where
   pub history : past ≡ old.history
-  pub names : names ≡ old.names
+  pub names : named ≡ old.names
 
 pub saw_nothing : (r : ℕ) (old : WalkerState) (past : List Entry) (names : List (List ℕ)) (top : List Entry) → old.number ≡ r → length old.names ≡ loads old.history
     → GoesOn old.nodes old.passes false (old.number ∷ []) old.history old.names past names → OneActs old.passes r old.history top → Grows past top → SawNothing old past names

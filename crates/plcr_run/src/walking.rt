@@ -15,7 +15,7 @@ pub fn walk(hold: &mut Hold, list: &ImageList, most: u32)
     ensures walking { IsWalking hold.new }
     ensures list { hold.new.walker.table ≡ list.now }
 {
-    for _ in 0..most {
+    for turn in 0..most {
         if !hold.next(list) {
             return;
         }

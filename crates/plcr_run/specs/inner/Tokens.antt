@@ -106,6 +106,6 @@ pub record Goes (old : Writing) (olds : List Slot) (next : State → State) (new
   pub state : IsAll new news → (state : State) → StateIs old olds state → StateIs new news (next state)
 
 -- and this is the turn's outcome
-pub record Turns (old : Writing) (olds : List Slot) (turn : State → Turn) (new : Writing) (news : List Slot) (outcome : Outcome) : Type 0 where
+pub record Turns (old : Writing) (olds : List Slot) (turn : State → Turn) (new : Writing) (news : List Slot) (said : Outcome) : Type 0 where
   pub goes : Goes old olds (λ state. (turn state).state) new news
-  pub outcome : IsAll new news → (state : State) → StateIs old olds state → outcome ≡ (turn state).outcome
+  pub outcome : IsAll new news → (state : State) → StateIs old olds state → said ≡ (turn state).outcome

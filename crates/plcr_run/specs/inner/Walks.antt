@@ -1,5 +1,5 @@
 -- Several calls of `next` in one hold.
-use Rattle.std.specs.Prelude.{◌≡◌, ℕ, zero, suc, ◌<◌, true, false}
+use Rattle.std.specs.Prelude.{◌≡◌, ◌⊎◌, ℕ, zero, suc, ◌<◌, true, false}
 use Rattle.plcr_imagelist.specs.Holds.{HoldState, IsNext}
 
 -- so many calls that each met an image

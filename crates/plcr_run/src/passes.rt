@@ -1,0 +1,80 @@
+//! The statements of a pass, each between two tellings: first the pass is told what the writer has seen, and in the end
+//! the writer what the pass has seen.
+ghost use Rattle.std.specs.Prelude.{◌≡◌, ◌<◌, length};
+ghost use Rattle.plcr_script.specs.RunStates.{entered};
+ghost use Rattle.plcr_script.specs.RunTurns.{comes_to, walk_turn, leave_turn};
+ghost use Rattle.plcr_run.specs.inner.Slots.{IsOutAt, IsInAt};
+ghost use Rattle.plcr_run.specs.inner.Tokens.{AreTokens, Goes, Turns};
+
+use crate::slots::{Slot, put, take_hold, take_pass};
+use crate::walking::walk;
+use crate::writing::Writing;
+use plcr_imagelist::ImageList;
+use plcr_script::Outcome;
+
+/// The pass goes in.
+pub(crate) fn enter(list: &ImageList, writing: &mut Writing, slots: &mut [Slot], pass: u32)
+    requires tokens { AreTokens list.now writing.old slots.old }
+    requires place { pass < length slots.old }
+    requires out { IsOutAt slots.old pass }
+    ensures tokens { AreTokens list.now writing.new slots.new }
+    ensures goes { Goes writing.old slots.old (entered pass) writing.new slots.new }
+    ensures inside { IsInAt slots.new pass }
+{
+    let mut outside = take_pass(slots, pass as usize);
+    outside.told(list, writing.note(list));
+    let mut hold = outside.enter(list);
+    writing.told(list, hold.note(list));
+    put(slots, pass as usize, Slot::In(hold.keep()));
+}
+
+/// At most so many images more of its walk.
+pub(crate) fn walk_on(
+    list: &ImageList,
+    writing: &mut Writing,
+    slots: &mut [Slot],
+    pass: u32,
+    most: u32,
+) -> Outcome<'static>
+    requires tokens { AreTokens list.now writing.old slots.old }
+    requires place { pass < length slots.old }
+    requires inside { IsInAt slots.old pass }
+    ensures tokens { AreTokens list.now writing.new slots.new }
+    ensures turns { Turns writing.old slots.old (walk_turn pass most) writing.new slots.new result }
+{
+    let mut hold = take_hold(slots, pass as usize);
+    hold.told(list, writing.note(list));
+    walk(&mut hold, list, most);
+    writing.told(list, hold.note(list));
+    let met = hold.met();
+    let ended = hold.has_ended();
+    put(slots, pass as usize, Slot::In(hold.keep()));
+    Outcome::Walked { pass, met, ended }
+}
+
+/// The pass comes out.
+pub(crate) fn leave(
+    list: &ImageList,
+    writing: &mut Writing,
+    slots: &mut [Slot],
+    pass: u32,
+) -> Outcome<'static>
+    requires tokens { AreTokens list.now writing.old slots.old }
+    requires place { pass < length slots.old }
+    requires inside { IsInAt slots.old pass }
+    ensures tokens { AreTokens list.now writing.new slots.new }
+    ensures turns { Turns writing.old slots.old (leave_turn pass) writing.new slots.new result }
+{
+    let mut hold = take_hold(slots, pass as usize);
+    hold.told(list, writing.note(list));
+    let met = hold.met();
+    let (mut outside, window) = hold.leave(list);
+    writing.told(list, outside.note(list));
+    put(slots, pass as usize, Slot::Out(outside));
+    Outcome::Left {
+        pass,
+        met,
+        low: window.low,
+        high: window.high,
+    }
+}
