@@ -1,3 +1,5 @@
+pub mod Turned
+pub mod Ties
 pub mod Walked
 pub mod Between
 pub mod Still
