@@ -1,15 +1,15 @@
 //! The statements of a pass, each between two tellings: first the pass is told what the writer has seen, and in the end
 //! the writer what the pass has seen.
 ghost use Rattle.std.specs.Prelude.{◌≡◌, ◌<◌, length};
-ghost use Rattle.plcr_script.specs.RunStates.{entered};
-ghost use Rattle.plcr_script.specs.RunTurns.{comes_to, walk_turn, leave_turn};
+ghost use Rattle.plcr_script.specs.RunStates.{entered, left};
+ghost use Rattle.plcr_script.specs.RunTurns.{walk_turn};
 ghost use Rattle.plcr_run.specs.inner.Slots.{IsOutAt, IsInAt};
-ghost use Rattle.plcr_run.specs.inner.Tokens.{AreTokens, Goes, Turns};
+ghost use Rattle.plcr_run.specs.inner.Tokens.{AreTokens, Goes, Turns, LeavesWith};
 
 use crate::slots::{Slot, put, take_hold, take_pass};
 use crate::walking::walk;
 use crate::writing::Writing;
-use plcr_imagelist::ImageList;
+use plcr_imagelist::{ImageList, Window};
 use plcr_script::Outcome;
 
 /// The pass goes in.
@@ -52,18 +52,20 @@ pub(crate) fn walk_on(
     Outcome::Walked { pass, met, ended }
 }
 
-/// The pass comes out.
+/// The pass comes out, and gives how many images its walk has met and the window of its hold.
 pub(crate) fn leave(
     list: &ImageList,
     writing: &mut Writing,
     slots: &mut [Slot],
     pass: u32,
-) -> Outcome<'static>
+) -> (u32, Window)
     requires tokens { AreTokens list.now writing.old slots.old }
     requires place { pass < length slots.old }
     requires inside { IsInAt slots.old pass }
     ensures tokens { AreTokens list.now writing.new slots.new }
-    ensures turns { Turns writing.old slots.old (leave_turn pass) writing.new slots.new result }
+    ensures goes { Goes writing.old slots.old (left pass) writing.new slots.new }
+    ensures told { LeavesWith writing.old slots.old pass writing.new slots.new result.0 result.1.low result.1.high }
+    ensures outside { IsOutAt slots.new pass }
 {
     let mut hold = take_hold(slots, pass as usize);
     hold.told(list, writing.note(list));
@@ -71,10 +73,5 @@ pub(crate) fn leave(
     let (mut outside, window) = hold.leave(list);
     writing.told(list, outside.note(list));
     put(slots, pass as usize, Slot::Out(outside));
-    Outcome::Left {
-        pass,
-        met,
-        low: window.low,
-        high: window.high,
-    }
+    (met, window)
 }

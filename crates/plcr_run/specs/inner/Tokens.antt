@@ -14,7 +14,7 @@ use Rattle.plcr_imagelist.specs.Listing.{HasLists, change_of}
 use Rattle.plcr_imagelist.specs.Holds.{WalkerState, IsWalking}
 use Rattle.plcr_script.specs.declared.outcomes.Outcome.{Outcome}
 use Rattle.plcr_script.specs.RunStates as states
-use Rattle.plcr_script.specs.RunStates.{Opened, Place, State}
+use Rattle.plcr_script.specs.RunStates.{Opened, Place, State, met_in, low_of, high_of}
 use Rattle.plcr_script.specs.RunTurns.{Turn}
 use Rattle.plcr_run.specs.declared.slots.Slot.{Slot}
 use Rattle.plcr_run.specs.declared.slots.Slot.TheVariants.{Out, In, Away}
@@ -109,3 +109,7 @@ pub record Goes (old : Writing) (olds : List Slot) (next : State → State) (new
 pub record Turns (old : Writing) (olds : List Slot) (turn : State → Turn) (new : Writing) (news : List Slot) (said : Outcome) : Type 0 where
   pub goes : Goes old olds (λ state. (turn state).state) new news
   pub outcome : IsAll new news → (state : State) → StateIs old olds state → said ≡ (turn state).outcome
+
+-- what a pass that comes out tells: how many images its walk has met, and how many changes were counted before it went in and before it came out
+abbrev pub LeavesWith : Writing → List Slot → ℕ → Writing → List Slot → ℕ → ℕ → ℕ → Type 0
+LeavesWith old olds pass new news met low high = IsAll new news → (state : State) → StateIs old olds state → (met ≡ length (met_in (state.places pass))) × (low ≡ low_of pass state) × (high ≡ high_of state)
