@@ -32,7 +32,7 @@ impl<'a> Model for Draft<'a> {
 }
 
 impl<'a> Draft<'a> {
-    ghost use Rattle.std.specs.Prelude.{ℕ, nat_lt, length, ◌||◌};
+    ghost use Rattle.std.specs.Prelude.{nat_lt, length, ◌||◌};
     ghost use Rattle.plcr_script.specs.Reading as reading;
     ghost use Rattle.plcr_script.specs.Reading.{no_lines, with_said, passes_of, is_later};
     ghost use Rattle.plcr_script.specs.Sayings.{States};
@@ -96,7 +96,7 @@ impl<'a> Draft<'a> {
         line: u32,
         wording: Wording<'_>,
     ) -> Result<(), AllocError>
-        requires { (passes : ℕ) × IsFit passes (said wording) }
+        requires { IsFit (passes_of self.old.mode self.old.script.passes) (said wording) }
         ensures { OnOk result (self.new ≡ with_said self.old line (said wording.entry)) }
     {
         match wording {
