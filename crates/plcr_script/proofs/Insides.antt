@@ -1,11 +1,10 @@
 -- Which passes are in, behind one statement more.
-use Rattle.std.proofs.Common.{◌≡◌, ℕ, ◌<◌, Bool, true, false, cond, eqb, List, [], ◌∷◌, ◌++◌, length, refl, sym, ◌∙◌, ap, arith, ne_eqb}
-use Rattle.std.specs.Prelude.{slice_index_or, slice_set}
+use Rattle.std.proofs.Common.{◌≡◌, ℕ, ◌<◌, Bool, true, false, cond, eqb, List, [], ◌∷◌, ◌++◌, refl, sym, ◌∙◌, ap}
+use Rattle.std.specs.Prelude.{slice_set}
 use Rattle.std.proofs.lemmas.List.{get_or-set_same, get_or-set_other, length-set}
 use Rattle.std.proofs.lemmas.List.Sums.{fold-append}
 use Rattle.plcr_machine.specs.declared.limits.TheConstants.{MOST_PASSES}
 use Rattle.plcr_machine.proofs.Cases.{at_or_else, eqb_same}
-use Rattle.plcr_script.specs.declared.statements.Statement.{Statement}
 use Rattle.plcr_script.specs.declared.statements.NumberedStatement.{NumberedStatement}
 use Rattle.plcr_script.specs.Places.{in_behind, is_in_behind}
 use Rattle.plcr_script.specs.inner.Names.{AreInside}
@@ -29,8 +28,8 @@ pub inside_moved : (inside : List Bool) (xs : List NumberedStatement) (x : Numbe
 inside_moved inside xs x p now few moves h = record {
   wide = length-set inside p now ∙ h.wide;
   are = λ pass within. at_or_else p pass
-    (λ same. rw (← same) (get_or-set_same inside p now false (rw h.wide few) ∙ sym (in_behind_more p xs x ∙ moves p (is_in_behind p xs) ∙ rw (eqb_same p) refl)))
-    (λ other. get_or-set_other inside p pass now false (λ e. absurd (not_same p pass e other)) ∙ h.are pass within ∙ sym (in_behind_more pass xs x ∙ moves pass (is_in_behind pass xs) ∙ rw other refl));
+      (λ same. rw (← same) (get_or-set_same inside p now false (rw h.wide few) ∙ sym (in_behind_more p xs x ∙ moves p (is_in_behind p xs) ∙ rw (eqb_same p) refl)))
+      (λ other. get_or-set_other inside p pass now false (λ e. absurd (not_same p pass e other)) ∙ h.are pass within ∙ sym (in_behind_more pass xs x ∙ moves pass (is_in_behind pass xs) ∙ rw other refl));
 }
   where
     not_same : (a b : ℕ) → b ≡ a → eqb a b ≡ false → ⊥

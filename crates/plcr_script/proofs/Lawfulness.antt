@@ -1,5 +1,5 @@
 -- A script stays within its limits with each line that is within its own.
-use Rattle.std.proofs.Common.{◌≡◌, ℕ, ◌+◌, ◌<◌, ◌≤◌, ◌^◌, ◌⊎◌, Bool, true, false, ◌||◌, ltb, List, [], ◌∷◌, ◌++◌, Option, Some, None, length, take, get_or, refl, sym, ◌∙◌, ap, subst, inl, inr, arith, length-append}
+use Rattle.std.proofs.Common.{◌≡◌, ℕ, ◌+◌, ◌<◌, ◌≤◌, ◌^◌, ◌⊎◌, false, ltb, List, [], ◌∷◌, ◌++◌, Option, Some, None, length, take, get_or, refl, sym, ◌∙◌, ap, subst, inl, inr, arith, length-append}
 use Rattle.std.specs.Prelude.{slice_get, IfSome, IsFalse}
 use Rattle.std.proofs.Math.Seq.{get_or-append_seam, take-append_seam}
 use Rattle.std.proofs.lemmas.Bool.{ltb-true, ltb-false, cases_Bool}
@@ -53,23 +53,23 @@ one_more xs x s i h =
     let long : length (xs ++ x ∷ []) ≡ length xs + 1 = length-append xs (x ∷ []) in
     let got : get_or (xs ++ x ∷ []) i s ≡ s = get_or_from_slice_get (xs ++ x ∷ []) i s s h in
     elim (cases_Bool (ltb i (length xs))) [
-      | inl yes ↦
-        let lt : i < length xs = ltb-true _ _ yes in
-        inl (lt, slice_get-get_or xs i s lt ∙ ap Some (sym (get_or_append_left xs (x ∷ []) s i lt) ∙ got))
-      | inr no ↦
-        let past : length xs ≤ i = ltb-false _ _ no in
-        let at : i ≡ length xs = omega (arith, within, long, past) in
-        inr (at, sym got ∙ ap (λ (k : ℕ). get_or (xs ++ x ∷ []) k s) at ∙ get_or-append_seam xs x [] s)
+      | inl below ↦
+          let lt : i < length xs = ltb-true _ _ below in
+          inl (lt, slice_get-get_or xs i s lt ∙ ap Some (sym (get_or_append_left xs (x ∷ []) s i lt) ∙ got))
+      | inr above ↦
+          let past : length xs ≤ i = ltb-false _ _ above in
+          let at : i ≡ length xs = omega (arith, within, long, past) in
+          inr (at, sym got ∙ ap (λ (k : ℕ). get_or (xs ++ x ∷ []) k s) at ∙ get_or-append_seam xs x [] s)
     ]
 
 -- one statement more in its place
 in_place_more : (passes : ℕ) (xs : List NumberedStatement) (x : NumberedStatement) → AreInPlace passes xs → HasPass passes x.statement → is_misplaced xs x.statement ≡ false → AreInPlace passes (xs ++ x ∷ [])
 in_place_more passes xs x h has place i s is = elim (one_more xs x s i is) [
-    | inl old ↦ subst (λ (ys : List NumberedStatement). HasPass passes s.statement × IsFalse (is_misplaced ys s.statement)) (sym (take-append-le i xs (x ∷ []) (omega (arith, old.0)))) (h i s old.1)
-    | inr new ↦
+  | inl old ↦ subst (λ (ys : List NumberedStatement). HasPass passes s.statement × IsFalse (is_misplaced ys s.statement)) (sym (take-append-le i xs (x ∷ []) (omega (arith, old.0)))) (h i s old.1)
+  | inr new ↦
       let earlier : take i (xs ++ x ∷ []) ≡ xs = ap (λ (k : ℕ). take k (xs ++ x ∷ [])) new.0 ∙ take-append_seam xs (x ∷ []) in
       rw (earlier, new.1) (has, place)
-  ]
+]
 
 -- a pass that a statement may name is one of the script's
 has_pass : (mode : Mode) (passes : ℕ) (statement : Statement) → 1 ≤ passes → HasPass (passes_of mode passes) statement → HasPass passes statement

@@ -3,6 +3,7 @@ pub mod Digits
 pub mod Naming
 pub mod Numbering
 pub mod Insides
+pub mod Indexing
 pub mod Steps
 pub mod Lawfulness
 pub mod SameContexts

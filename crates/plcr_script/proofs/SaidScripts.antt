@@ -1,6 +1,6 @@
 -- What the lines of a script say, each by itself, makes the script.
-use Rattle.std.proofs.Common.{◌≡◌, ◌≢◌, ℕ, ◌+◌, ◌<◌, ◌^◌, Bool, true, false, List, [], ◌∷◌, ◌++◌, length, get_or, Option, Some, None, Result, Ok, Err, refl, sym, ◌∙◌, ap, subst, append_assoc, arith, rules, ◌||◌}
-use Rattle.std.specs.Prelude.{All, AllPairs, IsFalse, drop, nat_lt, codes, if◌then◌else◌}
+use Rattle.std.proofs.Common.{◌≡◌, ◌≢◌, ℕ, ◌+◌, ◌<◌, Bool, true, false, List, [], ◌∷◌, ◌++◌, length, get_or, Option, Some, None, Result, Ok, refl, sym, ◌∙◌, ap, subst, append_assoc, arith, rules}
+use Rattle.std.specs.Prelude.{All, AllPairs, IsFalse, drop, codes, if◌then◌else◌}
 use Rattle.std.specs.List.{filter_map, list_any, fold}
 use Rattle.std.specs.Str.{bytes_eq}
 use Rattle.std.proofs.lemmas.Bool.{both_ways}
@@ -13,7 +13,6 @@ use Rattle.plcr_script.specs.declared.statements.NumberedStatement.{NumberedStat
 use Rattle.plcr_script.specs.declared.values.DescriptiveValues.{DescriptiveValues}
 use Rattle.plcr_script.specs.declared.modes.Mode.{Mode}
 use Rattle.plcr_script.specs.declared.limits.TheConstants.{DEFAULT_PASSES}
-use Rattle.plcr_base.specs.Chains.{◌>>=◌}
 use Rattle.plcr_base.proofs.Chained.{bind_ok}
 use Rattle.plcr_script.specs.declared.faults.Kind.{Kind}
 use Rattle.plcr_script.specs.declared.statements.Statement.{Statement}
@@ -119,10 +118,13 @@ sizes_free p q line a b h = of (bytes_eq word (codes "table")) (bytes_eq word (c
   where
     word : List ℕ
     word = (first_word line).front
+
     arguments : Option (List ℕ)
     arguments = (first_word line).rest
+
     chosen : Bool → Bool → ℕ → Result Saying Kind
     chosen table set passes = if table then table_in (words arguments) else if set then set_in arguments else statement_in passes word arguments
+
     of : (table set : Bool) → chosen table set p ≡ Ok (Sizes a b) → chosen table set q ≡ Ok (Sizes a b)
     of true set h = h
     of false true h = h

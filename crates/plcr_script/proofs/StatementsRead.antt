@@ -1,13 +1,11 @@
 -- What the lines of statements say.
-use Rattle.std.proofs.Common.{◌≡◌, ℕ, ◌^◌, ◌<◌, Bool, true, false, ltb, List, [], ◌∷◌, Option, Some, None, Result, Ok, Err, refl, subst, arith}
-use Rattle.std.specs.Prelude.{if◌then◌else◌, codes, nat_lt}
+use Rattle.std.proofs.Common.{◌≡◌, ℕ, ◌^◌, ◌<◌, Bool, true, false, ltb, List, [], ◌∷◌, Option, Result, Ok, Err, refl, subst}
+use Rattle.std.specs.Prelude.{if◌then◌else◌, codes}
 use Rattle.std.specs.Str.{bytes_eq}
 use Rattle.std.proofs.lemmas.Bool.{ltb-true}
 use Rattle.plcr_base.specs.Chains.{◌>>=◌}
 use Rattle.plcr_script.specs.declared.faults.Kind.{Kind}
 use Rattle.plcr_script.specs.declared.faults.Kind.TheVariants.{BadWord, NoSuchPass, TooFew}
-use Rattle.plcr_script.specs.declared.keys.NumberKey.{NumberKey}
-use Rattle.plcr_script.specs.declared.keys.TextKey.{TextKey}
 use Rattle.plcr_script.specs.declared.statements.Statement.{Statement}
 use Rattle.plcr_script.specs.declared.statements.Statement.TheVariants.{Load, Unload, BeginLoad, BeginUnload, Step, End, Enter, Walk, Leave, Report}
 use Rattle.plcr_script.specs.Refusals.{only_if, or_refuse}
@@ -58,11 +56,11 @@ unload_read p unload arguments has =
     (λ word e. behind p (number_below (2 ^ 64) word) (λ header. Ok (States (unload header))) (λ header e2. states p (unload header) (has header)))
 
 begin_read : (p : ℕ) (arguments : Option (List ℕ)) → ReadsStatement p (begin_in arguments)
-unfolding begin_in begun_in
+unfolding begin_in
 begin_read p arguments =
     behind p (or_refuse TooFew arguments) (λ text. begun_in (first_word text).front (first_word text).rest)
     (λ text e. either p (bytes_eq (first_word text).front (codes "load")) (load_in BeginLoad (first_word text).rest) _ (load_read p BeginLoad (first_word text).rest (λ header name. tt))
-        (either p (bytes_eq (first_word text).front (codes "unload")) (unload_in BeginUnload (words (first_word text).rest)) (Err BadWord) (unload_read p BeginUnload (words (first_word text).rest) (λ header. tt)) (refuses p BadWord)))
+    (either p (bytes_eq (first_word text).front (codes "unload")) (unload_in BeginUnload (words (first_word text).rest)) (Err BadWord) (unload_read p BeginUnload (words (first_word text).rest) (λ header. tt)) (refuses p BadWord)))
 
 step_read : (p : ℕ) (arguments : List (List ℕ)) → ReadsStatement p (step_in arguments)
 unfolding step_in
@@ -82,9 +80,11 @@ moving_read p statement arguments has = behind p (pass_in p arguments) (λ pass.
     numbered : (pass : ℕ) (word : Result ℕ Kind) → (word >>= existing p) ≡ Ok pass → pass < p
     numbered pass (Ok number) h = one_of p number pass h
     numbered pass (Err kind) h = absurd cc
+
     worded : (pass : ℕ) (word : Result (List ℕ) Kind) → (word >>= λ w. number_below (2 ^ 32) w >>= existing p) ≡ Ok pass → pass < p
     worded pass (Ok w) h = numbered pass (number_below (2 ^ 32) w) h
     worded pass (Err kind) h = absurd cc
+
     within : (arguments : List (List ℕ)) (pass : ℕ) → pass_in p arguments ≡ Ok pass → pass < p
     within arguments pass h = worded pass (one_word arguments) h
 
@@ -93,16 +93,16 @@ unfolding walk_in
 walk_read p arguments =
     behind p (two_words arguments) (λ both. walk_by p both.0 both.1)
     (λ both e. behind p (number_below (2 ^ 32) both.0) (λ number. number_below (2 ^ 32) both.1 >>= λ bound. existing p number >>= λ walker. Ok (States (Walk walker bound)))
-        (λ number e2. behind p (number_below (2 ^ 32) both.1) (λ bound. existing p number >>= λ walker. Ok (States (Walk walker bound)))
-            (λ bound e3. behind p (existing p number) (λ walker. Ok (States (Walk walker bound))) (λ walker e4. states p (Walk walker bound) (one_of p number walker e4)))))
+    (λ number e2. behind p (number_below (2 ^ 32) both.1) (λ bound. existing p number >>= λ walker. Ok (States (Walk walker bound)))
+    (λ bound e3. behind p (existing p number) (λ walker. Ok (States (Walk walker bound))) (λ walker e4. states p (Walk walker bound) (one_of p number walker e4)))))
 
 report_read : (p : ℕ) (arguments : List (List ℕ)) → ReadsStatement p (report_in p arguments)
 unfolding report_in
 report_read p arguments =
     behind p (two_words arguments) (λ both. report_by p both.0 both.1)
     (λ both e. behind p (number_below (2 ^ 32) both.0) (λ number. only_if BadWord (is_file_name both.1) both.1 >>= λ name. existing p number >>= λ reporter. Ok (States (Report reporter name)))
-        (λ number e2. behind p (only_if BadWord (is_file_name both.1) both.1) (λ name. existing p number >>= λ reporter. Ok (States (Report reporter name)))
-            (λ name e3. behind p (existing p number) (λ reporter. Ok (States (Report reporter name))) (λ reporter e4. states p (Report reporter name) (one_of p number reporter e4)))))
+    (λ number e2. behind p (only_if BadWord (is_file_name both.1) both.1) (λ name. existing p number >>= λ reporter. Ok (States (Report reporter name)))
+    (λ name e3. behind p (existing p number) (λ reporter. Ok (States (Report reporter name))) (λ reporter e4. states p (Report reporter name) (one_of p number reporter e4)))))
 
 -- the line of a statement says a statement
 pub statement_read : (p : ℕ) (word : List ℕ) (arguments : Option (List ℕ)) (s : Saying) → statement_in p word arguments ≡ Ok s → IsStatement p s

@@ -1,5 +1,6 @@
 -- What each line of a script makes of the script so far.
 use Rattle.std.proofs.Common.{◌≡◌, ℕ, ◌+◌, true, false, List, [], ◌∷◌, length, Option, Some, None, is_some, Result, Ok, Err, ◌==◌, refl, ap, arith}
+use Rattle.std.specs.Prelude.{IfOk}
 use Rattle.std.specs.Option.{option_copied}
 use denote.Ref.{Bor}
 use Rattle.plcr_script.proofs.Cutting.{a_part}
@@ -7,7 +8,10 @@ use Rattle.plcr_script.specs.declared.faults.Kind.TheVariants.{TooMany}
 use Rattle.plcr_script.specs.declared.faults.Kind.{Kind}
 use Rattle.plcr_script.specs.declared.faults.ScriptFault.{ScriptFault}
 use Rattle.plcr_script.specs.declared.faults.ScriptFault.TheVariants.{Refused, Memory}
+use Rattle.plcr_script.specs.declared.wording.Wording.{Wording}
 use Rattle.plcr_script.specs.Splits.{lines, words}
+use Rattle.plcr_script.specs.inner.Fits.{IsFit}
+use Rattle.plcr_script.specs.inner.Wording.{said}
 use Rattle.plcr_base.specs.Chains.{◌>>=◌}
 use Rattle.plcr_script.specs.Refusals.{Refusal, kind_number, refused_at}
 use Rattle.plcr_script.specs.Sayings.{Saying, says_nothing, saying_in, one_word, two_words, end_in}
@@ -67,3 +71,8 @@ pub more_than_none : (more : Option (Bor (List ℕ))) → is_some more ≡ true 
 unfolding end_in
 more_than_none None h = absurd cc
 more_than_none (Some rest) h = let some = a_part (λ b. b == 32) rest.now in rw some.2 refl
+
+-- what is within its limits for any number of passes is so for one
+pub at_passes : (p : ℕ) (r : Result Wording Kind) → IfOk r (λ wording. (count : ℕ) → IsFit count (said wording)) → IfOk r (λ wording. IsFit p (said wording))
+at_passes p (Ok wording) h = h p
+at_passes p (Err kind) h = tt

@@ -101,7 +101,7 @@ unload_in unload arguments = do
   Ok (States (unload header))
 
 -- a load or an unload that is begun, by its word and what stands behind it
-unfoldable pub begun_in : List ℕ → Option (List ℕ) → Result Saying Kind
+abbrev pub begun_in : List ℕ → Option (List ℕ) → Result Saying Kind
 begun_in word arguments =
     if bytes_eq word (codes "load") then load_in BeginLoad arguments else
     if bytes_eq word (codes "unload") then unload_in BeginUnload (words arguments) else

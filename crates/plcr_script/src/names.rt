@@ -7,9 +7,9 @@ ghost use Rattle.plcr_script.specs.inner.Names.{has, IsIndex, AreInside};
 
 use crate::scripts::Script;
 use crate::statements::{NumberedStatement, Statement};
+use plcr_machine::MOST_PASSES;
 use std::alloc::{AllocError, Global};
 use std::collections::BTreeSet;
-use plcr_machine::MOST_PASSES;
 
 /// What is looked up behind the lines so far: the files that the scripts before and the statements write, and which
 /// passes are in, by their numbers.
@@ -62,10 +62,7 @@ impl<'a> Index<'a> {
 }
 
 /// The files that scripts write.
-fn names_of<'a>(
-    alloc: Global,
-    scripts: &'a [Script],
-) -> Result<BTreeSet<&'a [u8]>, AllocError>
+fn names_of<'a>(alloc: Global, scripts: &'a [Script]) -> Result<BTreeSet<&'a [u8]>, AllocError>
     ensures { IfOk result (λ names. IsIndex names (written_by scripts.now)) }
 {
     let mut names = BTreeSet::new(alloc);
@@ -99,10 +96,7 @@ fn add_file<'a>(names: &mut BTreeSet<&'a [u8]>, statement: &'a Statement) -> Res
 }
 
 /// Adds a name to a set, and tells whether it is new.
-fn add_name<'a>(
-    names: &mut BTreeSet<&'a [u8]>,
-    name: &'a [u8],
-) -> Result<bool, AllocError>
+fn add_name<'a>(names: &mut BTreeSet<&'a [u8]>, name: &'a [u8]) -> Result<bool, AllocError>
     ensures fresh { IfOk result (λ fresh. fresh ≡ not (has names.old name.now)) }
     ensures added { OnOk result ((q : List ℕ) → has names.new q ≡ (bytes_eq name.now q || has names.old q)) }
 {

@@ -35,7 +35,7 @@ pub(crate) enum Stating<'a> {
 impl<'a> Stating<'a> {
     /// The statement, which owns its text.
     pub(crate) fn own(self, alloc: Global) -> Result<Statement, AllocError>
-        ensures { IfOk result (λ statement. statement ≡ stated self) }
+        ensures { IfOk result (λ statement. statement ≡ stated self.entry) }
     {
         Ok(match self {
             Stating::Load { header, name } => Statement::Load {
