@@ -2,9 +2,12 @@ pub mod Cutting
 pub mod Digits
 pub mod Naming
 pub mod Numbering
+pub mod Insides
+pub mod Indexing
 pub mod Steps
 pub mod Lawfulness
 pub mod SameContexts
 pub mod WholeScripts
+pub mod StatementsRead
 pub mod SaidScripts
 pub mod WorkedRuns

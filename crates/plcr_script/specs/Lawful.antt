@@ -8,6 +8,7 @@ use Rattle.plcr_script.specs.declared.statements.Statement.TheVariants.{Load, Be
 use Rattle.plcr_script.specs.declared.statements.NumberedStatement.{NumberedStatement}
 use Rattle.plcr_script.specs.Scripts.{ScriptValue}
 use Rattle.plcr_script.specs.Sayings.{is_file_name}
+use Rattle.plcr_script.specs.Places.{AreInPlace}
 use Rattle.plcr_script.specs.Contexts.{context_of}
 
 -- a list has a node and a pass at least, and each within its limit
@@ -21,8 +22,9 @@ IsFitStatement (BeginLoad header name) = length name < 2 ^ 32
 IsFitStatement (Report pass file) = IsTrue (is_file_name file)
 IsFitStatement other = Unit {0}
 
--- a script within its limits, whose descriptive values can be written in reports
+-- a script within its limits, whose statements stand in their places and whose descriptive values can be written in reports
 pub record IsLawful (script : ScriptValue) : Type 0 where
   pub sizes : AreSizes script.nodes script.passes
+  pub places : AreInPlace script.passes script.statements
   pub statements : All (λ (s : NumberedStatement). IsFitStatement s.statement) script.statements
   pub writable : (arch : Arch) → IsWritable (context_of script arch)

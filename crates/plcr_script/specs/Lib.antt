@@ -5,6 +5,7 @@ pub mod Keys
 pub mod Refusals
 pub mod Scripts
 pub mod Sayings
+pub mod Places
 pub mod Reading
 pub mod inner
 pub mod Log

@@ -28,14 +28,19 @@ image header name = record { header = header; name = name }
 -- the headers of eight images
 abbrev pub A0 : ℕ
 A0 = 0x100000000
+
 abbrev pub A1 : ℕ
 A1 = 0x100004000
+
 abbrev pub A2 : ℕ
 A2 = 0x100008000
+
 abbrev pub A3 : ℕ
 A3 = 0x10000c000
+
 abbrev pub A4 : ℕ
 A4 = 0x100010000
+
 abbrev pub A5 : ℕ
 A5 = 0x100014000
 

@@ -1,6 +1,7 @@
 //! Scripts, which say what a run does, and the lines of a run's log.
 #![tactic(auto)]
 
+mod arguments;
 mod drafts;
 mod faults;
 mod keys;
@@ -13,8 +14,10 @@ mod outcomes;
 mod process;
 mod reading;
 mod scripts;
+mod settings;
 mod splitting;
 mod statements;
+mod stating;
 #[cfg(test)]
 mod tests;
 mod values;
