@@ -1,3 +1,4 @@
+pub mod Owning
 pub mod Turned
 pub mod Ties
 pub mod Walked

@@ -1,4 +1,5 @@
 -- Definitions that only private functions' contracts cite.
+pub mod Changes
 pub mod Slots
 pub mod Tokens
 pub mod Walks

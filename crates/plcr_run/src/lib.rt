@@ -2,6 +2,7 @@
 //! tellings, so that the history which the writer has seen at the end is the one that the script means.
 #![tactic(auto)]
 
+mod changing;
 mod passes;
 mod slots;
 mod walking;
