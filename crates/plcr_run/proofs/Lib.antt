@@ -1,3 +1,5 @@
+pub mod WriterTurned
+pub mod Planned
 pub mod Owning
 pub mod Turned
 pub mod Ties

@@ -1,6 +1,7 @@
 -- The steps of the writer, where a later history is known to have no more of what passes did.
-use Rattle.std.proofs.Common.{◌≡◌, ◌≢◌, ℕ, zero, suc, ◌+◌, ◌*◌, ◌-◌, ◌<◌, ◌≤◌, Bool, true, false, List, [], ◌∷◌, ◌++◌, map, length, Option, Some, None, cond, eqb, leb, refl, sym, ap, ◌∙◌, subst, ⊎_elim, inl, inr, arith, ne_eqb, eq-eqb}
-use Rattle.std.proofs.lemmas.Bool.{cases_Bool, cases_eq}
+use Rattle.std.proofs.Common.{◌≡◌, ◌≢◌, ℕ, zero, suc, ◌+◌, ◌*◌, ◌-◌, ◌<◌, ◌≤◌, Bool, true, false, List, [], ◌∷◌, ◌++◌, map, length, Option, Some, None, cond, eqb, leb, ltb, refl, sym, ap, ◌∙◌, subst, ⊎_elim, inl, inr, arith, ne_eqb, eq-eqb}
+use Rattle.std.proofs.lemmas.Bool.{cases_Bool, cases_eq, lt-ltb, le-ltb}
+use Rattle.std.specs.Prelude.{◌==◌, if◌then◌else◌}
 use Rattle.std.proofs.lemmas.List.{length-map}
 use Rattle.atomic_table.specs.Seated.{TableId}
 use Rattle.plcr_machine.specs.declared.image.Image.{Image}
@@ -16,7 +17,7 @@ use Rattle.plcr_machine.specs.Histories.{IsLegal, IsHistory}
 use Rattle.plcr_machine.specs.Parts.{own_entries, owner_entries}
 use Rattle.plcr_machine.specs.Changes.{named, all_named, TakesFirst, changes_of, header_at, list_of}
 use Rattle.plcr_machine.specs.Events.{Event, Changed, Noted, events_of, changes_in, noted_in, held, looks, looked_at}
-use Rattle.plcr_machine.proofs.Cases.{by_cases}
+use Rattle.plcr_machine.proofs.Cases.{by_cases, not_both}
 use Rattle.plcr_machine.proofs.Freedom.{live_apart}
 use Rattle.plcr_machine.proofs.Counted.{none_counted, counted_none}
 use Rattle.plcr_machine.proofs.ListsMade.{changes_of-length, lists_made}
@@ -28,12 +29,14 @@ use Rattle.plcr_nodes.proofs.Seeing.{grows_again}
 use Rattle.plcr_imagelist.specs.Finding.{NoneFree, IsFreeIn}
 use Rattle.plcr_imagelist.specs.States.{WriterState, Doing, Loads, Unloads, ChangeState, change_step, steps_of}
 use Rattle.plcr_imagelist.specs.Changes.{WriterSeesMore, IsLookedAt, Looks, IsCountedAt, IsLoadedAt, IsUnloadedAt, IsChangedAt, FindsNode, AtOnce, AfterLooks}
-use Rattle.plcr_imagelist.specs.Listing.{HasLists, change_of}
-use Rattle.plcr_imagelist.specs.Steps.{MakesStore, IsStepped}
+use Rattle.plcr_imagelist.specs.Listing.{HasLists, change_of, writer_of as left_of}
+use Rattle.plcr_imagelist.specs.Steps.{MakesStore, Advances, IsStepped}
 use Rattle.plcr_imagelist.specs.declared.change.Progress.{Progress}
 use Rattle.plcr_imagelist.specs.declared.change.Progress.TheVariants.{More, Done}
 use Rattle.plcr_imagelist.proofs.Taking.{header_at-first}
 use Rattle.plcr_imagelist.proofs.Looking.{went_again, looks_grow}
+use Rattle.plcr_script.specs.RunChanges.{Plan}
+use Rattle.plcr_nodes.specs.declared.view.Store.{Store}
 use Rattle.plcr_script.specs.RunStates.{Opened, is_full, searched, stepped, steps}
 use Rattle.plcr_run.specs.inner.Tokens.{opened_by, steps_before}
 use Rattle.plcr_run.proofs.Between.{went_same}
@@ -90,7 +93,7 @@ on_history : (top : List Entry) (s t : WriterState) → s ≡ t → Grows s.hist
 on_history top s t e g = subst (λ (w : WriterState). Grows w.history top) e g
 
 -- the change was counted
-counted_went : (old new : WriterState) → IsCountedAt old new → WriterWent old new
+pub counted_went : (old new : WriterState) → IsCountedAt old new → WriterWent old new
 counted_went old new k =
     let later : Grows old.history (Count ∷ k.past) = grows_again old.history k.past (Count ∷ k.past) k.sees.added.grows (Count ∷ [], refl) in
     record {
@@ -114,7 +117,7 @@ counted_made old new top named k o on =
     })
 
 -- the image was linked
-loaded_went : (old : WriterState) (header : ℕ) (name : List ℕ) (load node : ℕ) (new : WriterState) → IsLoadedAt old header name load node new → WriterWent old new
+pub loaded_went : (old : WriterState) (header : ℕ) (name : List ℕ) (load node : ℕ) (new : WriterState) → IsLoadedAt old header name load node new → WriterWent old new
 loaded_went old header name load node new k =
     let entry : Entry = Load node load header in
     let later : Grows old.history (entry ∷ k.past) = grows_again old.history k.past (entry ∷ k.past) k.sees.added.grows (entry ∷ [], refl) in
@@ -146,7 +149,7 @@ loaded_made old header name load node new top known k o on =
      }))
 
 -- the image was unlinked
-unloaded_went : (old : WriterState) (image : Image) (new : WriterState) → IsUnloadedAt old image new → WriterWent old new
+pub unloaded_went : (old : WriterState) (image : Image) (new : WriterState) → IsUnloadedAt old image new → WriterWent old new
 unloaded_went old image new k =
     let entry : Entry = Unload image.node in
     let later : Grows old.history (entry ∷ k.past) = grows_again old.history k.past (entry ∷ k.past) k.sees.added.grows (entry ∷ [], refl) in
@@ -188,3 +191,149 @@ stored_is : (doing : Doing) (made node : ℕ) (old new : WriterState) → MakesS
 stored_is (Loads header name) made node old new m = m ∙ (λ i. record old { stores = sym (ap (λ (s : WriterState). s.stores) m) i })
 stored_is (Unloads image) made node old new m = absurd m
 
+-- any step of a change
+advanced_went : (old new : ChangeState) → Advances old new → WriterWent old.writer new.writer
+advanced_went old new a =
+    ⊎_elim
+    (λ (e : new.made ≡ change_step old.doing). changed_went old.writer old.doing old.load old.node new.writer (a.change e))
+    (λ (n : new.made ≡ change_step old.doing → ⊥). subst (λ (s : WriterState). WriterWent old.writer s) (sym (stored_is old.doing old.made old.node old.writer new.writer (a.before n).1)) (stored_went old.writer new.writer.stores))
+    (cases_eq new.made (change_step old.doing))
+  where
+    stored_went : (s : WriterState) (stores : List Store) → WriterWent s (record s { stores = stores })
+    stored_went s stores = record { table = refl; nodes = refl; passes = refl; joined = refl; grows = ([], refl); went = ([], refl) }
+
+pub step_went : (old : ChangeState) (left : Progress) → IsStepped old left → WriterWent old.writer (left_of left)
+step_went old (More new) s = advanced_went old new s.1
+step_went old (Done writer) s = counted_went old.writer writer s.1
+
+-- one behind the step that makes the change comes its count
+change_at : (doing : Doing) → change_step doing ≡ suc (steps_before doing)
+change_at (Loads header name) = omega arith
+change_at (Unloads image) = refl
+
+pub stepped_change : (plan : Plan) (made : ℕ) (events : List Event) → made ≡ plan.before → stepped plan made events ≡ Changed plan.change ∷ events
+stepped_change plan made events e = rw (eq-eqb made plan.before e) refl
+
+pub stepped_count : (plan : Plan) (made : ℕ) (events : List Event) → plan.before < made → stepped plan made events ≡ Noted Count ∷ events
+stepped_count plan made events lt =
+    let other : eqb made plan.before ≡ false = ne_eqb made plan.before (λ e. omega arith) in
+    let later : ltb plan.before made ≡ true = lt-ltb plan.before made lt in
+    rw (other, later) refl
+
+pub stepped_store : (plan : Plan) (made : ℕ) (events : List Event) → made < plan.before → stepped plan made events ≡ events
+stepped_store plan made events lt =
+    let other : eqb made plan.before ≡ false = ne_eqb made plan.before (λ e. omega arith) in
+    let later : ltb plan.before made ≡ false = le-ltb plan.before made (omega arith) in
+    rw (other, later) refl
+
+advanced_made : (old new : ChangeState) (top : List Entry) → IsHistory old.writer.nodes old.writer.passes old.writer.history old.writer.names → suc old.made < steps_of old.doing → Advances old new → OwnerActs old.writer.passes old.writer.history top → Grows new.writer.history top
+    → StepMade old.writer new.writer (stepped (opened_by old).plan old.made (events_of old.writer.names old.writer.history)) top
+advanced_made old new top known few a o on =
+    let plan : Plan = (opened_by old).plan in
+    let events : List Event = events_of old.writer.names old.writer.history in
+    let at = change_at old.doing in
+    ⊎_elim
+    (λ (e : new.made ≡ change_step old.doing).
+    let here : old.made ≡ steps_before old.doing = let made = a.made in omega arith in
+    subst (λ (es : List Event). StepMade old.writer new.writer es top) (sym (stepped_change plan old.made events here)) (changed_made old.writer old.doing old.load old.node new.writer top known (a.change e) o on))
+    (λ (n : new.made ≡ change_step old.doing → ⊥).
+    let early : old.made < steps_before old.doing = let made = a.made in omega (arith, (λ (e : new.made ≡ change_step old.doing). n e)) in
+    let now = stored_is old.doing old.made old.node old.writer new.writer (a.before n).1 in
+    subst (λ (es : List Event). StepMade old.writer new.writer es top) (sym (stepped_store plan old.made events early))
+    (subst (λ (s : WriterState). StepMade old.writer s events top) (sym now) (record { made = refl; acts = o; named = known.named })))
+    (cases_eq new.made (change_step old.doing))
+
+pub step_made : (old : ChangeState) (left : Progress) (top : List Entry) → IsHistory old.writer.nodes old.writer.passes old.writer.history old.writer.names → IsStepped old left → OwnerActs old.writer.passes old.writer.history top → Grows (left_of left).history top
+    → StepMade old.writer (left_of left) (stepped (opened_by old).plan old.made (events_of old.writer.names old.writer.history)) top
+step_made old (More new) top known s o on = advanced_made old new top known s.0 s.1 o on
+step_made old (Done writer) top known s o on =
+    let at = change_at old.doing in
+    let late : steps_before old.doing < old.made = let last = s.0 in omega arith in
+    subst (λ (es : List Event). StepMade old.writer writer es top) (sym (stepped_count (opened_by old).plan old.made (events_of old.writer.names old.writer.history) late))
+    (counted_made old.writer writer top known.named s.1 o on)
+
+-- a look at each pass
+looked_went : (old : WriterState) (pass stamp : ℕ) (new : WriterState) → IsLookedAt old pass stamp new → WriterWent old new
+looked_went old pass stamp new k =
+    let entry : Entry = Look pass stamp in
+    let later : Grows old.history (entry ∷ k.past) = grows_again old.history k.past (entry ∷ k.past) k.sees.added.grows (entry ∷ [], refl) in
+    record {
+      table = ap (λ (s : WriterState). s.table) k.now;
+      nodes = ap (λ (s : WriterState). s.nodes) k.now;
+      passes = ap (λ (s : WriterState). s.passes) k.now;
+      joined = ap (λ (s : WriterState). s.joined) k.now;
+      grows = subst (λ (s : WriterState). Grows old.history s.history) (sym k.now) later;
+      went = subst (λ (s : WriterState). WentOn old.names s.names) (sym k.now) k.sees.named;
+    }
+
+pub looks_went : (pass : ℕ) (old : WriterState) (found : ℕ) (new : WriterState) → Looks pass old found new → WriterWent old new
+looks_went zero old found new l = subst (λ (s : WriterState). WriterWent old s) (sym l.0) (went_nowhere old)
+looks_went (suc pass) old found new (mid, less, stamp, before, look, sum) = went_twice old mid new (looks_went pass old less mid before) (looked_went mid pass stamp new look)
+
+-- looks change nobody's announcement
+looked-announced : (q p : ℕ) (h : List Entry) → is_announced q (looked_at p h) ≡ is_announced q h
+looked-announced q zero h = refl
+looked-announced q (suc p) h = looked-announced q p h
+
+-- a number of looks, as they are in a run
+pub record LooksMade (passes : ℕ) (old new : WriterState) (found : ℕ) (top : List Entry) : Type 0 where
+  pub history : new.history ≡ looked_at passes old.history
+  pub names : new.names ≡ old.names
+  pub acts : OwnerActs old.passes new.history top
+  pub count : found ≡ announced_count passes old.history
+
+one_if : (b : Bool) (n : ℕ) → ◌≡◌ {A = ℕ} (if (cond b (suc n) 0) == 0 then 0 else 1) (if b then 1 else 0)
+one_if true n = rw (ne_eqb (suc n) 0 (λ e. omega arith)) refl
+one_if false n = refl
+
+abbrev stamped : ℕ → ℕ
+stamped n = if n == 0 then 0 else 1
+
+abbrev once : Bool → ℕ
+once b = if b then 1 else 0
+
+pub looks_made : (pass : ℕ) (old : WriterState) (found : ℕ) (new : WriterState) (top : List Entry) → length old.names ≡ loads old.history → Looks pass old found new → OwnerActs old.passes old.history top → Grows new.history top → LooksMade pass old new found top
+looks_made zero old found new top named l o on = subst (λ (s : WriterState). LooksMade zero old s found top) (sym l.0) (record { history = refl; names = refl; acts = o; count = l.1 })
+looks_made (suc pass) old found new top named (mid, less, stamp, before, look, sum) o on =
+    let w = looks_went pass old less mid before in
+    let entry : Entry = Look pass stamp in
+    let all : Grows (entry ∷ look.past) top = subst (λ (s : WriterState). Grows s.history top) look.now on in
+    let on' : Grows look.past top = grows_again look.past (entry ∷ look.past) top (entry ∷ [], refl) all in
+    let m = looks_made pass old less mid top named before o (grows_again mid.history look.past top look.sees.added.grows on') in
+    let named' : length mid.names ≡ loads mid.history = ap (λ (l : List (List ℕ)). length l) m.names ∙ named ∙ sym (ap loads m.history ∙ looked-loads pass old.history) in
+    let o' : OwnerActs mid.passes mid.history top = subst (λ n. OwnerActs n mid.history top) (sym w.passes) m.acts in
+    let saw = owner_saw_nothing mid look.past look.names top named' look.sees o' on' in
+    let h : List Entry = looked_at pass old.history in
+    let past : look.past ≡ h = saw.history ∙ m.history in
+    let legal = subst (λ (s : WriterState). IsHistory s.nodes s.passes s.history s.names) look.now look.legal in
+    let found_is : stamp ≡ stamp_of pass h = subst (λ (p : List Entry). stamp ≡ stamp_of pass p) past legal.legal.0.1 in
+    let one : ◌≡◌ {A = ℕ} (if stamp == 0 then 0 else 1) (if is_announced pass old.history then 1 else 0) =
+    ap stamped found_is ∙ one_if (is_announced pass h) (seen_by pass h) ∙ ap once (looked-announced pass pass old.history) in
+    let now : new.history ≡ Look pass (stamp_of pass h) ∷ h = ap (λ (s : WriterState). s.history) look.now ∙ (λ i. Look pass (found_is i) ∷ past i) in
+    record {
+      history = now;
+      names = ap (λ (s : WriterState). s.names) look.now ∙ saw.names ∙ m.names;
+      acts = subst (λ (g : List Entry). OwnerActs old.passes g top) (sym now)
+          (owner_more old.passes (Look pass (stamp_of pass h)) h top (subst (λ (g : List Entry). OwnerActs old.passes g top) m.history m.acts) (record { none = λ j g. refl }) (subst (λ (g : List Entry). Grows g top) now on));
+      count = let less_is = m.count in let shown = one in omega arith;
+    }
+  where
+    looked-loads : (p : ℕ) (g : List Entry) → loads (looked_at p g) ≡ loads g
+    looked-loads zero g = refl
+    looked-loads (suc p) g = looked-loads p g
+
+-- whether a run says that no node is free
+full_is : (s : WriterState) → HasLists s → is_full s.nodes s.passes (events_of s.names s.history) ≡ (length (live s.history) + waiting_count s.nodes s.passes s.history == s.nodes)
+full_is s k =
+    let list : length (list_of (changes_in (events_of s.names s.history))) ≡ length (live s.history) =
+    ap (λ (cs : List Change). length (list_of cs)) (events-changes s.names s.history) ∙ ap (λ (l : List Named). length l) (lists_made s.nodes s.passes s.names s.history k.known.legal k.first) ∙ length-map (live s.history) (named s.names) in
+    let back = held_waiting s.nodes s.passes s.names s.history k.known.legal in
+    (λ i. list i + back i == s.nodes)
+
+pub full_none : (s : WriterState) → HasLists s → NoneFree s.nodes s.passes s.history → is_full s.nodes s.passes (events_of s.names s.history) ≡ true
+full_none s k none = full_is s k ∙ eq-eqb (length (live s.history) + waiting_count s.nodes s.passes s.history) s.nodes (none_counted s.nodes s.passes s.history k.known.legal none)
+
+pub full_free : (s : WriterState) (node : ℕ) → HasLists s → IsFreeIn s node → is_full s.nodes s.passes (events_of s.names s.history) ≡ false
+full_free s node k free =
+    full_is s k ∙ ne_eqb (length (live s.history) + waiting_count s.nodes s.passes s.history) s.nodes
+    (λ e. let no = counted_none s.nodes s.passes s.history k.known.legal e node free.0 free.1 in let yes = free.2 in not_both (is_free s.passes node s.history) yes no)

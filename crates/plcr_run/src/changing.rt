@@ -146,7 +146,7 @@ fn step_on(list: &ImageList, change: Change, most: u32) -> Progress
     ensures lists { HasLists change.writer → HasLists (left_of result) }
 {
     let mut change = change;
-    for _turn in 0..most {
+    for turn in 0..most {
         match change.step(list) {
             Progress::More(next) => change = next,
             Progress::Done(writer) => return Progress::Done(writer),

@@ -1,0 +1,163 @@
+-- The statements of the writer, and the turns of a run.
+use Rattle.std.proofs.Common.{◌≡◌, ◌≢◌, ℕ, zero, suc, ◌+◌, ◌-◌, ◌*◌, ◌<◌, ◌≤◌, Bool, true, false, List, [], ◌∷◌, ◌++◌, map, length, Option, Some, None, Result, Ok, Err, cond, eqb, refl, sym, ap, ◌∙◌, subst, ⊎_elim, inl, inr, arith, ne_eqb}
+use Rattle.std.proofs.lemmas.Bool.{cases_eq, leb-true, leb-false, cases_Bool}
+use Rattle.std.proofs.lemmas.List.{length-map}
+use Rattle.std.specs.Prelude.{nat_le}
+use Rattle.atomic_table.specs.Seated.{TableId}
+use Rattle.plcr_base.specs.declared.limits.TheConstants.{IMAGE_NAME_BYTES}
+use Rattle.plcr_machine.specs.declared.limits.TheConstants.{MOST_CHANGES, COUNT_UNIT}
+use Rattle.plcr_machine.specs.declared.image.Image.{Image}
+use Rattle.plcr_machine.specs.declared.entry.Entry.{Entry}
+use Rattle.plcr_machine.specs.declared.entry.Entry.TheVariants.{Count}
+use Rattle.plcr_machine.specs.declared.change.Named.{Named}
+use Rattle.plcr_machine.specs.declared.change.Change.{Change}
+use Rattle.plcr_machine.specs.declared.change.Change.TheVariants.{Loads as LoadsNamed, Unloads as UnloadsFirst}
+use Rattle.plcr_machine.specs.Lists.{Grows, live, loads, changes}
+use Rattle.plcr_machine.specs.Passes.{announced_count, is_announced, count_below}
+use Rattle.plcr_machine.specs.Parts.{own_entries}
+use Rattle.plcr_machine.specs.Histories.{IsHistory}
+use Rattle.plcr_machine.specs.Changes.{named, changes_of, list_of}
+use Rattle.plcr_machine.specs.Events.{Event, Changed, Noted, events_of, changes_in, noted_in, looks, looked_at}
+use Rattle.plcr_machine.proofs.Insiders.{count_below-same}
+use Rattle.plcr_machine.proofs.ListsMade.{lists_made}
+use Rattle.plcr_machine.proofs.EventsMade.{events-changes, events-announced, look_events}
+use Rattle.plcr_nodes.specs.Entries.{WentOn}
+use Rattle.plcr_imagelist.specs.declared.refusals.LoadRefused.{LoadRefused}
+use Rattle.plcr_imagelist.specs.declared.refusals.LoadRefused.TheVariants.{Full, NameTooLong, Worn}
+use Rattle.plcr_imagelist.specs.declared.refusals.UnloadRefused.{UnloadRefused}
+use Rattle.plcr_imagelist.specs.Finding.{NoneFree, IsFreeIn, first_with}
+use Rattle.plcr_imagelist.specs.States.{WriterState, Doing, Loads, Unloads, ChangeState, IsAtRest, steps_of}
+use Rattle.plcr_imagelist.specs.Changes.{Looks, FindsNode, AtOnce, AfterLooks, IsBegunLoad, begun_load, IsLoadedAt, IsUnloadedAt, IsCountedAt}
+use Rattle.plcr_imagelist.specs.Refusing.{IsFull, RefusesFull}
+use Rattle.plcr_imagelist.specs.Loading.{IsLoaded, IsUnloaded, LoadsOrRefuses, UnloadsOrRefuses}
+use Rattle.plcr_imagelist.specs.Steps.{BeginsLoad, BeginsUnload, begun_unload, IsStepped}
+use Rattle.plcr_imagelist.specs.Listing.{HasLists, change_of}
+use Rattle.plcr_imagelist.proofs.Changed.{has_lists}
+use Rattle.plcr_imagelist.proofs.Looking.{looks_only}
+use Rattle.plcr_script.specs.declared.outcomes.Outcome.{Outcome}
+use Rattle.plcr_script.specs.declared.outcomes.Outcome.TheVariants as outcomes
+use Rattle.plcr_script.specs.RunChanges.{Plan, planned_load, planned_unload, made_outcome}
+use Rattle.plcr_script.specs.RunStates.{Opened, Place, State, is_full, searched, stepped, steps, steps_in, steps_left}
+use Rattle.plcr_script.specs.RunTurns.{Turn, full, with_node, unless_refused, made_whole, left_open, stepped_through, stepped_on, step_turn}
+use Rattle.plcr_run.specs.declared.slots.Slot.{Slot}
+use Rattle.plcr_run.specs.declared.writing.Writing.{Writing}
+use Rattle.plcr_run.specs.declared.writing.Writing.TheVariants.{Resting, Changing}
+use Rattle.plcr_run.specs.inner.Slots.{slot_at}
+use Rattle.plcr_run.specs.inner.Tokens.{writer_of, IsGoing, seen_in, IsPlaced, AreTokens, IsAll, place_in, opened_by, opened_in, StateIs, Goes, Turns}
+use Rattle.plcr_run.specs.inner.Changes.{MakesSteps, IsSteppedOn, IsSteppedThrough, WriterTurns, refused_load, said_by_load, refused_unload, said_by_unload, said_when_made}
+use Rattle.plcr_run.proofs.Between.{own_between}
+use Rattle.plcr_run.proofs.Still.{OwnerActs}
+use Rattle.plcr_run.proofs.Acting.{placed_later, placed_seen}
+use Rattle.plcr_run.proofs.Owning.{WriterWent, went_nowhere, went_twice, StepMade, stepped_store, stepped_change, stepped_count, counted_made, changed_went, changed_made, loaded_made, unloaded_made, step_went, step_made, LooksMade, looks_went, looks_made, full_none, full_free}
+use Rattle.plcr_run.proofs.Planned.{changes_known, planned_worn, planned_long, planned_fine, plan_of, first_header, unplanned_worn, unplanned_none, unplanned_one}
+
+-- the tokens after the writer went on
+pub tokens_writer : (table : TableId) (old new : Writing) (slots : List Slot) → AreTokens table old slots → WriterWent (writer_of old) (writer_of new) → HasLists (writer_of new) → IsGoing new → AreTokens table new slots
+tokens_writer table old new slots tokens w lists going = record {
+  list = w.table ∙ tokens.list;
+  none = w.joined ∙ tokens.none;
+  lists = lists;
+  going = going;
+  count = tokens.count ∙ sym w.passes;
+  placed = λ k below. placed_later (writer_of old) (writer_of new) k (slot_at slots k) w.table w.nodes w.passes w.grows w.went (tokens.placed k (subst (λ m. k < m) w.passes below));
+}
+
+-- where the writer has seen all afterwards, it had before, and the passes did nothing
+pub alone_writer : (table : TableId) (old new : Writing) (slots : List Slot) → AreTokens table old slots → WriterWent (writer_of old) (writer_of new) → IsAll new slots → IsAll old slots × OwnerActs (writer_of old).passes (writer_of old).history (writer_of new).history
+alone_writer table old new slots tokens w all =
+    let s : WriterState = writer_of old in
+    let t : WriterState = writer_of new in
+    let whole : (k : ℕ) → k < s.passes → own_entries k t.history ≡ own_entries k (seen_in (slot_at slots k)) = λ k below. all k (subst (λ m. k < m) (sym w.passes) below) in
+    let mid : (k : ℕ) → k < s.passes → own_entries k s.history ≡ own_entries k (seen_in (slot_at slots k)) = λ k below. own_between k (seen_in (slot_at slots k)) s.history t.history (placed_seen s k (slot_at slots k) (tokens.placed k below)) w.grows (whole k below) in
+    (mid, record { grows = w.grows; own = λ k below. whole k below ∙ sym (mid k below) })
+
+-- the state that tokens stand for, with these places
+abbrev pub the_state : Writing → (ℕ → Place) → State
+the_state writing places = record { events = events_of (writer_of writing).names (writer_of writing).history; opened = opened_in writing; places = places }
+
+-- a turn that leaves this writing, and this is its outcome
+pub record TurnIs (turn : Turn) (new : Writing) (places : ℕ → Place) (said : Outcome) : Type 0 where
+  pub state : turn.state ≡ the_state new places
+  pub outcome : said ≡ turn.outcome
+
+-- what a turn knows of the writer
+pub record Knows (old : Writing) (top : List Entry) : Type 0 where
+  pub lists : HasLists (writer_of old)
+  pub going : IsGoing old
+  pub acts : OwnerActs (writer_of old).passes (writer_of old).history top
+
+pub writer_turns : (table : TableId) (old new : Writing) (turn : ℕ → ℕ → State → Turn) (said : Outcome) → WriterWent (writer_of old) (writer_of new) → HasLists (writer_of new) → (IsGoing old → IsGoing new)
+    → ((places : ℕ → Place) → Knows old (writer_of new).history → TurnIs (turn (writer_of old).nodes (writer_of old).passes (the_state old places)) new places said) → WriterTurns table old turn new said
+writer_turns table old new turn said w lists going exact slots tokens =
+    let n : ℕ = (writer_of old).nodes in
+    let p : ℕ = (writer_of old).passes in
+    let at : (state : State) → StateIs old slots state → the_state old state.places ≡ state = λ state is. λ i. record { events = is.events i; opened = is.opened i; places = state.places } in
+    let does : IsAll new slots → (state : State) → TurnIs (turn n p (the_state old state.places)) new state.places said = λ all state. exact state.places (record { lists = tokens.lists; going = tokens.going; acts = (alone_writer table old new slots tokens w all).1 }) in
+    (tokens_writer table old new slots tokens w lists (going tokens.going), record {
+       goes = record {
+         sizes = (w.nodes, w.passes);
+         back = λ all. (alone_writer table old new slots tokens w all).0;
+         state = λ all state is.
+             let t = does all state in
+             let after : (turn n p state).state ≡ the_state new state.places = ap (λ (s : State). (turn n p s).state) (sym (at state is)) ∙ t.state in
+             subst (λ (s : State). StateIs new slots s) (sym after) (record { events = refl; opened = refl; places = λ k below. is.places k (subst (λ m. k < m) w.passes below) });
+       };
+       outcome = λ all state is. (does all state).outcome ∙ ap (λ (s : State). (turn n p s).outcome) (at state is);
+     })
+
+-- all steps of a change
+steps_none : (plan : Plan) (more : ℕ) (events : List Event) → more ≤ plan.before → steps (record { plan = plan; made = 0 }) more events ≡ events
+steps_none plan zero events le = refl
+steps_none plan (suc more) events le =
+    let rest = steps_none plan more events (omega arith) in
+    let first : 0 + more ≡ more = omega arith in
+    ap (λ (es : List Event). stepped plan (0 + more) es) rest ∙ stepped_store plan (0 + more) events (omega arith)
+
+pub steps_whole : (plan : Plan) (events : List Event) → steps (record { plan = plan; made = 0 }) (steps_left (record { plan = plan; made = 0 })) events ≡ Noted Count ∷ Changed plan.change ∷ events
+steps_whole plan events =
+    let o : Opened = record { plan = plan; made = 0 } in
+    let all : steps_left o ≡ suc (suc plan.before) = omega arith in
+    let change : steps o (suc plan.before) events ≡ Changed plan.change ∷ events = ap (λ (es : List Event). stepped plan (0 + plan.before) es) (steps_none plan plan.before events (omega arith)) ∙ stepped_change plan (0 + plan.before) events (omega arith) in
+    ap (λ n. steps o n events) all ∙ ap (λ (es : List Event). stepped plan (0 + suc plan.before) es) change ∙ stepped_count plan (0 + suc plan.before) (Changed plan.change ∷ events) (omega arith)
+
+-- a node for a load was found, as a run says
+pub record Found (old ready : WriterState) (top : List Entry) : Type 0 where
+  pub events : searched old.nodes old.passes (events_of old.names old.history) ≡ events_of ready.names ready.history
+  pub room : is_full old.nodes old.passes (events_of ready.names ready.history) ≡ false
+  pub acts : OwnerActs ready.passes ready.history top
+  pub known : IsHistory ready.nodes ready.passes ready.history ready.names
+  pub loaded : loads ready.history ≡ loads old.history
+
+looks_known : (pass : ℕ) (old : WriterState) (found : ℕ) (new : WriterState) → Looks pass old found new → IsHistory old.nodes old.passes old.history old.names → IsHistory new.nodes new.passes new.history new.names
+looks_known zero old found new l k = subst (λ (s : WriterState). IsHistory s.nodes s.passes s.history s.names) (sym l.0) k
+looks_known (suc pass) old found new (mid, less, stamp, before, look, sum) k = look.legal
+
+searched_full : (n p : ℕ) (events : List Event) → is_full n p events ≡ true → searched n p events ≡ looks p events
+searched_full n p events e = ap (λ b. cond b (looks p events) events) e
+
+searched_room : (n p : ℕ) (events : List Event) → is_full n p events ≡ false → searched n p events ≡ events
+searched_room n p events e = ap (λ b. cond b (looks p events) events) e
+
+-- the looks of a run are those of the writer
+looks_events : (old new : WriterState) (found : ℕ) (top : List Entry) → LooksMade old.passes old new found top → looks old.passes (events_of old.names old.history) ≡ events_of new.names new.history
+looks_events old new found top m = sym (look_events old.passes old.names old.history) ∙ (λ i. events_of (sym m.names i) (sym m.history i))
+
+looks_lists : (old new : WriterState) (found : ℕ) → HasLists old → Looks old.passes old found new → HasLists new
+looks_lists old new found k l = has_lists new (looks_known old.passes old found new l k.known) ((looks_only old.passes old found new l).first k.first)
+
+pub found_node : (old : WriterState) (node : ℕ) (ready : WriterState) (top : List Entry) → HasLists old → FindsNode old node ready → OwnerActs old.passes old.history top → Grows ready.history top → Found old ready top
+found_node old node ready top k (AtOnce free same) o on =
+    let room = full_free old node k free in
+    subst (λ (s : WriterState). Found old s top) (sym same) (record { events = searched_room old.nodes old.passes (events_of old.names old.history) room; room = room; acts = o; known = k.known; loaded = refl })
+found_node old node ready top k (AfterLooks none found l free) o on =
+    let m = looks_made old.passes old found ready top k.known.named l o on in
+    let w = looks_went old.passes old found ready l in
+    let lists = looks_lists old ready found k l in
+    let room = full_free ready node lists free in
+    record {
+      events = searched_full old.nodes old.passes (events_of old.names old.history) (full_none old k none) ∙ looks_events old ready found top m;
+      room = (λ i. is_full (sym w.nodes i) (sym w.passes i) (events_of ready.names ready.history)) ∙ room;
+      acts = subst (λ n. OwnerActs n ready.history top) (sym w.passes) m.acts;
+      known = lists.known;
+      loaded = (looks_only old.passes old found ready l).loaded;
+    }
