@@ -271,7 +271,7 @@ looks_went zero old found new l = subst (λ (s : WriterState). WriterWent old s)
 looks_went (suc pass) old found new (mid, less, stamp, before, look, sum) = went_twice old mid new (looks_went pass old less mid before) (looked_went mid pass stamp new look)
 
 -- looks change nobody's announcement
-looked-announced : (q p : ℕ) (h : List Entry) → is_announced q (looked_at p h) ≡ is_announced q h
+pub looked-announced : (q p : ℕ) (h : List Entry) → is_announced q (looked_at p h) ≡ is_announced q h
 looked-announced q zero h = refl
 looked-announced q (suc p) h = looked-announced q p h
 

@@ -1,8 +1,8 @@
 -- The statements of the writer, and the turns of a run.
-use Rattle.std.proofs.Common.{◌≡◌, ◌≢◌, ℕ, zero, suc, ◌+◌, ◌-◌, ◌*◌, ◌<◌, ◌≤◌, Bool, true, false, List, [], ◌∷◌, ◌++◌, map, length, Option, Some, None, Result, Ok, Err, cond, eqb, refl, sym, ap, ◌∙◌, subst, ⊎_elim, inl, inr, arith, ne_eqb}
+use Rattle.std.proofs.Common.{◌≡◌, ◌≢◌, ◌⊎◌, ℕ, zero, suc, ◌+◌, ◌-◌, ◌*◌, ◌<◌, ◌≤◌, Bool, true, false, List, [], ◌∷◌, ◌++◌, map, length, Option, Some, None, Result, Ok, Err, cond, eqb, leb, refl, sym, ap, ◌∙◌, subst, ⊎_elim, inl, inr, arith, ne_eqb}
 use Rattle.std.proofs.lemmas.Bool.{cases_eq, leb-true, leb-false, cases_Bool}
 use Rattle.std.proofs.lemmas.List.{length-map}
-use Rattle.std.specs.Prelude.{nat_le}
+use Rattle.std.specs.Prelude.{nat_le, ◌==◌, if◌then◌else◌}
 use Rattle.atomic_table.specs.Seated.{TableId}
 use Rattle.plcr_base.specs.declared.limits.TheConstants.{IMAGE_NAME_BYTES}
 use Rattle.plcr_machine.specs.declared.limits.TheConstants.{MOST_CHANGES, COUNT_UNIT}
@@ -38,7 +38,7 @@ use Rattle.plcr_script.specs.declared.outcomes.Outcome.{Outcome}
 use Rattle.plcr_script.specs.declared.outcomes.Outcome.TheVariants as outcomes
 use Rattle.plcr_script.specs.RunChanges.{Plan, planned_load, planned_unload, made_outcome}
 use Rattle.plcr_script.specs.RunStates.{Opened, Place, State, is_full, searched, stepped, steps, steps_in, steps_left}
-use Rattle.plcr_script.specs.RunTurns.{Turn, full, with_node, unless_refused, made_whole, left_open, stepped_through, stepped_on, step_turn}
+use Rattle.plcr_script.specs.RunTurns.{Turn, comes_to, full, with_node, unless_refused, made_whole, left_open, stepped_through, stepped_on, step_turn}
 use Rattle.plcr_run.specs.declared.slots.Slot.{Slot}
 use Rattle.plcr_run.specs.declared.writing.Writing.{Writing}
 use Rattle.plcr_run.specs.declared.writing.Writing.TheVariants.{Resting, Changing}
@@ -48,7 +48,8 @@ use Rattle.plcr_run.specs.inner.Changes.{MakesSteps, IsSteppedOn, IsSteppedThrou
 use Rattle.plcr_run.proofs.Between.{own_between}
 use Rattle.plcr_run.proofs.Still.{OwnerActs}
 use Rattle.plcr_run.proofs.Acting.{placed_later, placed_seen}
-use Rattle.plcr_run.proofs.Owning.{WriterWent, went_nowhere, went_twice, StepMade, stepped_store, stepped_change, stepped_count, counted_made, changed_went, changed_made, loaded_made, unloaded_made, step_went, step_made, LooksMade, looks_went, looks_made, full_none, full_free}
+use Rattle.plcr_run.proofs.Owning.{WriterWent, went_nowhere, went_twice, StepMade, stepped_store, stepped_change, stepped_count, counted_made, changed_went, changed_made, loaded_made, unloaded_made, step_went, step_made, LooksMade, looks_went, looks_made, full_none, full_free, counted_went, loaded_went, unloaded_went, looked-announced}
+use Rattle.plcr_nodes.proofs.Seeing.{grows_again}
 use Rattle.plcr_run.proofs.Planned.{changes_known, planned_worn, planned_long, planned_fine, plan_of, first_header, unplanned_worn, unplanned_none, unplanned_one}
 
 -- the tokens after the writer went on
@@ -161,3 +162,111 @@ found_node old node ready top k (AfterLooks none found l free) o on =
       known = lists.known;
       loaded = (looks_only old.passes old found ready l).loaded;
     }
+
+-- what is done with a load, by whether a node is free
+abbrev refused_full : (n p : ℕ) → State → Turn
+refused_full n p s = comes_to (full n p s.events) s
+
+abbrev chosen : (n p : ℕ) → (Plan → State → Turn) → Plan → State → Turn
+chosen n p done plan s = if is_full n p s.events then refused_full n p s else done plan s
+
+-- one that found a node
+accepted_at : (n p : ℕ) (done : Plan → State → Turn) (plan : Plan) (s : State) (events : List Event) → searched n p s.events ≡ events → is_full n p events ≡ false
+    → with_node n p done plan s ≡ done plan (record s { events = events })
+accepted_at n p done plan s events found room =
+    ap (λ (es : List Event). chosen n p done plan (record s { events = es })) found ∙ ap (λ b. cond b (refused_full n p (record s { events = events })) (done plan (record s { events = events }))) room
+
+-- one that found no node
+refused_at : (n p : ℕ) (done : Plan → State → Turn) (plan : Plan) (s : State) (events : List Event) → searched n p s.events ≡ events → is_full n p events ≡ true
+    → with_node n p done plan s ≡ refused_full n p (record s { events = events })
+refused_at n p done plan s events found room =
+    ap (λ (es : List Event). chosen n p done plan (record s { events = es })) found ∙ ap (λ b. cond b (refused_full n p (record s { events = events })) (done plan (record s { events = events }))) room
+
+-- a turn by another one that is the same
+turn_by : (a b : Turn) (new : Writing) (places : ℕ → Place) (said : Outcome) → a ≡ b → TurnIs b new places said → TurnIs a new places said
+turn_by a b new places said e t = subst (λ (x : Turn). TurnIs x new places said) (sym e) t
+
+-- a whole load
+loaded_turn : (old new : WriterState) (header : ℕ) (name : List ℕ) (number : ℕ) (places : ℕ → Place) → HasLists old → IsLoaded old header name number new → OwnerActs old.passes old.history new.history
+    → TurnIs (with_node old.nodes old.passes made_whole (plan_of old header name) (the_state (Resting old) places)) (Resting new) places (outcomes.Loaded number)
+loaded_turn old new header name number places k l o =
+    let top : List Entry = new.history in
+    let counted = counted_went l.linked new l.count in
+    let linked = loaded_went l.ready header name number l.node l.linked l.link in
+    let on_linked : Grows l.linked.history top = counted.grows in
+    let on_ready : Grows l.ready.history top = grows_again l.ready.history l.linked.history top linked.grows on_linked in
+    let f = found_node old l.node l.ready top k l.finds o on_ready in
+    let first = loaded_made l.ready header name number l.node l.linked top f.known l.link f.acts on_linked in
+    let last = counted_made l.linked new top first.1.named l.count first.1.acts ([], refl) in
+    let plan : Plan = plan_of old header name in
+    let is : number ≡ suc (loads old.history) = l.number_is in
+    let changed : change_of (Loads header name) number ≡ plan.change = ap (λ m. LoadsNamed (record { load = m; header = header; name = name })) is in
+    let events : steps (record { plan = plan; made = 0 }) (steps_left (record { plan = plan; made = 0 })) (events_of l.ready.names l.ready.history) ≡ events_of new.names new.history =
+    steps_whole plan (events_of l.ready.names l.ready.history) ∙ sym (last.made ∙ ap (λ (es : List Event). Noted Count ∷ es) (first.1.made ∙ ap (λ (c : Change). Changed c ∷ events_of l.ready.names l.ready.history) changed)) in
+    turn_by _ _ (Resting new) places (outcomes.Loaded number) (accepted_at old.nodes old.passes made_whole plan (the_state (Resting old) places) (events_of l.ready.names l.ready.history) f.events f.room)
+    (record { state = λ i. record { events = events i; opened = None; places = places }; outcome = ap outcomes.Loaded is })
+
+-- a load that found no free node
+full_turn : (old new : WriterState) (lives held seen : ℕ) (done : Plan → State → Turn) (plan : Plan) (places : ℕ → Place) → HasLists old → IsFull old lives held seen new → OwnerActs old.passes old.history new.history
+    → TurnIs (with_node old.nodes old.passes done plan (the_state (Resting old) places)) (Resting new) places (outcomes.Full lives held seen)
+full_turn old new lives held seen done plan places k f o =
+    let m = looks_made old.passes old f.announced new new.history k.known.named f.looks o ([], refl) in
+    let w = looks_went old.passes old f.announced new f.looks in
+    let lists = looks_lists old new f.announced k f.looks in
+    let events = searched_full old.nodes old.passes (events_of old.names old.history) (full_none old k f.none) ∙ looks_events old new f.announced new.history m in
+    let room : is_full old.nodes old.passes (events_of new.names new.history) ≡ true = (λ i. is_full (sym w.nodes i) (sym w.passes i) (events_of new.names new.history)) ∙ full_none new lists f.still in
+    let es : List Event = events_of new.names new.history in
+    let live_is : length (list_of (changes_in es)) ≡ lives =
+    ap (λ (cs : List Change). length (list_of cs)) (events-changes new.names new.history) ∙ ap (λ (l : List Named). length l) (lists_made new.nodes new.passes new.names new.history lists.known.legal lists.first) ∙ length-map (live new.history) (named new.names) ∙ sym f.live in
+    let held_is : old.nodes - length (list_of (changes_in es)) ≡ held = let sizes = w.nodes in let all = f.all in let is = live_is in omega arith in
+    let changes_is : length (changes_in es) ≡ changes old.history = changes_known new ∙ (looks_only old.passes old f.announced new f.looks).changed in
+    let each : (q : ℕ) → q < old.passes → is_announced q (noted_in es) ≡ is_announced q old.history = λ q below. events-announced q new.names new.history ∙ ap (is_announced q) m.history ∙ looked-announced q old.passes old.history in
+    let announced_is : announced_count old.passes (noted_in es) ≡ f.announced = count_below-same (λ q. is_announced q (noted_in es)) (λ q. is_announced q old.history) old.passes each ∙ sym m.count in
+    let seen_is : length (changes_in es) * COUNT_UNIT + announced_count old.passes (noted_in es) ≡ seen = (λ i. changes_is i * COUNT_UNIT + announced_is i) ∙ sym f.seen_is in
+    turn_by _ _ (Resting new) places (outcomes.Full lives held seen) (refused_at old.nodes old.passes done plan (the_state (Resting old) places) es events room)
+    (record { state = refl; outcome = λ i. outcomes.Full (sym live_is i) (sym held_is i) (sym seen_is i) })
+
+-- a load by the plan of a run
+planned_turn : (n p : ℕ) (done : Plan → State → Turn) (planned result : Result Plan Outcome) (s : State) (new : Writing) (places : ℕ → Place) (said : Outcome) → planned ≡ result
+    → TurnIs (unless_refused (with_node n p done) result s) new places said → TurnIs (unless_refused (with_node n p done) planned s) new places said
+planned_turn n p done planned result s new places said e t = subst (λ (r : Result Plan Outcome). TurnIs (unless_refused (with_node n p done) r s) new places said) (sym e) t
+
+-- what a writer answers to a load
+pub record LoadAnswers (old : WriterState) (header : ℕ) (name : List ℕ) (new : WriterState) (answer : Result ℕ LoadRefused) : Type 0 where
+  pub worn : changes old.history ≡ MOST_CHANGES → (new ≡ old) × (answer ≡ Err (Worn MOST_CHANGES))
+  pub long : changes old.history ≢ MOST_CHANGES → IMAGE_NAME_BYTES < length name → (new ≡ old) × (answer ≡ Err (NameTooLong (length name)))
+  pub loads : changes old.history ≢ MOST_CHANGES → length name ≤ IMAGE_NAME_BYTES → LoadsOrRefuses old header name new answer
+
+-- nothing was done
+pub same_turn : (old new : WriterState) (places : ℕ → Place) (said result : Outcome) → new ≡ old → said ≡ result → TurnIs (comes_to result (the_state (Resting old) places)) (Resting new) places said
+same_turn old new places said result e o = record { state = ap (λ (s : WriterState). the_state (Resting s) places) (sym e); outcome = o }
+
+loads_turn : (old new : WriterState) (header : ℕ) (name : List ℕ) (answer : Result ℕ LoadRefused) (places : ℕ → Place) → HasLists old → LoadsOrRefuses old header name new answer → OwnerActs old.passes old.history new.history
+    → TurnIs (with_node old.nodes old.passes made_whole (plan_of old header name) (the_state (Resting old) places)) (Resting new) places (said_by_load answer)
+loads_turn old new header name (Ok number) places k l o = loaded_turn old new header name number places k l o
+loads_turn old new header name (Err (Full lives held seen)) places k l o = full_turn old new lives held seen made_whole (plan_of old header name) places k l o
+loads_turn old new header name (Err (NameTooLong len)) places k l o = absurd l
+loads_turn old new header name (Err (Worn changed)) places k l o = absurd l
+
+pub load_answers : (old new : WriterState) (header : ℕ) (name : List ℕ) (answer : Result ℕ LoadRefused) (places : ℕ → Place) → IsAtRest old → HasLists old → LoadAnswers old header name new answer → OwnerActs old.passes old.history new.history
+    → TurnIs (unless_refused (with_node old.nodes old.passes made_whole) (planned_load None (changes_in (events_of old.names old.history)) header name) (the_state (Resting old) places)) (Resting new) places (said_by_load answer)
+load_answers old new header name answer places rest k a o =
+    let n : ℕ = old.nodes in
+    let p : ℕ = old.passes in
+    let s : State = the_state (Resting old) places in
+    ⊎_elim
+    (λ (e : changes old.history ≡ MOST_CHANGES).
+    let w = a.worn e in
+    planned_turn n p made_whole _ _ s (Resting new) places (said_by_load answer) (planned_worn old header name e) (same_turn old new places (said_by_load answer) (outcomes.Worn MOST_CHANGES) w.0 (ap said_by_load w.1)))
+    (λ (fresh : changes old.history ≡ MOST_CHANGES → ⊥).
+    ⊎_elim
+    (λ (long : IMAGE_NAME_BYTES < length name).
+    let w = a.long fresh long in
+    planned_turn n p made_whole _ _ s (Resting new) places (said_by_load answer) (planned_long old header name rest fresh long) (same_turn old new places (said_by_load answer) (outcomes.Long (length name)) w.0 (ap said_by_load w.1)))
+    (λ (short : length name ≤ IMAGE_NAME_BYTES).
+    planned_turn n p made_whole _ _ s (Resting new) places (said_by_load answer) (planned_fine old header name rest fresh short) (loads_turn old new header name answer places k (a.loads fresh short) o))
+    (short_or_long (length name)))
+    (cases_eq (changes old.history) MOST_CHANGES)
+  where
+    short_or_long : (m : ℕ) → (IMAGE_NAME_BYTES < m) ⊎ (m ≤ IMAGE_NAME_BYTES)
+    short_or_long m = ⊎_elim (λ (t : leb m IMAGE_NAME_BYTES ≡ true). inr (leb-true m IMAGE_NAME_BYTES t)) (λ (f : leb m IMAGE_NAME_BYTES ≡ false). inl (leb-false m IMAGE_NAME_BYTES f)) (cases_Bool (leb m IMAGE_NAME_BYTES))
