@@ -1,3 +1,4 @@
+pub mod WriterWent
 pub mod WriterTurned
 pub mod Planned
 pub mod Owning

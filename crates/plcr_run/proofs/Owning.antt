@@ -187,7 +187,7 @@ changed_made old (Loads header name) load node new top known k o on = (loaded_ma
 changed_made old (Unloads image) load node new top known k o on = unloaded_made old image load new top known k o on
 
 -- a store of a word
-stored_is : (doing : Doing) (made node : ℕ) (old new : WriterState) → MakesStore doing made node old new → new ≡ record old { stores = new.stores }
+pub stored_is : (doing : Doing) (made node : ℕ) (old new : WriterState) → MakesStore doing made node old new → new ≡ record old { stores = new.stores }
 stored_is (Loads header name) made node old new m = m ∙ (λ i. record old { stores = sym (ap (λ (s : WriterState). s.stores) m) i })
 stored_is (Unloads image) made node old new m = absurd m
 

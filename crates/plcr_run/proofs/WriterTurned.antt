@@ -1,5 +1,5 @@
 -- The statements of the writer, and the turns of a run.
-use Rattle.std.proofs.Common.{◌≡◌, ◌≢◌, ◌⊎◌, ℕ, zero, suc, ◌+◌, ◌-◌, ◌*◌, ◌<◌, ◌≤◌, Bool, true, false, List, [], ◌∷◌, ◌++◌, map, length, Option, Some, None, Result, Ok, Err, cond, eqb, leb, refl, sym, ap, ◌∙◌, subst, ⊎_elim, inl, inr, arith, ne_eqb}
+use Rattle.std.proofs.Common.{◌≡◌, ◌≢◌, ◌⊎◌, ℕ, zero, suc, ◌+◌, ◌-◌, ◌*◌, ◌/◌, ◌<◌, ◌≤◌, Bool, true, false, List, [], ◌∷◌, ◌++◌, map, length, Option, Some, None, Result, Ok, Err, cond, eqb, leb, refl, sym, ap, ◌∙◌, subst, ⊎_elim, inl, inr, arith, ne_eqb}
 use Rattle.std.proofs.lemmas.Bool.{cases_eq, leb-true, leb-false, cases_Bool}
 use Rattle.std.proofs.lemmas.List.{length-map}
 use Rattle.std.specs.Prelude.{nat_le, ◌==◌, if◌then◌else◌}
@@ -36,9 +36,10 @@ use Rattle.plcr_imagelist.proofs.Changed.{has_lists}
 use Rattle.plcr_imagelist.proofs.Looking.{looks_only}
 use Rattle.plcr_script.specs.declared.outcomes.Outcome.{Outcome}
 use Rattle.plcr_script.specs.declared.outcomes.Outcome.TheVariants as outcomes
+use Rattle.plcr_script.specs.Meanings.{Meanings}
 use Rattle.plcr_script.specs.RunChanges.{Plan, planned_load, planned_unload, made_outcome}
 use Rattle.plcr_script.specs.RunStates.{Opened, Place, State, is_full, searched, stepped, steps, steps_in, steps_left}
-use Rattle.plcr_script.specs.RunTurns.{Turn, comes_to, full, with_node, unless_refused, made_whole, left_open, stepped_through, stepped_on, step_turn}
+use Rattle.plcr_script.specs.RunTurns.{Turn, load_turn, unload_turn, where_open, comes_to, full, with_node, unless_refused, made_whole, left_open, stepped_through, stepped_on, step_turn}
 use Rattle.plcr_run.specs.declared.slots.Slot.{Slot}
 use Rattle.plcr_run.specs.declared.writing.Writing.{Writing}
 use Rattle.plcr_run.specs.declared.writing.Writing.TheVariants.{Resting, Changing}
@@ -50,6 +51,7 @@ use Rattle.plcr_run.proofs.Still.{OwnerActs}
 use Rattle.plcr_run.proofs.Acting.{placed_later, placed_seen}
 use Rattle.plcr_run.proofs.Owning.{WriterWent, went_nowhere, went_twice, StepMade, stepped_store, stepped_change, stepped_count, counted_made, changed_went, changed_made, loaded_made, unloaded_made, step_went, step_made, LooksMade, looks_went, looks_made, full_none, full_free, counted_went, loaded_went, unloaded_went, looked-announced}
 use Rattle.plcr_nodes.proofs.Seeing.{grows_again}
+use Rattle.plcr_run.proofs.WriterWent.{went_same_writer, short_or_long, finds_went, loads_went, unloads_went, steps_went, stepped_known}
 use Rattle.plcr_run.proofs.Planned.{changes_known, planned_worn, planned_long, planned_fine, plan_of, first_header, unplanned_worn, unplanned_none, unplanned_one}
 
 -- the tokens after the writer went on
@@ -267,6 +269,113 @@ load_answers old new header name answer places rest k a o =
     planned_turn n p made_whole _ _ s (Resting new) places (said_by_load answer) (planned_fine old header name rest fresh short) (loads_turn old new header name answer places k (a.loads fresh short) o))
     (short_or_long (length name)))
     (cases_eq (changes old.history) MOST_CHANGES)
-  where
-    short_or_long : (m : ℕ) → (IMAGE_NAME_BYTES < m) ⊎ (m ≤ IMAGE_NAME_BYTES)
-    short_or_long m = ⊎_elim (λ (t : leb m IMAGE_NAME_BYTES ≡ true). inr (leb-true m IMAGE_NAME_BYTES t)) (λ (f : leb m IMAGE_NAME_BYTES ≡ false). inl (leb-false m IMAGE_NAME_BYTES f)) (cases_Bool (leb m IMAGE_NAME_BYTES))
+
+-- a whole load, whatever slots there are
+load_went : (old new : WriterState) (header : ℕ) (name : List ℕ) (answer : Result ℕ LoadRefused) → LoadAnswers old header name new answer → WriterWent old new
+load_went old new header name answer a =
+    ⊎_elim
+    (λ (e : changes old.history ≡ MOST_CHANGES). went_same_writer old new (a.worn e).0)
+    (λ (fresh : changes old.history ≡ MOST_CHANGES → ⊥).
+    ⊎_elim
+    (λ (long : IMAGE_NAME_BYTES < length name). went_same_writer old new (a.long fresh long).0)
+    (λ (short : length name ≤ IMAGE_NAME_BYTES). loads_went old header name new answer (a.loads fresh short))
+    (short_or_long (length name)))
+    (cases_eq (changes old.history) MOST_CHANGES)
+
+pub load_whole : (table : TableId) (process : Meanings) (old new : WriterState) (header : ℕ) (name : List ℕ) (answer : Result ℕ LoadRefused) (said : Outcome) → process.fault header ≡ None → LoadAnswers old header name new answer → HasLists new → IsAtRest new → said ≡ said_by_load answer
+    → WriterTurns table (Resting old) (λ n p. load_turn process n p made_whole header name) (Resting new) said
+load_whole table process old new header name answer said none a lists rest is =
+    subst (λ (o : Outcome). WriterTurns table (Resting old) (λ n p. load_turn process n p made_whole header name) (Resting new) o) (sym is)
+    (writer_turns table (Resting old) (Resting new) (λ n p. load_turn process n p made_whole header name) (said_by_load answer) (load_went old new header name answer a) lists (λ g. rest)
+    (λ places k. planned_turn old.nodes old.passes made_whole _ _ (the_state (Resting old) places) (Resting new) places (said_by_load answer) (ap (λ (f : Option ℕ). planned_load f (changes_in (events_of old.names old.history)) header name) none)
+    (load_answers old new header name answer places k.going k.lists a k.acts)))
+
+-- a load that was begun
+pub record BeginAnswers (old : WriterState) (header : ℕ) (name : List ℕ) (answer : Result ChangeState (WriterState × LoadRefused)) : Type 0 where
+  pub worn : changes old.history ≡ MOST_CHANGES → answer ≡ Err (old, Worn MOST_CHANGES)
+  pub long : changes old.history ≢ MOST_CHANGES → IMAGE_NAME_BYTES < length name → answer ≡ Err (old, NameTooLong (length name))
+  pub begins : changes old.history ≢ MOST_CHANGES → length name ≤ IMAGE_NAME_BYTES → BeginsLoad old header name answer
+
+-- so it was neither worn nor too long
+record Began (old : WriterState) (header : ℕ) (name : List ℕ) (change : ChangeState) : Type 0 where
+  pub fresh : changes old.history ≢ MOST_CHANGES
+  pub short : length name ≤ IMAGE_NAME_BYTES
+  pub load : IsBegunLoad old header name change
+
+began : (old : WriterState) (header : ℕ) (name : List ℕ) (change : ChangeState) → BeginAnswers old header name (Ok change) → Began old header name change
+began old header name change a =
+    let fresh : changes old.history ≢ MOST_CHANGES = λ e. let no = a.worn e in cc in
+    ⊎_elim
+    (λ (long : IMAGE_NAME_BYTES < length name). let no = a.long fresh long in cc)
+    (λ (short : length name ≤ IMAGE_NAME_BYTES). record { fresh = fresh; short = short; load = a.begins fresh short })
+    (short_or_long (length name))
+
+opened_begun : (w : WriterState) (old : WriterState) (header : ℕ) (name : List ℕ) (change : ChangeState) → change ≡ begun_load change.writer header name change.node → loads change.writer.history ≡ loads old.history → opened_by change ≡ record { plan = plan_of old header name; made = 0 }
+opened_begun w old header name change begun same =
+    ap opened_by begun ∙ ap (λ k. record { plan = record { change = LoadsNamed (record { load = suc k; header = header; name = name }); load = suc k; before = 3 + (length name + 7) / 8 }; made = 0 }) same
+
+pub begin_ok : (table : TableId) (process : Meanings) (old : WriterState) (header : ℕ) (name : List ℕ) (change : ChangeState) (new : Writing) (said : Outcome) → process.fault header ≡ None → BeginAnswers old header name (Ok change) → HasLists change.writer → new ≡ Changing change → said ≡ outcomes.Begun (steps_of change.doing)
+    → WriterTurns table (Resting old) (λ n p. load_turn process n p left_open header name) new said
+begin_ok table process old header name change new said none a lists is told =
+    let b = began old header name change a in
+    let doing : change.doing ≡ Loads header name = ap (λ (c : ChangeState). c.doing) b.load.begun in
+    let made : change.made ≡ 0 = ap (λ (c : ChangeState). c.made) b.load.begun in
+    let steps : steps_of change.doing ≡ steps_of (Loads header name) = ap steps_of doing in
+    let went = finds_went old change.node change.writer b.load.finds in
+    let turns : WriterTurns table (Resting old) (λ n p. load_turn process n p left_open header name) (Changing change) (outcomes.Begun (steps_of change.doing)) =
+    writer_turns table (Resting old) (Changing change) (λ n p. load_turn process n p left_open header name) (outcomes.Begun (steps_of change.doing)) went lists (λ g. (lists, omega arith))
+    (λ places k.
+    let f = found_node old change.node change.writer change.writer.history k.lists b.load.finds k.acts ([], refl) in
+    let opened = opened_begun old old header name change b.load.begun f.loaded in
+    planned_turn old.nodes old.passes left_open _ _ (the_state (Resting old) places) (Changing change) places (outcomes.Begun (steps_of change.doing))
+    (ap (λ (fault : Option ℕ). planned_load fault (changes_in (events_of old.names old.history)) header name) none ∙ planned_fine old header name k.going b.fresh b.short)
+    (turn_by _ _ (Changing change) places (outcomes.Begun (steps_of change.doing)) (accepted_at old.nodes old.passes left_open (plan_of old header name) (the_state (Resting old) places) (events_of change.writer.names change.writer.history) f.events f.room)
+    (record { state = λ i. record { events = events_of change.writer.names change.writer.history; opened = Some (sym opened i); places = places }; outcome = ap outcomes.Begun (omega (arith, steps)) }))) in
+    subst (λ (w : Writing). WriterTurns table (Resting old) (λ n p. load_turn process n p left_open header name) w said) (sym is)
+    (subst (λ (o : Outcome). WriterTurns table (Resting old) (λ n p. load_turn process n p left_open header name) (Changing change) o) (sym told) turns)
+
+begins_turn : (old new : WriterState) (header : ℕ) (name : List ℕ) (refused : LoadRefused) (places : ℕ → Place) → HasLists old → BeginsLoad old header name (Err (new, refused)) → OwnerActs old.passes old.history new.history
+    → TurnIs (with_node old.nodes old.passes left_open (plan_of old header name) (the_state (Resting old) places)) (Resting new) places (refused_load refused)
+begins_turn old new header name (Full lives held seen) places k l o = full_turn old new lives held seen left_open (plan_of old header name) places k l o
+begins_turn old new header name (NameTooLong len) places k l o = absurd l
+begins_turn old new header name (Worn changed) places k l o = absurd l
+
+begins_went : (old new : WriterState) (header : ℕ) (name : List ℕ) (refused : LoadRefused) → BeginsLoad old header name (Err (new, refused)) → WriterWent old new
+begins_went old new header name (Full lives held seen) l = looks_went old.passes old l.announced new l.looks
+begins_went old new header name (NameTooLong len) l = absurd l
+begins_went old new header name (Worn changed) l = absurd l
+
+err_is : {A E : Type 0} {x y : E} → ◌≡◌ {A = Result A E} (Err x) (Err y) → x ≡ y
+err_is e = cc
+
+pub begin_err : (table : TableId) (process : Meanings) (old new : WriterState) (header : ℕ) (name : List ℕ) (refused : LoadRefused) (said : Outcome) → process.fault header ≡ None → BeginAnswers old header name (Err (new, refused)) → IsAtRest new → said ≡ refused_load refused
+    → WriterTurns table (Resting old) (λ n p. load_turn process n p left_open header name) (Resting new) said
+begin_err table process old new header name refused said none a rest is =
+    let went : WriterWent old new =
+    ⊎_elim
+    (λ (e : changes old.history ≡ MOST_CHANGES). let is : (new, refused) ≡ (old, Worn MOST_CHANGES) = err_is (a.worn e) in went_same_writer old new (ap (λ (r : WriterState × LoadRefused). r.0) is))
+    (λ (fresh : changes old.history ≡ MOST_CHANGES → ⊥).
+    ⊎_elim
+    (λ (long : IMAGE_NAME_BYTES < length name). let is : (new, refused) ≡ (old, NameTooLong (length name)) = err_is (a.long fresh long) in went_same_writer old new (ap (λ (r : WriterState × LoadRefused). r.0) is))
+    (λ (short : length name ≤ IMAGE_NAME_BYTES). begins_went old new header name refused (a.begins fresh short))
+    (short_or_long (length name)))
+    (cases_eq (changes old.history) MOST_CHANGES) in
+    subst (λ (o : Outcome). WriterTurns table (Resting old) (λ n p. load_turn process n p left_open header name) (Resting new) o) (sym is)
+    (writer_turns table (Resting old) (Resting new) (λ n p. load_turn process n p left_open header name) (refused_load refused) went (has_lists new rest.known rest.first) (λ g. rest)
+    (λ places k.
+    let s : State = the_state (Resting old) places in
+    planned_turn old.nodes old.passes left_open _ _ s (Resting new) places (refused_load refused) (ap (λ (f : Option ℕ). planned_load f (changes_in (events_of old.names old.history)) header name) none)
+    (⊎_elim
+    (λ (e : changes old.history ≡ MOST_CHANGES).
+    let is : (new, refused) ≡ (old, Worn MOST_CHANGES) = err_is (a.worn e) in
+    planned_turn old.nodes old.passes left_open _ _ s (Resting new) places (refused_load refused) (planned_worn old header name e) (same_turn old new places (refused_load refused) (outcomes.Worn MOST_CHANGES) (ap (λ (r : WriterState × LoadRefused). r.0) is) (ap (λ (r : WriterState × LoadRefused). refused_load r.1) is)))
+    (λ (fresh : changes old.history ≡ MOST_CHANGES → ⊥).
+    ⊎_elim
+    (λ (long : IMAGE_NAME_BYTES < length name).
+    let is : (new, refused) ≡ (old, NameTooLong (length name)) = err_is (a.long fresh long) in
+    planned_turn old.nodes old.passes left_open _ _ s (Resting new) places (refused_load refused) (planned_long old header name k.going fresh long) (same_turn old new places (refused_load refused) (outcomes.Long (length name)) (ap (λ (r : WriterState × LoadRefused). r.0) is) (ap (λ (r : WriterState × LoadRefused). refused_load r.1) is)))
+    (λ (short : length name ≤ IMAGE_NAME_BYTES).
+    planned_turn old.nodes old.passes left_open _ _ s (Resting new) places (refused_load refused) (planned_fine old header name k.going fresh short) (begins_turn old new header name refused places k.lists (a.begins fresh short) k.acts))
+    (short_or_long (length name)))
+    (cases_eq (changes old.history) MOST_CHANGES))))
+
