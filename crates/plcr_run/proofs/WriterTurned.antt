@@ -25,6 +25,7 @@ use Rattle.plcr_nodes.specs.Entries.{WentOn}
 use Rattle.plcr_imagelist.specs.declared.refusals.LoadRefused.{LoadRefused}
 use Rattle.plcr_imagelist.specs.declared.refusals.LoadRefused.TheVariants.{Full, NameTooLong, Worn}
 use Rattle.plcr_imagelist.specs.declared.refusals.UnloadRefused.{UnloadRefused}
+use Rattle.plcr_imagelist.specs.declared.refusals.UnloadRefused.TheVariants as unload_refusals
 use Rattle.plcr_imagelist.specs.Finding.{NoneFree, IsFreeIn, first_with}
 use Rattle.plcr_imagelist.specs.States.{WriterState, Doing, Loads, Unloads, ChangeState, IsAtRest, steps_of}
 use Rattle.plcr_imagelist.specs.Changes.{Looks, FindsNode, AtOnce, AfterLooks, IsBegunLoad, begun_load, IsLoadedAt, IsUnloadedAt, IsCountedAt}
@@ -379,3 +380,116 @@ begin_err table process old new header name refused said none a rest is =
     (short_or_long (length name)))
     (cases_eq (changes old.history) MOST_CHANGES))))
 
+
+-- what a writer answers to an unload
+pub record UnloadAnswers (old : WriterState) (header : ℕ) (new : WriterState) (answer : Result ℕ UnloadRefused) : Type 0 where
+  pub worn : changes old.history ≡ MOST_CHANGES → (new ≡ old) × (answer ≡ Err (unload_refusals.Worn MOST_CHANGES))
+  pub unloads : changes old.history ≢ MOST_CHANGES → UnloadsOrRefuses old (first_with header (live old.history)) new answer
+
+unplanned_turn : (done : Plan → State → Turn) (planned result : Result Plan Outcome) (s : State) (new : Writing) (places : ℕ → Place) (said : Outcome) → planned ≡ result
+    → TurnIs (unless_refused done result s) new places said → TurnIs (unless_refused done planned s) new places said
+unplanned_turn done planned result s new places said e t = subst (λ (r : Result Plan Outcome). TurnIs (unless_refused done r s) new places said) (sym e) t
+
+-- a whole unload
+unloaded_turn : (old new : WriterState) (header : ℕ) (image : Image) (number : ℕ) (places : ℕ → Place) → HasLists old → first_with header (live old.history) ≡ Some image → number ≡ image.load → IsUnloaded old image new → OwnerActs old.passes old.history new.history
+    → TurnIs (made_whole (record { change = UnloadsFirst header; load = image.load; before = 0 }) (the_state (Resting old) places)) (Resting new) places (outcomes.Unloaded number)
+unloaded_turn old new header image number places k found is u o =
+    let plan : Plan = record { change = UnloadsFirst header; load = image.load; before = 0 } in
+    let counted = counted_went u.unlinked new u.count in
+    let first = unloaded_made old image image.load u.unlinked new.history k.known u.unlink o counted.grows in
+    let last = counted_made u.unlinked new new.history first.named u.count first.acts ([], refl) in
+    let same : image.header ≡ header = first_header header (live old.history) image found in
+    let events : steps (record { plan = plan; made = 0 }) (steps_left (record { plan = plan; made = 0 })) (events_of old.names old.history) ≡ events_of new.names new.history =
+    steps_whole plan (events_of old.names old.history) ∙ sym (last.made ∙ ap (λ (es : List Event). Noted Count ∷ es) (first.made ∙ ap (λ h. Changed (UnloadsFirst h) ∷ events_of old.names old.history) same)) in
+    record { state = λ i. record { events = events i; opened = None; places = places }; outcome = ap outcomes.Unloaded is }
+
+unloads_turn : (old new : WriterState) (header : ℕ) (found : Option Image) (answer : Result ℕ UnloadRefused) (places : ℕ → Place) → IsAtRest old → HasLists old → changes old.history ≢ MOST_CHANGES → first_with header (live old.history) ≡ found
+    → UnloadsOrRefuses old found new answer → OwnerActs old.passes old.history new.history
+    → TurnIs (unless_refused made_whole (planned_unload (changes_in (events_of old.names old.history)) header) (the_state (Resting old) places)) (Resting new) places (said_by_unload answer)
+unloads_turn old new header (Some image) (Ok number) places rest k fresh found u o =
+    unplanned_turn made_whole _ _ (the_state (Resting old) places) (Resting new) places (outcomes.Unloaded number) (unplanned_one old header image rest k fresh found) (unloaded_turn old new header image number places k found u.0 u.1 o)
+unloads_turn old new header (Some image) (Err refused) places rest k fresh found u o = absurd u
+unloads_turn old new header None (Ok number) places rest k fresh found u o = absurd u
+unloads_turn old new header None (Err refused) places rest k fresh found u o =
+    unplanned_turn made_whole _ _ (the_state (Resting old) places) (Resting new) places (refused_unload refused) (unplanned_none old header rest k fresh found) (same_turn old new places (refused_unload refused) outcomes.NotLoaded u.1 (ap refused_unload u.0))
+
+pub unload_whole : (table : TableId) (old new : WriterState) (header : ℕ) (answer : Result ℕ UnloadRefused) (said : Outcome) → UnloadAnswers old header new answer → HasLists new → IsAtRest new → said ≡ said_by_unload answer
+    → WriterTurns table (Resting old) (λ n p. unload_turn made_whole header) (Resting new) said
+unload_whole table old new header answer said a lists rest is =
+    let went : WriterWent old new =
+    ⊎_elim
+    (λ (e : changes old.history ≡ MOST_CHANGES). went_same_writer old new (a.worn e).0)
+    (λ (fresh : changes old.history ≡ MOST_CHANGES → ⊥). unloads_went old (first_with header (live old.history)) new answer (a.unloads fresh))
+    (cases_eq (changes old.history) MOST_CHANGES) in
+    subst (λ (o : Outcome). WriterTurns table (Resting old) (λ n p. unload_turn made_whole header) (Resting new) o) (sym is)
+    (writer_turns table (Resting old) (Resting new) (λ n p. unload_turn made_whole header) (said_by_unload answer) went lists (λ g. rest)
+    (λ places k. ⊎_elim
+    (λ (e : changes old.history ≡ MOST_CHANGES).
+    let w = a.worn e in
+    unplanned_turn made_whole _ _ (the_state (Resting old) places) (Resting new) places (said_by_unload answer) (unplanned_worn old header e) (same_turn old new places (said_by_unload answer) (outcomes.Worn MOST_CHANGES) w.0 (ap said_by_unload w.1)))
+    (λ (fresh : changes old.history ≡ MOST_CHANGES → ⊥). unloads_turn old new header (first_with header (live old.history)) answer places k.going k.lists fresh refl (a.unloads fresh) k.acts)
+    (cases_eq (changes old.history) MOST_CHANGES)))
+
+-- an unload that was begun
+pub record BeginUnloadAnswers (old : WriterState) (header : ℕ) (answer : Result ChangeState (WriterState × UnloadRefused)) : Type 0 where
+  pub worn : changes old.history ≡ MOST_CHANGES → answer ≡ Err (old, unload_refusals.Worn MOST_CHANGES)
+  pub begins : changes old.history ≢ MOST_CHANGES → BeginsUnload old header (first_with header (live old.history)) answer
+
+-- an image was found
+record BeganUnload (old : WriterState) (header : ℕ) (found : Option Image) (change : ChangeState) : Type 0 where
+  pub image : Image
+  pub is : found ≡ Some image
+  pub same : image.header ≡ header
+  pub begun : change ≡ begun_unload old image change.node
+
+began_unload : (old : WriterState) (header : ℕ) (found : Option Image) (change : ChangeState) → BeginsUnload old header found (Ok change) → BeganUnload old header found change
+began_unload old header (Some image) change b = record { image = image; is = refl; same = b.0; begun = b.1 }
+began_unload old header None change b = absurd b
+
+pub begin_unload_ok : (table : TableId) (old : WriterState) (header : ℕ) (change : ChangeState) (new : Writing) (said : Outcome) → BeginUnloadAnswers old header (Ok change) → HasLists change.writer → new ≡ Changing change → said ≡ outcomes.Begun (steps_of change.doing)
+    → WriterTurns table (Resting old) (λ n p. unload_turn left_open header) new said
+begin_unload_ok table old header change new said a lists is told =
+    let fresh : changes old.history ≢ MOST_CHANGES = λ e. let no = a.worn e in cc in
+    let b = began_unload old header (first_with header (live old.history)) change (a.begins fresh) in
+    let writer : change.writer ≡ old = ap (λ (c : ChangeState). c.writer) b.begun in
+    let made : change.made ≡ 0 = ap (λ (c : ChangeState). c.made) b.begun in
+    let steps : steps_of change.doing ≡ steps_of (Unloads b.image) = ap (λ (c : ChangeState). steps_of c.doing) b.begun in
+    let plan : Plan = record { change = UnloadsFirst header; load = b.image.load; before = 0 } in
+    let opened : opened_by change ≡ record { plan = plan; made = 0 } = ap opened_by b.begun ∙ ap (λ h. record { plan = record { change = UnloadsFirst h; load = b.image.load; before = 0 }; made = 0 }) b.same in
+    let turns : WriterTurns table (Resting old) (λ n p. unload_turn left_open header) (Changing change) (outcomes.Begun (steps_of change.doing)) =
+    writer_turns table (Resting old) (Changing change) (λ n p. unload_turn left_open header) (outcomes.Begun (steps_of change.doing)) (went_same_writer old change.writer writer) lists (λ g. (lists, omega arith))
+    (λ places k.
+    unplanned_turn left_open _ _ (the_state (Resting old) places) (Changing change) places (outcomes.Begun (steps_of change.doing)) (unplanned_one old header b.image k.going k.lists fresh b.is)
+    (record { state = λ i. record { events = events_of (sym writer i).names (sym writer i).history; opened = Some (sym opened i); places = places }; outcome = ap outcomes.Begun (omega (arith, steps)) })) in
+    subst (λ (w : Writing). WriterTurns table (Resting old) (λ n p. unload_turn left_open header) w said) (sym is)
+    (subst (λ (o : Outcome). WriterTurns table (Resting old) (λ n p. unload_turn left_open header) (Changing change) o) (sym told) turns)
+
+-- one that was refused
+record RefusedUnload (old new : WriterState) (header : ℕ) (found : Option Image) (refused : UnloadRefused) : Type 0 where
+  pub none : found ≡ None
+  pub same : new ≡ old
+  pub is : refused ≡ unload_refusals.NotLoaded
+
+refused_begin : (old new : WriterState) (header : ℕ) (found : Option Image) (refused : UnloadRefused) → BeginsUnload old header found (Err (new, refused)) → RefusedUnload old new header found refused
+refused_begin old new header (Some image) refused b = absurd b
+refused_begin old new header None refused b = record { none = refl; same = ap (λ (r : WriterState × UnloadRefused). r.0) b; is = ap (λ (r : WriterState × UnloadRefused). r.1) b }
+
+pub begin_unload_err : (table : TableId) (old new : WriterState) (header : ℕ) (refused : UnloadRefused) (said : Outcome) → BeginUnloadAnswers old header (Err (new, refused)) → IsAtRest new → said ≡ refused_unload refused
+    → WriterTurns table (Resting old) (λ n p. unload_turn left_open header) (Resting new) said
+begin_unload_err table old new header refused said a rest is =
+    let found : Option Image = first_with header (live old.history) in
+    let went : WriterWent old new =
+    ⊎_elim
+    (λ (e : changes old.history ≡ MOST_CHANGES). let r : (new, refused) ≡ (old, unload_refusals.Worn MOST_CHANGES) = err_is (a.worn e) in went_same_writer old new (ap (λ (x : WriterState × UnloadRefused). x.0) r))
+    (λ (fresh : changes old.history ≡ MOST_CHANGES → ⊥). went_same_writer old new (refused_begin old new header found refused (a.begins fresh)).same)
+    (cases_eq (changes old.history) MOST_CHANGES) in
+    subst (λ (o : Outcome). WriterTurns table (Resting old) (λ n p. unload_turn left_open header) (Resting new) o) (sym is)
+    (writer_turns table (Resting old) (Resting new) (λ n p. unload_turn left_open header) (refused_unload refused) went (has_lists new rest.known rest.first) (λ g. rest)
+    (λ places k. ⊎_elim
+    (λ (e : changes old.history ≡ MOST_CHANGES).
+    let r : (new, refused) ≡ (old, unload_refusals.Worn MOST_CHANGES) = err_is (a.worn e) in
+    unplanned_turn left_open _ _ (the_state (Resting old) places) (Resting new) places (refused_unload refused) (unplanned_worn old header e) (same_turn old new places (refused_unload refused) (outcomes.Worn MOST_CHANGES) (ap (λ (x : WriterState × UnloadRefused). x.0) r) (ap (λ (x : WriterState × UnloadRefused). refused_unload x.1) r)))
+    (λ (fresh : changes old.history ≡ MOST_CHANGES → ⊥).
+    let b = refused_begin old new header found refused (a.begins fresh) in
+    unplanned_turn left_open _ _ (the_state (Resting old) places) (Resting new) places (refused_unload refused) (unplanned_none old header k.going k.lists fresh b.none) (same_turn old new places (refused_unload refused) outcomes.NotLoaded b.same (ap refused_unload b.is)))
+    (cases_eq (changes old.history) MOST_CHANGES)))
