@@ -1,3 +1,4 @@
+pub mod Stepped
 pub mod WriterWent
 pub mod WriterTurned
 pub mod Planned

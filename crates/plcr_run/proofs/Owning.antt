@@ -207,7 +207,7 @@ step_went old (More new) s = advanced_went old new s.1
 step_went old (Done writer) s = counted_went old.writer writer s.1
 
 -- one behind the step that makes the change comes its count
-change_at : (doing : Doing) → change_step doing ≡ suc (steps_before doing)
+pub change_at : (doing : Doing) → change_step doing ≡ suc (steps_before doing)
 change_at (Loads header name) = omega arith
 change_at (Unloads image) = refl
 

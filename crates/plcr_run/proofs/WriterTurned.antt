@@ -186,7 +186,7 @@ refused_at n p done plan s events found room =
     ap (λ (es : List Event). chosen n p done plan (record s { events = es })) found ∙ ap (λ b. cond b (refused_full n p (record s { events = events })) (done plan (record s { events = events }))) room
 
 -- a turn by another one that is the same
-turn_by : (a b : Turn) (new : Writing) (places : ℕ → Place) (said : Outcome) → a ≡ b → TurnIs b new places said → TurnIs a new places said
+pub turn_by : (a b : Turn) (new : Writing) (places : ℕ → Place) (said : Outcome) → a ≡ b → TurnIs b new places said → TurnIs a new places said
 turn_by a b new places said e t = subst (λ (x : Turn). TurnIs x new places said) (sym e) t
 
 -- a whole load
