@@ -1,3 +1,4 @@
+pub mod Leaving
 pub mod Stepped
 pub mod WriterWent
 pub mod WriterTurned

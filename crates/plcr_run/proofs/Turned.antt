@@ -18,23 +18,24 @@ use Rattle.plcr_nodes.proofs.Seeing.{grows_again}
 use Rattle.plcr_imagelist.specs.States.{WriterState}
 use Rattle.plcr_imagelist.specs.Holds.{WalkerState, HoldState, IsWalking, IsHeld, IsReleased}
 use Rattle.plcr_imagelist.specs.Carrying.{OnlySees}
+use Rattle.plcr_imagelist.specs.Walk.{IsSameWalk}
 use Rattle.plcr_imagelist.specs.Tellings.{note_of_writer, note_of_walker, IsWriterTold, IsWalkerTold, IsHoldTold}
 use Rattle.plcr_imagelist.proofs.Sees.{met_named}
 use Rattle.plcr_script.specs.declared.outcomes.Outcome.{Outcome}
 use Rattle.plcr_script.specs.declared.outcomes.Outcome.TheVariants as outcomes
 use Rattle.plcr_script.specs.RunStates as states
-use Rattle.plcr_script.specs.RunStates.{Place, State, entered, met_in, has_ended, walk, left, low_of, high_of}
+use Rattle.plcr_script.specs.RunStates.{Place, State, entered, met_in, has_ended, walk, walked, walk_to_end, left, low_of, high_of}
 use Rattle.plcr_script.specs.RunTurns.{walk_turn}
 use Rattle.plcr_run.specs.declared.slots.Slot.{Slot}
 use Rattle.plcr_run.specs.declared.slots.Slot.TheVariants.{Out, In, Away}
 use Rattle.plcr_run.specs.declared.writing.Writing.{Writing}
 use Rattle.plcr_run.specs.inner.Slots.{slot_at, IsPut}
 use Rattle.plcr_run.specs.inner.Tokens.{writer_of, with_writer, IsGoing, seen_in, IsKnown, IsPlaced, AreTokens, IsAll, place_in, StateIs, Goes, Turns, LeavesWith}
-use Rattle.plcr_run.specs.inner.Walks.{IsFurther}
+use Rattle.plcr_run.specs.inner.Walks.{IsFurther, IsToEnd}
 use Rattle.plcr_run.proofs.Still.{OneActs}
-use Rattle.plcr_run.proofs.Steps.{WentIn, went_in, WentOut, went_out}
+use Rattle.plcr_run.proofs.Steps.{WentIn, went_in, WentOut, went_out, only_saw}
 use Rattle.plcr_run.proofs.Acting.{IsActing, tokens_acting, ActsAlone, acting_alone, ToldAll, told_all}
-use Rattle.plcr_run.proofs.Ties.{place_of, MeetsSame, further_same, state_placed, state_changes, state_counts, state_low}
+use Rattle.plcr_run.proofs.Ties.{place_of, MeetsSame, further_same, EndsSame, to_end_same, state_placed, state_changes, state_counts, state_low}
 
 -- the pass of a slot, as the tokens know it
 pub known_out : (table : TableId) (old : Writing) (olds : List Slot) (r : ℕ) (pass : WalkerState) → AreTokens table old olds → r < length olds → slot_at olds r ≡ Out pass → IsKnown (writer_of old) r pass
@@ -312,3 +313,43 @@ leave_tells table old olds r hold told pass low high new news met s met_is = λ 
     (met_is ∙ (met_count told (state.places r) place).0,
      s.released.low_is ∙ (λ i. counts (before_enter (k.number i) (k.history i))) ∙ sym (state_low old olds state r is),
      o.high_is ∙ ap counts k.history ∙ sym (state_counts old olds state is))
+
+-- a walk whose images were read is where it was
+pub read_place : (s t : HoldState) → IsSameWalk s t → t.walker ≡ s.walker → place_of t ≡ place_of s
+read_place s t k w = λ i. states.In (all_named (w i).names (k.met i)) (k.ended i)
+
+-- a pass that is in was told, went to the end of its walk, had its images read, and told
+pub saved_goes : (table : TableId) (old : Writing) (olds : List Slot) (r : ℕ) (hold told walked' last : HoldState) (new : Writing) (news : List Slot) → InsideSteps table old olds r hold told last new news
+    → IsToEnd told walked' → IsWalking walked' → OnlySees walked'.walker last.walker → IsSameWalk walked' last
+    → Goes old olds (λ state. walked r (walk_to_end (changes_in state.events) (state.places r)) state) new news
+saved_goes table old olds r hold told walked' last new news s to_end walking reads same =
+    let acts = inside_acting table old olds r hold told last new news s in
+    let tokens' = inside_tokens table old olds r hold told last new news s in
+    let sizes = told_sizes (writer_of old) last.walker (writer_of new) s.tells in
+    let knows : IsAll new news → KnowsAll old olds r hold told new × Grows last.walker.history (writer_of new).history = λ all. knows_all table old olds r hold told last.walker (In last) new news s.tokens s.within s.was s.hears s.sees acts s.put all in
+    let ends : IsAll new news → EndsSame told walked' = λ all. let k = knows all in
+    to_end_same r told walked' (writer_of new).history k.0.number k.0.legal k.0.first to_end walking k.0.acts (grows_again walked'.walker.history last.walker.history (writer_of new).history reads.sees.added.grows k.1) in
+    let still : IsAll new news → last.walker ≡ walked'.walker = λ all.
+    let k = knows all in
+    let e = (ends all).walker in
+    only_saw r walked'.walker last.walker (writer_of new).history (ap (λ (x : WalkerState). x.number) e ∙ k.0.number) (subst (λ (x : WalkerState). length x.names ≡ loads x.history) (sym e) k.0.legal.named) reads
+    (subst (λ (x : WalkerState). OneActs x.passes r x.history (writer_of new).history) (sym e) k.0.acts) k.1 in
+    record {
+      sizes = sizes;
+      back = λ all. (knows all).0.all;
+      state = λ all state is.
+          let k = (knows all).0 in
+          let m = still all ∙ (ends all).walker in
+          let below' : r < (writer_of old).passes = let count = s.tokens.count in let le = s.within in omega arith in
+          let passes' : last.walker.passes ≡ (writer_of new).passes = ap (λ (x : WalkerState). x.passes) m ∙ (told_knows (writer_of old) r hold.walker told.walker (known_in table old olds r hold s.tokens s.within s.was).0 s.hears.walker).0 ∙ sym sizes.1 in
+          let below : r < (writer_of new).passes = let count = tokens'.count in let le = s.within in let same = s.put.count in omega arith in
+          let end = told_all table old r hold.walker told.walker last.walker new news tokens' below (ap seen_in s.put.here)
+          (subst (λ (x : WalkerState). length x.names ≡ loads x.history) (sym m) k.legal.named) passes' acts all
+          (subst (λ (x : WalkerState). OneActs x.passes r x.history (writer_of new).history) (sym m) k.acts) in
+          let history : (writer_of new).history ≡ (writer_of old).history = end.history ∙ ap (λ (x : WalkerState). x.history) m ∙ k.history in
+          let names : (writer_of new).names ≡ (writer_of old).names = end.names ∙ ap (λ (x : WalkerState). x.names) m ∙ k.names in
+          let place : place_of told ≡ state.places r = k.place ∙ sym (ap place_in s.was) ∙ is.places r below' in
+          let changed : changes_of told.walker.names told.walker.history ≡ changes_in state.events = (λ i. changes_of (k.names i) (k.history i)) ∙ sym (state_changes old olds state is) in
+          state_placed old olds new news r (In last) state.events (walk_to_end (changes_in state.events) (state.places r)) state is s.same sizes.1 s.put ((λ i. events_of (names i) (history i)) ∙ is.events)
+          (read_place walked' last same (still all) ∙ (ends all).place ∙ (λ i. walk_to_end (changed i) (place i)));
+    }

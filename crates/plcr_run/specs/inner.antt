@@ -1,5 +1,7 @@
 -- Definitions that only private functions' contracts cite.
 pub mod Changes
+pub mod Ending
+pub mod Reports
 pub mod Slots
 pub mod Tokens
 pub mod Walks

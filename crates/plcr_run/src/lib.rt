@@ -3,7 +3,9 @@
 #![tactic(auto)]
 
 mod changing;
+mod ending;
 mod passes;
+mod reporting;
 mod slots;
 mod walking;
 mod writing;

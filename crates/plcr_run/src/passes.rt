@@ -20,6 +20,7 @@ pub(crate) fn enter(list: &ImageList, writing: &mut Writing, slots: &mut [Slot],
     ensures tokens { AreTokens list.now writing.new slots.new }
     ensures goes { Goes writing.old slots.old (entered pass) writing.new slots.new }
     ensures inside { IsInAt slots.new pass }
+    ensures count { length slots.new ≡ length slots.old }
 {
     let mut outside = take_pass(slots, pass as usize);
     outside.told(list, writing.note(list));
@@ -41,6 +42,7 @@ pub(crate) fn walk_on(
     requires inside { IsInAt slots.old pass }
     ensures tokens { AreTokens list.now writing.new slots.new }
     ensures turns { Turns writing.old slots.old (walk_turn pass most) writing.new slots.new result }
+    ensures count { length slots.new ≡ length slots.old }
 {
     let mut hold = take_hold(slots, pass as usize);
     hold.told(list, writing.note(list));
@@ -66,6 +68,7 @@ pub(crate) fn leave(
     ensures goes { Goes writing.old slots.old (left pass) writing.new slots.new }
     ensures told { LeavesWith writing.old slots.old pass writing.new slots.new result.0 result.1.low result.1.high }
     ensures outside { IsOutAt slots.new pass }
+    ensures count { length slots.new ≡ length slots.old }
 {
     let mut hold = take_hold(slots, pass as usize);
     hold.told(list, writing.note(list));

@@ -1,7 +1,7 @@
 //! The passes of a run, each in a slot of its own.
 ghost use Rattle.std.specs.Prelude.{◌≡◌, ◌<◌, length};
 ghost use Rattle.plcr_run.specs.declared.slots.Slot.TheVariants.{Out, In, Away};
-ghost use Rattle.plcr_run.specs.inner.Slots.{slot_at, IsOutAt, IsInAt, IsPut};
+ghost use Rattle.plcr_run.specs.inner.Slots.{slot_at, is_out_slot, IsOutAt, IsInAt, IsPut};
 
 use plcr_imagelist::{Hold, KeptHold, Pass};
 use std::mem;
@@ -51,4 +51,16 @@ pub(crate) fn put(slots: &mut [Slot], at: usize, slot: Slot)
     ensures { IsPut slots.old slots.new at slot }
 {
     slots[at] = slot;
+}
+
+/// Whether the pass of a slot is out.
+pub(crate) fn is_out(slots: &[Slot], at: usize) -> bool
+    requires { at < length slots.now }
+    ensures { result ≡ is_out_slot (slot_at slots.now at) }
+{
+    match &slots[at] {
+        Slot::Out(_pass) => true,
+        Slot::In(_hold) => false,
+        Slot::Away => false,
+    }
 }

@@ -1,5 +1,5 @@
 -- The passes of a run, each in a slot.
-use Rattle.std.specs.Prelude.{◌≡◌, ◌≢◌, ℕ, List, length, slice_index_or, ⊤}
+use Rattle.std.specs.Prelude.{◌≡◌, ◌≢◌, ℕ, Bool, true, false, List, length, slice_index_or, ⊤}
 use Rattle.plcr_run.specs.declared.slots.Slot.{Slot}
 use Rattle.plcr_run.specs.declared.slots.Slot.TheVariants.{Out, In, Away}
 
@@ -16,6 +16,11 @@ abbrev pub IsInSlot : Slot → Type 0
 IsInSlot (Out pass) = ⊥
 IsInSlot (In hold) = ⊤
 IsInSlot Away = ⊥
+
+abbrev pub is_out_slot : Slot → Bool
+is_out_slot (Out pass) = true
+is_out_slot (In hold) = false
+is_out_slot Away = false
 
 -- the pass of a slot is out, or in
 abbrev pub IsOutAt : List Slot → ℕ → Type 0
