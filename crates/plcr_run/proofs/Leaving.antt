@@ -16,8 +16,8 @@ use Rattle.plcr_run.specs.inner.Tokens.{writer_of, AreTokens, IsPlaced, IsAll, p
 use Rattle.plcr_run.specs.inner.Ending.{left_below, AreOut}
 
 -- one after the other
-pub goes_twice : (a : Writing) (as : List Slot) (f : State → State) (b : Writing) (bs : List Slot) (g : State → State) (c : Writing) (cs : List Slot) → Goes a as f b bs → Goes b bs g c cs → Goes a as (λ state. g (f state)) c cs
-goes_twice a as f b bs g c cs first second = record {
+pub goes_twice : (a : Writing) (olds : List Slot) (f : State → State) (b : Writing) (bs : List Slot) (g : State → State) (c : Writing) (cs : List Slot) → Goes a olds f b bs → Goes b bs g c cs → Goes a olds (λ state. g (f state)) c cs
+goes_twice a olds f b bs g c cs first second = record {
   sizes = (second.sizes.0 ∙ first.sizes.0, second.sizes.1 ∙ first.sizes.1);
   back = λ all. first.back (second.back all);
   state = λ all state is. second.state all (f state) (first.state (second.back all) state is);
@@ -32,15 +32,15 @@ state_same writing slots s t events opened places is = record {
 }
 
 -- going to a state that is the same
-pub goes_as : (a : Writing) (as : List Slot) (f g : State → State) (b : Writing) (bs : List Slot) → ((state : State) → StateIs a as state → StateIs b bs (f state) → StateIs b bs (g state)) → Goes a as f b bs → Goes a as g b bs
-goes_as a as f g b bs same goes = record {
+pub goes_as : (a : Writing) (olds : List Slot) (f g : State → State) (b : Writing) (bs : List Slot) → ((state : State) → StateIs a olds state → StateIs b bs (f state) → StateIs b bs (g state)) → Goes a olds f b bs → Goes a olds g b bs
+goes_as a olds f g b bs same goes = record {
   sizes = goes.sizes;
   back = goes.back;
   state = λ all state is. same state is (goes.state all state is);
 }
 
-pub goes_nowhere : (a : Writing) (as : List Slot) (f : State → State) → ((state : State) → StateIs a as state → StateIs a as (f state)) → Goes a as f a as
-goes_nowhere a as f same = record { sizes = (refl, refl); back = λ all. all; state = λ all state is. same state is }
+pub goes_nowhere : (a : Writing) (olds : List Slot) (f : State → State) → ((state : State) → StateIs a olds state → StateIs a olds (f state)) → Goes a olds f a olds
+goes_nowhere a olds f same = record { sizes = (refl, refl); back = λ all. all; state = λ all state is. same state is }
 
 -- a slot of tokens is one of the two
 pub slot_cases : (table : TableId) (writing : Writing) (slots : List Slot) (k : ℕ) → AreTokens table writing slots → k < length slots → is_out_slot (slot_at slots k) ≡ false → IsInAt slots k
@@ -73,9 +73,9 @@ stays_in writing slots pass state below inside is =
     let at : is_in (state.places pass) ≡ true = ap is_in (sym (is.places pass below)) ∙ place_inside (slot_at slots pass) inside in
     subst (λ (s : State). StateIs writing slots s) (ap (λ b. cond b state (entered pass state)) (sym at)) is
 
-pub goes_in : (a : Writing) (as : List Slot) (pass : ℕ) (state : State) → pass < (writer_of a).passes → IsOutAt as pass → StateIs a as state → entered pass state ≡ entered_if_out pass state
-goes_in a as pass state below out is =
-    let at : is_in (state.places pass) ≡ false = ap is_in (sym (is.places pass below) ∙ place_out (slot_at as pass) out) in
+pub goes_in : (a : Writing) (olds : List Slot) (pass : ℕ) (state : State) → pass < (writer_of a).passes → IsOutAt olds pass → StateIs a olds state → entered pass state ≡ entered_if_out pass state
+goes_in a olds pass state below out is =
+    let at : is_in (state.places pass) ≡ false = ap is_in (sym (is.places pass below) ∙ place_out (slot_at olds pass) out) in
     ap (λ b. cond b state (entered pass state)) (sym at)
 
 -- none came out yet

@@ -1,7 +1,8 @@
 //! How the tokens of a script end: passes that are in come out, an open change is made to its end, and all passes meet
 //! the writer.
-ghost use Rattle.std.specs.Prelude.{◌≡◌, ◌<◌, length, vec_len};
+ghost use Rattle.std.specs.Prelude.{◌≡◌, ◌<◌, List, length};
 ghost use Rattle.plcr_imagelist.specs.States.{IsAtRest};
+ghost use Rattle.plcr_run.specs.declared.slots.Slot.{Slot};
 ghost use Rattle.plcr_run.specs.inner.Tokens.{writer_of, AreTokens, Goes};
 ghost use Rattle.plcr_run.specs.inner.Ending.{left_below, AreOut, finished_state, HasMet, EndsIn};
 
