@@ -15,3 +15,5 @@ pub mod NumberedChanges
 pub mod WalkEnds
 pub mod Turning
 pub mod SoundRuns
+pub mod PrefixRuns
+pub mod PlacedRuns

@@ -51,8 +51,8 @@ one_step o n events (inl same) = of same.1
     of (inl below) = at_or_else (o.made + n) o.plan.before
         (λ at. inr (rw (at, eqb_same o.plan.before) (ap (λ (cs : List Change). o.plan.change ∷ cs) same.0), omega (arith, at), omega (arith, at)))
         (λ other.
-            let less : o.made + n < o.plan.before = strictly (o.made + n) o.plan.before below other in
-            inl (rw (other, not_past o.plan.before (o.made + n) less) same.0, inl (omega (arith, less))))
+        let less : o.made + n < o.plan.before = strictly (o.made + n) o.plan.before below other in
+        inl (rw (other, not_past o.plan.before (o.made + n) less) same.0, inl (omega (arith, less))))
 
 -- the steps of a change add it where they pass it, and no other
 pub step_changes : (o : Opened) (n : ℕ) (events : List Event) → AddNothing o n events ⊎ AddChange o n events

@@ -12,6 +12,7 @@ use Rattle.plcr_script.specs.declared.outcomes.Outcome.TheVariants.{NotLoaded}
 use Rattle.plcr_script.specs.declared.statements.Statement.{Statement}
 use Rattle.plcr_script.specs.declared.statements.Statement.TheVariants as statements
 use Rattle.plcr_script.specs.declared.statements.NumberedStatement.{NumberedStatement}
+use Rattle.plcr_script.specs.Places.{pass_of}
 use Rattle.plcr_script.specs.Meanings.{Meanings}
 use Rattle.plcr_script.specs.RunChanges.{Plan, loads_in, first_with, worn, load_refusal, load_plan, planned_load, unload_plan, found_unload, unless_refusal, planned_unload}
 use Rattle.plcr_script.specs.RunStates.{Opened, steps_left, steps, is_full, searched, State, entered, entered_if_out, is_in, walked, walk, left}
@@ -63,6 +64,7 @@ unload_may_come changes header plan e numbered = of (worn changes) e
     found : (image : Option Named) → ok_or (option_map (unload_plan header) image) NotLoaded ≡ Ok plan → AreNumbered (plan.change ∷ changes)
     found None h = absurd cc
     found (Some image) h = let same : unload_plan header image ≡ plan = cc in subst (λ (p : Plan). AreNumbered (p.change ∷ changes)) same numbered
+
     of : (refusal : Option Outcome) → unless_refusal refusal (found_unload changes header) ≡ Ok plan → AreNumbered (plan.change ∷ changes)
     of None h = found (first_with header (list_of changes)) h
     of (Some refusal) h = absurd cc
@@ -72,93 +74,99 @@ module _ (process : Meanings) (nodes passes : ℕ) (P : State → Type 0)
     (opening_keeps : (s : State) (plan : Plan) → P s → s.opened ≡ None → MayCome plan s → P (with_open plan s))
     (steps_keep : (s : State) (o : Opened) (more : ℕ) → P s → s.opened ≡ Some o → more < steps_left o → P (after_steps more o s))
     (end_keeps : (s : State) (o : Opened) → P s → s.opened ≡ Some o → P (after_all o s))
-    where
+  where
+    -- what is done with a plan keeps it
+    abbrev Keeps : (Plan → State → Turn) → Type 0
+    Keeps done = (s : State) (plan : Plan) → P s → s.opened ≡ None → MayCome plan s → P (done plan s).state
 
-  -- what is done with a plan keeps it
-  abbrev Keeps : (Plan → State → Turn) → Type 0
-  Keeps done = (s : State) (plan : Plan) → P s → s.opened ≡ None → MayCome plan s → P (done plan s).state
+    open_keeps : Keeps left_open
+    open_keeps s plan p none may = opening_keeps s plan p none may
 
-  open_keeps : Keeps left_open
-  open_keeps s plan p none may = opening_keeps s plan p none may
+    whole_keeps : Keeps made_whole
+    whole_keeps s plan p none may = end_keeps (with_open plan s) (record { plan = plan; made = 0 }) (opening_keeps s plan p none may) refl
 
-  whole_keeps : Keeps made_whole
-  whole_keeps s plan p none may = end_keeps (with_open plan s) (record { plan = plan; made = 0 }) (opening_keeps s plan p none may) refl
-
-  node_keeps : (done : Plan → State → Turn) → Keeps done → Keeps (with_node nodes passes done)
-  node_keeps done keeps s plan p none may = of (is_full nodes passes (looked nodes passes s).events)
-    where
-      found : State
-      found = looked nodes passes s
-      kept : P (looked nodes passes s)
-      kept = looks_keep s p
-      of : (b : Bool) → P (if b then comes_to (full nodes passes (looked nodes passes s).events) (looked nodes passes s) else done plan (looked nodes passes s)).state
-      of true = kept
-      of false = keeps (looked nodes passes s) plan kept none (rw (searched_changes nodes passes s.events) may)
-
-  planned_keeps : (done : Plan → State → Turn) → Keeps done → (s : State) (planned : Result Plan Outcome) → P s → s.opened ≡ None → ((plan : Plan) → planned ≡ Ok plan → MayCome plan s) → P (unless_refused done planned s).state
-  planned_keeps done keeps s (Ok plan) p none may = keeps s plan p none (may plan refl)
-  planned_keeps done keeps s (Err refusal) p none may = p
-
-  idle_keeps : (done : State → Turn) (s : State) → P s → (s.opened ≡ None → P (done s).state) → P (unless_busy done s).state
-  idle_keeps done s p keeps = of s.opened refl
-    where
-      of : (o : Option Opened) → s.opened ≡ o → P (without_opened done o s).state
-      of None e = keeps e
-      of (Some opened) e = p
-
-  load_keeps : (done : Plan → State → Turn) → Keeps done → (header : ℕ) (name : List ℕ) (s : State) → P s → P (load_turn process nodes passes done header name s).state
-  load_keeps done keeps header name s p =
-      idle_keeps (unless_refused (with_node nodes passes done) (planned_load (process.fault header) (changes_in s.events) header name)) s p
-      (λ none. planned_keeps (with_node nodes passes done) (node_keeps done keeps) s (planned_load (process.fault header) (changes_in s.events) header name) p none
-          (λ plan e numbered. load_may_come (process.fault header) (changes_in s.events) header name plan e numbered))
-
-  unload_keeps : (done : Plan → State → Turn) → Keeps done → (header : ℕ) (s : State) → P s → P (unload_turn done header s).state
-  unload_keeps done keeps header s p =
-      idle_keeps (unless_refused done (planned_unload (changes_in s.events) header)) s p
-      (λ none. planned_keeps done keeps s (planned_unload (changes_in s.events) header) p none (λ plan e numbered. unload_may_come (changes_in s.events) header plan e numbered))
-
-  open_change_keeps : (done : Opened → State → Turn) (s : State) → P s → ((o : Opened) → s.opened ≡ Some o → P (done o s).state) → P (where_open done s).state
-  open_change_keeps done s p keeps = of s.opened refl
-    where
-      of : (o : Option Opened) → s.opened ≡ o → P (with_opened done o s).state
-      of None e = p
-      of (Some opened) e = keeps opened e
-
-  step_keeps : (most : ℕ) (o : Opened) (s : State) → P s → s.opened ≡ Some o → P (step_turn most o s).state
-  step_keeps most o s p e = of (leb (steps_left o) most) refl
-    where
-      of : (b : Bool) → leb (steps_left o) most ≡ b → P (if b then stepped_through o s else stepped_on most o s).state
-      of true h = end_keeps s o p e
-      of false h = steps_keep s o most p e (leb-false (steps_left o) most h)
-
-  module _ (enter_keeps : (s : State) (pass : ℕ) → P s → P (entered pass s))
-      (walk_keeps : (s : State) (pass most : ℕ) → P s → P (walked pass (walk most (changes_in s.events) (s.places pass)) s))
-      (leave_keeps : (s : State) (pass : ℕ) → P s → P (left pass s))
+    node_keeps : (done : Plan → State → Turn) → Keeps done → Keeps (with_node nodes passes done)
+    node_keeps done keeps s plan p none may = of (is_full nodes passes (looked nodes passes s).events)
       where
+        found : State
+        found = looked nodes passes s
 
-    -- so does that a pass goes in for a report
-    pub enter_if_keeps : (s : State) (pass : ℕ) → P s → P (entered_if_out pass s)
-    enter_if_keeps s pass p = of (is_in (s.places pass))
+        kept : P (looked nodes passes s)
+        kept = looks_keep s p
+
+        of : (b : Bool) → P (if b then comes_to (full nodes passes (looked nodes passes s).events) (looked nodes passes s) else done plan (looked nodes passes s)).state
+        of true = kept
+        of false = keeps (looked nodes passes s) plan kept none (rw (searched_changes nodes passes s.events) may)
+
+    planned_keeps : (done : Plan → State → Turn) → Keeps done → (s : State) (planned : Result Plan Outcome) → P s → s.opened ≡ None → ((plan : Plan) → planned ≡ Ok plan → MayCome plan s) → P (unless_refused done planned s).state
+    planned_keeps done keeps s (Ok plan) p none may = keeps s plan p none (may plan refl)
+    planned_keeps done keeps s (Err refusal) p none may = p
+
+    idle_keeps : (done : State → Turn) (s : State) → P s → (s.opened ≡ None → P (done s).state) → P (unless_busy done s).state
+    idle_keeps done s p keeps = of s.opened refl
       where
-        of : (b : Bool) → P (if b then s else entered pass s)
-        of true = p
-        of false = enter_keeps s pass p
+        of : (o : Option Opened) → s.opened ≡ o → P (without_opened done o s).state
+        of None e = keeps e
+        of (Some opened) e = p
 
-    -- each statement keeps it
-    pub turn_keeps : (s : State) (statement : Statement) → P s → P (turn_of process nodes passes s statement).state
+    load_keeps : (done : Plan → State → Turn) → Keeps done → (header : ℕ) (name : List ℕ) (s : State) → P s → P (load_turn process nodes passes done header name s).state
+    load_keeps done keeps header name s p =
+        idle_keeps (unless_refused (with_node nodes passes done) (planned_load (process.fault header) (changes_in s.events) header name)) s p
+        (λ none. planned_keeps (with_node nodes passes done) (node_keeps done keeps) s (planned_load (process.fault header) (changes_in s.events) header name) p none
+        (λ plan e numbered. load_may_come (process.fault header) (changes_in s.events) header name plan e numbered))
+
+    unload_keeps : (done : Plan → State → Turn) → Keeps done → (header : ℕ) (s : State) → P s → P (unload_turn done header s).state
+    unload_keeps done keeps header s p =
+        idle_keeps (unless_refused done (planned_unload (changes_in s.events) header)) s p
+        (λ none. planned_keeps done keeps s (planned_unload (changes_in s.events) header) p none (λ plan e numbered. unload_may_come (changes_in s.events) header plan e numbered))
+
+    open_change_keeps : (done : Opened → State → Turn) (s : State) → P s → ((o : Opened) → s.opened ≡ Some o → P (done o s).state) → P (where_open done s).state
+    open_change_keeps done s p keeps = of s.opened refl
+      where
+        of : (o : Option Opened) → s.opened ≡ o → P (with_opened done o s).state
+        of None e = p
+        of (Some opened) e = keeps opened e
+
+    step_keeps : (most : ℕ) (o : Opened) (s : State) → P s → s.opened ≡ Some o → P (step_turn most o s).state
+    step_keeps most o s p e = of (leb (steps_left o) most) refl
+      where
+        of : (b : Bool) → leb (steps_left o) most ≡ b → P (if b then stepped_through o s else stepped_on most o s).state
+        of true h = end_keeps s o p e
+        of false h = steps_keep s o most p e (leb-false (steps_left o) most h)
+
+    -- each statement that names no pass keeps it
+    pub changing_keeps : (s : State) (statement : Statement) → pass_of statement ≡ None → P s → P (turn_of process nodes passes s statement).state
     unfolding turn_of
-    turn_keeps s (statements.Load header name) p = load_keeps made_whole whole_keeps header name s p
-    turn_keeps s (statements.Unload header) p = unload_keeps made_whole whole_keeps header s p
-    turn_keeps s (statements.BeginLoad header name) p = load_keeps left_open open_keeps header name s p
-    turn_keeps s (statements.BeginUnload header) p = unload_keeps left_open open_keeps header s p
-    turn_keeps s (statements.Step most) p = open_change_keeps (step_turn most) s p (λ o e. step_keeps most o s p e)
-    turn_keeps s statements.End p = open_change_keeps stepped_through s p (λ o e. end_keeps s o p e)
-    turn_keeps s (statements.Enter pass) p = enter_keeps s pass p
-    turn_keeps s (statements.Walk pass most) p = walk_keeps s pass most p
-    turn_keeps s (statements.Leave pass) p = leave_keeps s pass p
-    turn_keeps s (statements.Report pass file) p = leave_keeps (entered_if_out pass s) pass (enter_if_keeps s pass p)
+    changing_keeps s (statements.Load header name) none p = load_keeps made_whole whole_keeps header name s p
+    changing_keeps s (statements.Unload header) none p = unload_keeps made_whole whole_keeps header s p
+    changing_keeps s (statements.BeginLoad header name) none p = load_keeps left_open open_keeps header name s p
+    changing_keeps s (statements.BeginUnload header) none p = unload_keeps left_open open_keeps header s p
+    changing_keeps s (statements.Step most) none p = open_change_keeps (step_turn most) s p (λ o e. step_keeps most o s p e)
+    changing_keeps s statements.End none p = open_change_keeps stepped_through s p (λ o e. end_keeps s o p e)
+    changing_keeps s other some p = absurd cc
 
-    -- and so do all
-    pub statements_keep : (xs : List NumberedStatement) (s : State) → P s → P (state_after process nodes passes s xs)
-    statements_keep [] s p = p
-    statements_keep (x ∷ xs) s p = statements_keep xs (turn_of process nodes passes s x.statement).state (turn_keeps s x.statement p)
+    module _ (enter_keeps : (s : State) (pass : ℕ) → P s → P (entered pass s))
+        (walk_keeps : (s : State) (pass most : ℕ) → P s → P (walked pass (walk most (changes_in s.events) (s.places pass)) s))
+        (leave_keeps : (s : State) (pass : ℕ) → P s → P (left pass s))
+      where
+        -- so does that a pass goes in for a report
+        pub enter_if_keeps : (s : State) (pass : ℕ) → P s → P (entered_if_out pass s)
+        enter_if_keeps s pass p = of (is_in (s.places pass))
+          where
+            of : (b : Bool) → P (if b then s else entered pass s)
+            of true = p
+            of false = enter_keeps s pass p
+
+        -- each statement keeps it
+        pub turn_keeps : (s : State) (statement : Statement) → P s → P (turn_of process nodes passes s statement).state
+        unfolding turn_of
+        turn_keeps s (statements.Enter pass) p = enter_keeps s pass p
+        turn_keeps s (statements.Walk pass most) p = walk_keeps s pass most p
+        turn_keeps s (statements.Leave pass) p = leave_keeps s pass p
+        turn_keeps s (statements.Report pass file) p = leave_keeps (entered_if_out pass s) pass (enter_if_keeps s pass p)
+        turn_keeps s statement p = changing_keeps s statement refl p
+
+        -- and so do all
+        pub statements_keep : (xs : List NumberedStatement) (s : State) → P s → P (state_after process nodes passes s xs)
+        statements_keep [] s p = p
+        statements_keep (x ∷ xs) s p = statements_keep xs (turn_of process nodes passes s x.statement).state (turn_keeps s x.statement p)

@@ -99,17 +99,25 @@ more_fits added changes start (In met ended) fits = (later (length changes) (le_
   where
     old : ℕ → List Named
     old = list_after_changes changes
+
     new : ℕ → List Named
     new = list_after_changes (added ++ changes)
+
     same : (k : ℕ) → k ≤ length changes → old k ≡ new k
     same k le = sym (lists_stay added changes k le)
+
     later : (b : ℕ) → b ≤ length changes → Meets load_of old 0 start b met → Meets load_of new 0 start (length (added ++ changes)) met
     later b le m = meets_until load_of new 0 start b (length (added ++ changes)) met (omega (arith, le, length-append added changes)) (meets-same load_of old new 0 start b met (λ k below. same k (omega (arith, below, le))) m)
+
     whole : (end : ℕ) × (end ≤ length changes) × IsWholeWalk load_of old start end met → (end : ℕ) × (end ≤ length (added ++ changes)) × IsWholeWalk load_of new start end met
-    whole w = (w.0, omega (arith, w.1, length-append added changes), record {
-      meets = meets-same load_of old new 0 start w.0 met (λ k below. same k (omega (arith, below, w.1))) w.2.meets;
-      ends = sym (follow-same load_of old new (last_met load_of 0 met) w.0 (λ k below. same k (omega (arith, below, w.1)))) ∙ w.2.ends;
-    })
+    whole w = (
+      w.0,
+      omega (arith, w.1, length-append added changes),
+      record {
+        meets = meets-same load_of old new 0 start w.0 met (λ k below. same k (omega (arith, below, w.1))) w.2.meets;
+        ends = sym (follow-same load_of old new (last_met load_of 0 met) w.0 (λ k below. same k (omega (arith, below, w.1)))) ∙ w.2.ends;
+      },
+    )
 
 -- a walk that has ended is lawful
 pub was_walked : (changes : List Change) (start : ℕ) (place : Place) → AreNumbered changes → is_in place ≡ true → has_ended place ≡ true → WalkFits changes start place → WasWalked changes start (met_in place)
