@@ -7,6 +7,8 @@ mod faults;
 mod keys;
 mod laws;
 mod limits;
+#[cfg(test)]
+mod log_tests;
 mod modes;
 mod names;
 mod numerals;
@@ -19,6 +21,8 @@ mod settings;
 mod splitting;
 mod statements;
 mod stating;
+#[cfg(test)]
+mod telling_tests;
 #[cfg(test)]
 mod tests;
 mod values;
