@@ -11,3 +11,9 @@ pub mod WholeScripts
 pub mod StatementsRead
 pub mod SaidScripts
 pub mod WorkedRuns
+pub mod NumberedChanges
+pub mod WalkEnds
+pub mod Turning
+pub mod SoundRuns
+pub mod PrefixRuns
+pub mod PlacedRuns

@@ -19,4 +19,5 @@ pub mod RunChanges
 pub mod RunStates
 pub mod RunTurns
 pub mod Run
+pub mod RunLaws
 pub mod Worked

@@ -70,13 +70,22 @@ unload_plan header image = record { change = Unloads header; load = image.load; 
 abbrev pub found_unload : List Change → ℕ → Result Plan Outcome
 found_unload changes header = ok_or (option_map (unload_plan header) (first_with header (list_of changes))) NotLoaded
 
+-- what may be planned, unless there is a refusal
+abbrev pub unless_refusal : Option Outcome → Result Plan Outcome → Result Plan Outcome
+unless_refusal None planned = planned
+unless_refusal (Some refusal) planned = Err refusal
+
 -- an unload, or its refusal
 abbrev pub planned_unload : List Change → ℕ → Result Plan Outcome
-planned_unload changes header = elim (worn changes) [ Some refusal ↦ Err refusal | None ↦ found_unload changes header ]
+planned_unload changes header = unless_refusal (worn changes) (found_unload changes header)
 
--- the outcome of a change that was made whole
+-- the outcome of a change that was made whole, with the number of its image's load
+abbrev pub change_outcome : Change → ℕ → Outcome
+change_outcome (Loads image) load = Loaded load
+change_outcome (Unloads header) load = Unloaded load
+
 abbrev pub made_outcome : Plan → Outcome
-made_outcome plan = elim (plan.change) [ Loads image ↦ Loaded plan.load | Unloads header ↦ Unloaded plan.load ]
+made_outcome plan = change_outcome plan.change plan.load
 
 -- the outcome of a change that is made whole at once, or its refusal
 abbrev pub whole_outcome : Result Plan Outcome → Outcome

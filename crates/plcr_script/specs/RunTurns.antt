@@ -1,5 +1,5 @@
 -- What each statement of a script comes to.
-use Rattle.std.specs.Prelude.{ℕ, ◌+◌, ◌-◌, ◌*◌, List, [], ◌∷◌, Some, None, Result, Ok, Err, length, map, nat_le, if◌then◌else◌}
+use Rattle.std.specs.Prelude.{ℕ, ◌+◌, ◌-◌, ◌*◌, List, [], ◌∷◌, Option, Some, None, Result, Ok, Err, length, map, nat_le, if◌then◌else◌}
 use Rattle.plcr_machine.specs.declared.limits.TheConstants.{COUNT_UNIT}
 use Rattle.plcr_machine.specs.declared.change.Named.{Named}
 use Rattle.plcr_machine.specs.Passes.{announced_count}
@@ -40,8 +40,12 @@ abbrev pub step_turn : ℕ → Opened → State → Turn
 step_turn most opened state = if nat_le (steps_left opened) most then stepped_through opened state else stepped_on most opened state
 
 -- what is done with the change that is open; idle where there is none
+abbrev pub with_opened : (Opened → State → Turn) → Option Opened → State → Turn
+with_opened done None state = comes_to Idle state
+with_opened done (Some opened) state = done opened state
+
 abbrev pub where_open : (Opened → State → Turn) → State → Turn
-where_open done state = elim (state.opened) [ None ↦ comes_to Idle state | Some opened ↦ done opened state ]
+where_open done state = with_opened done state.opened state
 
 -- a change of which no step is made yet stays open, or all its steps are made at once
 abbrev pub left_open : Plan → State → Turn
@@ -56,8 +60,12 @@ unless_refused done (Err refusal) state = comes_to refusal state
 unless_refused done (Ok plan) state = done plan state
 
 -- what is done where no other change is open
+abbrev pub without_opened : (State → Turn) → Option Opened → State → Turn
+without_opened done None state = done state
+without_opened done (Some opened) state = comes_to Busy state
+
 abbrev pub unless_busy : (State → Turn) → State → Turn
-unless_busy done state = elim (state.opened) [ None ↦ done state | Some opened ↦ comes_to Busy state ]
+unless_busy done state = without_opened done state.opened state
 
 -- a list of which no node is free after the looks at its passes: how many images it has, how many nodes are held back, and how many changes were made and how many passes announced
 abbrev pub full : ℕ → ℕ → List Event → Outcome

@@ -36,6 +36,7 @@ impl<'a> Draft<'a> {
     ghost use Rattle.plcr_script.specs.Reading as reading;
     ghost use Rattle.plcr_script.specs.Reading.{no_lines, with_said, passes_of, is_later};
     ghost use Rattle.plcr_script.specs.Sayings.{States};
+    ghost use Rattle.plcr_script.specs.Lawful.{IsLawful};
     ghost use Rattle.plcr_script.specs.inner.Fits.{IsFit};
     ghost use Rattle.plcr_script.specs.inner.Wording.{said};
 
@@ -123,6 +124,7 @@ impl<'a> Draft<'a> {
 
     /// The script that was read.
     pub(crate) fn finish(self) -> Script
+        requires { IsLawful self.script }
         ensures { result ≡ self.entry.script }
     {
         let Draft {
