@@ -1,3 +1,4 @@
+pub mod Meetings
 pub mod Leaving
 pub mod Stepped
 pub mod WriterWent

@@ -26,7 +26,7 @@ use Rattle.plcr_imagelist.specs.Listing.{HasLists}
 use Rattle.plcr_script.specs.declared.outcomes.Outcome.{Outcome}
 use Rattle.plcr_script.specs.declared.outcomes.Outcome.TheVariants as outcomes
 use Rattle.plcr_script.specs.RunChanges as run
-use Rattle.plcr_script.specs.RunChanges.{Plan, loads_in, worn, planned_load, planned_unload, load_plan, unload_plan, found_unload}
+use Rattle.plcr_script.specs.RunChanges.{Plan, loads_in, worn, planned_load, planned_unload, load_plan, unload_plan, found_unload, unless_refusal}
 use Rattle.plcr_run.proofs.Ties.{loads_in-of}
 
 -- the changes among the events of what a writer knows
@@ -94,19 +94,16 @@ first_header header (y ∷ images) x e =
     (λ t. let found : Some y ≡ Some x = rw t at e in let same : y ≡ x = cc in sym (ap (λ (z : Image). z.header) same) ∙ eqb-true y.header header t)
     (λ t. first_header header images x (rw t at e))
 
-abbrev plan_or : List Change → ℕ → Option Outcome → Result Plan Outcome
-plan_or cs header o = elim o [ Some refusal ↦ Err refusal | None ↦ found_unload cs header ]
-
 pub unplanned_worn : (s : WriterState) (header : ℕ) → changes s.history ≡ MOST_CHANGES → planned_unload (changes_in (events_of s.names s.history)) header ≡ Err (outcomes.Worn MOST_CHANGES)
 unplanned_worn s header e =
     let cs : List Change = changes_in (events_of s.names s.history) in
-    ap (plan_or cs header) (worn_said s e)
+    ap (λ (o : Option Outcome). unless_refusal o (found_unload cs header)) (worn_said s e)
 
 unplanned_fresh : (s : WriterState) (header : ℕ) (found : Option Image) → IsAtRest s → HasLists s → changes s.history ≢ MOST_CHANGES → first_with header (live s.history) ≡ found
     → planned_unload (changes_in (events_of s.names s.history)) header ≡ ok_or (option_map (unload_plan header) (option_map (named s.names) found)) outcomes.NotLoaded
 unplanned_fresh s header found rest k n e =
     let cs : List Change = changes_in (events_of s.names s.history) in
-    ap (plan_or cs header) (fresh_said s rest n)
+    ap (λ (o : Option Outcome). unless_refusal o (found_unload cs header)) (fresh_said s rest n)
     ∙ ap (λ (o : Option Named). ok_or (option_map (unload_plan header) o) outcomes.NotLoaded) (first_known s header k ∙ ap (option_map (named s.names)) e)
 
 pub unplanned_none : (s : WriterState) (header : ℕ) → IsAtRest s → HasLists s → changes s.history ≢ MOST_CHANGES → first_with header (live s.history) ≡ None → planned_unload (changes_in (events_of s.names s.history)) header ≡ Err outcomes.NotLoaded

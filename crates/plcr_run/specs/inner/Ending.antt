@@ -3,7 +3,7 @@ use Rattle.std.specs.Prelude.{◌≡◌, ◌≢◌, ℕ, ◌<◌, ◌≤◌, Boo
 use Rattle.plcr_machine.specs.Lists.{Grows}
 use Rattle.plcr_machine.specs.Parts.{own_entries, owner_entries}
 use Rattle.plcr_machine.specs.Events.{events_of}
-use Rattle.plcr_nodes.specs.Entries.{among}
+use Rattle.plcr_nodes.specs.Entries.{among, WentOn}
 use Rattle.plcr_imagelist.specs.States.{WriterState}
 use Rattle.plcr_imagelist.specs.Listing.{HasLists}
 use Rattle.plcr_script.specs.RunStates as states
@@ -31,6 +31,7 @@ pub record HasMet (old : WriterState) (slots : List Slot) (met : ℕ → Type 0)
   pub passes : new.passes ≡ old.passes
   pub lists : HasLists new
   pub grows : Grows old.history new.history
+  pub went : WentOn old.names new.names
   pub owner : owner_entries new.history ≡ owner_entries old.history
   pub joined : (k : ℕ) → met k → among k new.joined ≡ true
   pub own : (k : ℕ) → met k → own_entries k new.history ≡ own_entries k (seen_in (slot_at slots k))

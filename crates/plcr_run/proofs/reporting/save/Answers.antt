@@ -12,11 +12,11 @@ use Rattle.plcr_run.specs.inner.Tokens.{writer_of, with_writer}
 use Rattle.plcr_run.proofs.Turned.{InsideSteps, inside_tokens, saved_goes, put_twice}
 use Rattle.plcr_run.proofs.reporting.save.Goals as goal
 
-reads_of : (c : goal.After-slots-2-1) → OnlySees c.walk_to_end.new.hold.walker c.save_walk-saved.new.hold.walker
-reads_of c = reading_sees c.walk_to_end.new.hold c.save_walk-saved.new.hold c.walk_to_end.ensures.walking c.save_walk-saved.ensures.same
+reads_of : (g : goal.Over) (c : goal.After-slots-2-1 g) → OnlySees c.walk_to_end.new.hold.walker c.save_walk-saved.new.hold.walker
+reads_of g c = reading_sees c.walk_to_end.new.hold c.save_walk-saved.new.hold c.walk_to_end.ensures.walking c.save_walk-saved.ensures.same
 
-steps_of : (c : goal.After-slots-2-1) → InsideSteps c.args.list.now c.args.writing.now c.args.slots.now c.args.pass c.take_hold-hold.result c.told.new.self c.save_walk-saved.new.hold c.told-2.new.self c.put.new.slots
-steps_of c =
+steps_of : (g : goal.Over) (c : goal.After-slots-2-1 g) → InsideSteps c.args.list.now c.args.writing.now c.args.slots.now c.args.pass c.take_hold-hold.result c.told.new.self c.save_walk-saved.new.hold c.told-2.new.self c.put.new.slots
+steps_of g c =
     let hold : c.keep.result ≡ c.save_walk-saved.new.hold = c.keep.ensures ∙ c.note-2.ensures.same in
     record {
       tokens = c.requires.tokens;
@@ -24,7 +24,7 @@ steps_of c =
       was = c.take_hold-hold.ensures.was;
       hears = subst (λ (n : NoteState). IsHoldTold c.take_hold-hold.result n c.told.new.self) c.note.ensures.note c.told.ensures.told;
       sees = c.told.ensures.sees;
-      goes_on = sees_again _ _ _ c.walk_to_end.ensures.sees (reads_of c);
+      goes_on = sees_again _ _ _ c.walk_to_end.ensures.sees (reads_of g c);
       walking = c.save_walk-saved.ensures.same.walking c.walk_to_end.ensures.walking;
       tells = subst (λ (w : Writing). IsWriterTold (writer_of w) (note_of_walker c.save_walk-saved.new.hold.walker) (writer_of c.told-2.new.self)) c.note.ensures.same
           (subst (λ (n : NoteState). IsWriterTold (writer_of c.note.new.self) n (writer_of c.told-2.new.self)) c.note-2.ensures.note c.told-2.ensures.told);
@@ -34,7 +34,7 @@ steps_of c =
     }
 
 pub returns-clause-tokens : goal.returns-clause-tokens
-returns-clause-tokens g c = inside_tokens _ _ _ _ _ _ _ _ _ (steps_of c)
+returns-clause-tokens g c = inside_tokens _ _ _ _ _ _ _ _ _ (steps_of g c)
 
 pub returns-clause-goes : goal.returns-clause-goes
-returns-clause-goes g c = saved_goes _ _ _ _ _ _ _ _ _ _ (steps_of c) c.walk_to_end.ensures.to_end c.walk_to_end.ensures.walking (reads_of c) c.save_walk-saved.ensures.same
+returns-clause-goes g c = saved_goes _ _ _ _ _ _ _ _ _ _ (steps_of g c) c.walk_to_end.ensures.to_end c.walk_to_end.ensures.walking (reads_of g c) c.save_walk-saved.ensures.same
