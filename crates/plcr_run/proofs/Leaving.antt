@@ -105,3 +105,37 @@ one_out writing slots pass state outside place is =
     ap (λ b. cond b states.Out (state.places k)) (le-ltb k pass (omega arith)) ∙ here ∙ ap (λ b. cond b states.Out (state.places k)) (sym (lt-ltb k (suc pass) (omega arith))))
     (λ n. ap (λ b. cond b states.Out (state.places k)) (sym (at_or_below k pass n))))
     is
+
+-- the place of a pass that did not come out yet
+not_below : (pass : ℕ) (state : State) → (left_below pass state).places pass ≡ state.places pass
+not_below pass state = ap (λ b. cond b states.Out (state.places pass)) (le-ltb pass pass (omega arith))
+
+-- one more pass, which was in, came out
+pub leave_more : (a : Writing) (olds : List Slot) (b : Writing) (bs : List Slot) (c : Writing) (cs : List Slot) (pass : ℕ) → Goes a olds (left_below pass) b bs → Goes b bs (left pass) c cs → IsInAt bs pass → pass < (writer_of b).passes → Goes a olds (left_below (suc pass)) c cs
+leave_more a olds b bs c cs pass first second inside below = record {
+  sizes = (second.sizes.0 ∙ first.sizes.0, second.sizes.1 ∙ first.sizes.1);
+  back = λ all. first.back (second.back all);
+  state = λ all state is.
+      let mid = first.state (second.back all) state is in
+      let at : is_in (state.places pass) ≡ true = ap is_in (sym (not_below pass state) ∙ sym (mid.places pass below)) ∙ place_inside (slot_at bs pass) inside in
+      one_left c cs pass state at (second.state all (left_below pass state) mid);
+}
+
+-- or it was out
+pub out_more : (a : Writing) (olds : List Slot) (b : Writing) (bs : List Slot) (pass : ℕ) → Goes a olds (left_below pass) b bs → IsOutAt bs pass → pass < (writer_of b).passes → Goes a olds (left_below (suc pass)) b bs
+out_more a olds b bs pass first out below = record {
+  sizes = first.sizes;
+  back = first.back;
+  state = λ all state is.
+      let mid = first.state all state is in
+      let at : state.places pass ≡ states.Out = sym (not_below pass state) ∙ sym (mid.places pass below) ∙ place_out (slot_at bs pass) out in
+      one_out b bs pass state (ap is_in at) at mid;
+}
+
+-- one more slot has its pass out
+pub slots_more : (pass : ℕ) (olds news : List Slot) → AreOut pass olds → IsOutAt news pass → ((k : ℕ) → k ≢ pass → slot_at news k ≡ slot_at olds k) → (k : ℕ) → k < pass + 1 → IsOutAt news k
+slots_more pass olds news before here others k below =
+    ⊎_elim
+    (λ (e : k ≡ pass). subst (λ j. IsOutAt news j) (sym e) here)
+    (λ (n : k ≡ pass → ⊥). subst (λ (s : Slot). IsOutSlot s) (sym (others k n)) (before k (omega (arith, n))))
+    (cases_eq k pass)

@@ -1,3 +1,6 @@
+pub mod Named
+pub mod Kept
+pub mod Taken
 pub mod Meetings
 pub mod Leaving
 pub mod Stepped

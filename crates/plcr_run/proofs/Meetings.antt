@@ -1,7 +1,7 @@
 -- The end of a script: the open change is finished, and each pass meets the writer.
 use Rattle.std.proofs.Common.{◌≡◌, ◌≢◌, ℕ, zero, suc, ◌+◌, ◌<◌, ◌≤◌, Bool, true, false, List, [], ◌∷◌, ◌++◌, length, length-append, take, Option, Some, None, get_or, cond, eqb, refl, sym, ap, ◌∙◌, subst, ⊎_elim, inl, inr, arith}
 use Rattle.std.proofs.lemmas.Bool.{cases_eq, or_right}
-use Rattle.std.proofs.lemmas.List.{get_or-take}
+use Rattle.std.proofs.lemmas.List.{length-take}
 use Rattle.atomic_table.specs.Seated.{TableId}
 use Rattle.plcr_machine.specs.declared.entry.Entry.{Entry}
 use Rattle.plcr_machine.specs.Lists.{Grows, loads}
@@ -72,15 +72,23 @@ met_none table writer slots n tokens e = record {
 }
 
 -- the last slot of those that are left
-pub last_slot : (slots front : List Slot) (slot : Slot) (n : ℕ) → front ++ slot ∷ [] ≡ take n slots → n ≡ length (front ++ slot ∷ []) → slot_at slots (length front) ≡ slot
-last_slot slots front slot n e long =
-    let at : get_or (front ++ slot ∷ []) (length front) Away ≡ slot = get_or-last front slot in
-    let less : length front < n = let l = length-append front (slot ∷ []) in omega arith in
-    sym (get_or-take slots n (length front) Away less) ∙ sym (ap (λ (l : List Slot). get_or l (length front) Away) e) ∙ at
-  where
-    get_or-last : (xs : List Slot) (x : Slot) → get_or (xs ++ x ∷ []) (length xs) Away ≡ x
-    get_or-last [] x = refl
-    get_or-last (y ∷ xs) x = get_or-last xs x
+pub record LastSlot (slots front : List Slot) (slot : Slot) : Type 0 where
+  pub is : slot_at slots (length front) ≡ slot
+  pub within : length front < length slots
+  pub left : front ≡ take (length front) slots
+
+pub last_slot : (slots front : List Slot) (slot : Slot) (n : ℕ) → front ++ slot ∷ [] ≡ take n slots → LastSlot slots front slot
+last_slot [] front slot n e = let none : length (front ++ slot ∷ []) ≡ length (take n []) = ap (λ (l : List Slot). length l) e in let long = length-append front (slot ∷ []) in let short = length-take n ([] {A = Slot}) in absurd (omega arith)
+last_slot (z ∷ zs) front slot zero e = let none : length (front ++ slot ∷ []) ≡ 0 = ap (λ (l : List Slot). length l) e in let long = length-append front (slot ∷ []) in absurd (omega arith)
+last_slot (z ∷ zs) [] slot (suc n) e = let first : slot ≡ z = cc in record { is = sym first; within = omega arith; left = refl }
+last_slot (z ∷ zs) (y ∷ front) slot (suc n) e =
+    let first : y ≡ z = cc in
+    let others : front ++ slot ∷ [] ≡ take n zs = cc in
+    let rest = last_slot zs front slot n others in
+    record { is = rest.is; within = let less = rest.within in omega arith; left = λ i. first i ∷ rest.left i }
+
+among_first : (n x : ℕ) (xs : List ℕ) → x ≡ n → among n (x ∷ xs) ≡ true
+among_first n x xs e = rw (e, eqb_same n) refl
 
 -- one more pass met the writer
 pub met_one : (table : TableId) (start : WriterState) (slots : List Slot) (k n : ℕ) (old : WriterState) (pass : WalkerState) (new : WriterState) → AreTokens table (Resting start) slots → n ≡ suc k → k < length slots → slot_at slots k ≡ Out pass
@@ -98,7 +106,7 @@ met_one table start slots k n old pass new tokens next below was m met =
       went = subst (λ (ns : List (List ℕ)). WentOn start.names ns) (sym (ap (λ (s : WriterState). s.names) now)) (went_again start.names old.names met.names m.went met.sees.named);
       owner = ap owner_entries history ∙ owner ∙ m.owner;
       joined = λ j within. ⊎_elim
-          (λ (e : j ≡ k). ap (among j) (ap (λ (s : WriterState). s.joined) now) ∙ (λ i. cond (eqb ((number ∙ sym e) i) j) true (among j old.joined)) ∙ ap (λ b. cond b true (among j old.joined)) (eqb_same j))
+          (λ (e : j ≡ k). ap (among j) (ap (λ (s : WriterState). s.joined) now) ∙ among_first j pass.number old.joined (number ∙ sym e))
           (λ (d : j ≡ k → ⊥). ap (among j) (ap (λ (s : WriterState). s.joined) now) ∙ or_right (eqb pass.number j) (among j old.joined) (m.joined j (let low = within.0 in omega (arith, (λ (e : j ≡ k). d e)), within.1)))
           (cases_eq j k);
       own = λ j within. ⊎_elim
@@ -128,3 +136,22 @@ met_all table start slots new tokens m =
     let same : new.history ≡ start.history = nothing_else start.nodes start.passes start.history new.history legal.legal m.grows m.owner (λ k below. each k below ∙ sym (all k below)) in
     let long : length new.names ≡ length start.names = legal.named ∙ ap loads same ∙ sym tokens.lists.known.named in
     record { all = all; history = same; names = went_same start.names new.names went.0 went.1 long }
+
+-- the whole end of a script
+pub ends_in : (table : TableId) (writing : Writing) (slots : List Slot) (mid : Writing) (mids : List Slot) (writer new : WriterState) → AreTokens table writing slots → Goes writing slots (left_below (length slots)) mid mids → Goes mid mids finished_state (Resting writer) mids
+    → AreTokens table (Resting writer) mids → HasMet writer mids (λ k. k < length mids) new → length mids ≡ length slots → EndsIn writing slots new
+ends_in table writing slots mid mids writer new before leaves finish tokens m count =
+    let met = met_all table writer mids new tokens m in
+    let sized : new.passes ≡ (writer_of writing).passes = m.passes ∙ finish.sizes.1 ∙ leaves.sizes.1 in
+    let long : length slots ≡ new.passes = before.count ∙ sym sized in
+    record {
+      nodes = m.nodes ∙ finish.sizes.0 ∙ leaves.sizes.0;
+      passes = sized;
+      lists = m.lists;
+      joined = λ k below. m.joined k (omega arith);
+      all = leaves.back (finish.back met.all);
+      events = λ state is.
+          let left = leaves.state (finish.back met.all) state is in
+          let done = finish.state met.all (left_below (length slots) state) left in
+          (λ i. events_of (met.names i) (met.history i)) ∙ done.events ∙ ap (λ n. ended n state) long;
+    }

@@ -81,7 +81,7 @@ through_made old writer top known t o on =
     let made = same.made in
     (omega arith, one.made ∙ (λ i. stepped (plan_same old last t.0 same i) (same.made i) (before.events i)))
 
-through_went : (old : ChangeState) (writer : WriterState) → IsSteppedThrough old writer → WriterWent old.writer writer
+pub through_went : (old : ChangeState) (writer : WriterState) → IsSteppedThrough old writer → WriterWent old.writer writer
 through_went old writer t = went_twice old.writer t.1.writer writer (steps_went t.0 old t.1 t.2) (step_went t.1 (Done writer) t.3)
 
 -- what a change that was made comes to

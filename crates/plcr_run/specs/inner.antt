@@ -3,5 +3,6 @@ pub mod Changes
 pub mod Ending
 pub mod Reports
 pub mod Slots
+pub mod Stepping
 pub mod Tokens
 pub mod Walks

@@ -7,6 +7,7 @@ mod ending;
 mod passes;
 mod reporting;
 mod slots;
+mod stepping;
 mod walking;
 mod writing;
 

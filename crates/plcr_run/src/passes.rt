@@ -1,9 +1,9 @@
 //! The statements of a pass, each between two tellings: first the pass is told what the writer has seen, and in the end
 //! the writer what the pass has seen.
-ghost use Rattle.std.specs.Prelude.{◌≡◌, ◌<◌, length};
+ghost use Rattle.std.specs.Prelude.{◌≡◌, ◌≢◌, ◌<◌, ℕ, length};
 ghost use Rattle.plcr_script.specs.RunStates.{entered, left};
 ghost use Rattle.plcr_script.specs.RunTurns.{walk_turn};
-ghost use Rattle.plcr_run.specs.inner.Slots.{IsOutAt, IsInAt};
+ghost use Rattle.plcr_run.specs.inner.Slots.{slot_at, IsOutAt, IsInAt};
 ghost use Rattle.plcr_run.specs.inner.Tokens.{AreTokens, Goes, Turns, LeavesWith};
 
 use crate::slots::{Slot, put, take_hold, take_pass};
@@ -20,6 +20,7 @@ pub(crate) fn enter(list: &ImageList, writing: &mut Writing, slots: &mut [Slot],
     ensures tokens { AreTokens list.now writing.new slots.new }
     ensures goes { Goes writing.old slots.old (entered pass) writing.new slots.new }
     ensures inside { IsInAt slots.new pass }
+    ensures others { (k : ℕ) → k ≢ pass → slot_at slots.new k ≡ slot_at slots.old k }
     ensures count { length slots.new ≡ length slots.old }
 {
     let mut outside = take_pass(slots, pass as usize);
@@ -42,6 +43,8 @@ pub(crate) fn walk_on(
     requires inside { IsInAt slots.old pass }
     ensures tokens { AreTokens list.now writing.new slots.new }
     ensures turns { Turns writing.old slots.old (walk_turn pass most) writing.new slots.new result }
+    ensures inside { IsInAt slots.new pass }
+    ensures others { (k : ℕ) → k ≢ pass → slot_at slots.new k ≡ slot_at slots.old k }
     ensures count { length slots.new ≡ length slots.old }
 {
     let mut hold = take_hold(slots, pass as usize);
@@ -68,6 +71,7 @@ pub(crate) fn leave(
     ensures goes { Goes writing.old slots.old (left pass) writing.new slots.new }
     ensures told { LeavesWith writing.old slots.old pass writing.new slots.new result.0 result.1.low result.1.high }
     ensures outside { IsOutAt slots.new pass }
+    ensures others { (k : ℕ) → k ≢ pass → slot_at slots.new k ≡ slot_at slots.old k }
     ensures count { length slots.new ≡ length slots.old }
 {
     let mut hold = take_hold(slots, pass as usize);

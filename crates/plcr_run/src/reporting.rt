@@ -1,5 +1,5 @@
 //! Reports of what a pass has met.
-ghost use Rattle.std.specs.Prelude.{◌≡◌, ◌<◌, List, length, IfOk, OnOk, OnErr};
+ghost use Rattle.std.specs.Prelude.{◌≡◌, ◌≢◌, ◌<◌, ℕ, List, length, IfOk, OnOk, OnErr};
 ghost use Rattle.plcr_machine.specs.Events.{changes_in};
 ghost use Rattle.plcr_macho.specs.Images.{Listed};
 ghost use Rattle.plcr_imagelist.specs.Holds.{IsWalking};
@@ -7,7 +7,7 @@ ghost use Rattle.plcr_imagelist.specs.Walk.{images_of, IsSameWalk};
 ghost use Rattle.plcr_imagelist.specs.Carrying.{OnlySees};
 ghost use Rattle.plcr_script.specs.RunStates.{entered_if_out, walked, walk_to_end};
 ghost use Rattle.plcr_command.specs.Saving.{IsSaved, IsUnsaved, TookNothing};
-ghost use Rattle.plcr_run.specs.inner.Slots.{IsInAt};
+ghost use Rattle.plcr_run.specs.inner.Slots.{slot_at, IsInAt};
 ghost use Rattle.plcr_run.specs.inner.Tokens.{AreTokens, Goes};
 ghost use Rattle.plcr_run.specs.inner.Reports.{images_at};
 
@@ -60,6 +60,7 @@ pub(crate) fn enter_if_out(
     ensures tokens { AreTokens list.now writing.new slots.new }
     ensures goes { Goes writing.old slots.old (entered_if_out pass) writing.new slots.new }
     ensures inside { IsInAt slots.new pass }
+    ensures others { (k : ℕ) → k ≢ pass → slot_at slots.new k ≡ slot_at slots.old k }
     ensures count { length slots.new ≡ length slots.old }
 {
     if is_out(slots, pass as usize) {
@@ -85,6 +86,7 @@ pub(crate) fn save<P: Process, D: Desk>(
     ensures tokens { AreTokens list.now writing.new slots.new }
     ensures goes { Goes writing.old slots.old (λ state. walked pass (walk_to_end (changes_in state.events) (state.places pass)) state) writing.new slots.new }
     ensures inside { IsInAt slots.new pass }
+    ensures others { (k : ℕ) → k ≢ pass → slot_at slots.new k ≡ slot_at slots.old k }
     ensures count { length slots.new ≡ length slots.old }
     ensures length { IfOk result (λ n. n ≡ length (P.report process.now context.now (images_at slots.new pass))) }
     ensures saved { OnOk result (IsSaved name.now (P.report process.now context.now (images_at slots.new pass)) (D.told desk.old) (D.told desk.new)) }

@@ -1,8 +1,11 @@
-use Rattle.std.proofs.Common.{◌≡◌, ℕ, suc, ◌<◌, add-one, refl, sym, ap, ◌∙◌, subst, length, List, arith, ⊎_elim}
+use Rattle.std.proofs.Common.{◌≡◌, ℕ, suc, ◌<◌, false, true, not, Bool, add-one, refl, sym, ap, ◌∙◌, subst, length, List, arith, ⊎_elim}
 use Rattle.std.proofs.lemmas.Bool.{cases_eq}
 use Rattle.plcr_run.specs.declared.slots.Slot.{Slot}
-use Rattle.plcr_run.specs.inner.Slots.{slot_at, IsOutSlot, IsOutAt}
-use Rattle.plcr_run.proofs.Leaving.{goes_nowhere, none_left, leave_more, out_more}
+use Rattle.plcr_run.specs.declared.writing.Writing.{Writing}
+use Rattle.plcr_run.specs.inner.Slots.{slot_at, is_out_slot, IsOutSlot, IsOutAt}
+use Rattle.plcr_run.specs.inner.Tokens.{writer_of, AreTokens, Goes}
+use Rattle.plcr_run.specs.inner.Ending.{left_below, AreOut}
+use Rattle.plcr_run.proofs.Leaving.{goes_nowhere, none_left, leave_more, out_more, out_slot, slot_cases, slots_more}
 use Rattle.plcr_run.proofs.ending.leave_all.Goals as goal
 use Rattle.plcr_run.proofs.ending.leave_all.Goals.{then-not-is_out, else-not-is_out}
 
@@ -14,5 +17,14 @@ loop-pass-init c = record {
   count = refl;
 }
 
+pub leave-requires-clause-tokens : goal.leave-requires-clause-tokens
+leave-requires-clause-tokens c = c.loop-pass.invariant.tokens
+
+pub leave-requires-clause-inside : goal.leave-requires-clause-inside
+leave-requires-clause-inside c = slot_cases _ _ _ c.loop-pass.pass c.loop-pass.invariant.tokens (omega arith) (sym c.is_out.ensures ∙ c.if-not-is_out.true)
+
 pub loop-pass-preserved : goal.loop-pass-preserved
-loop-pass-preserved c = ?
+loop-pass-preserved c = elim c.if-not-is_out.branch [
+  | then-not-is_out w ↦ ?
+  | else-not-is_out w ↦ ?
+]

@@ -10,12 +10,13 @@ use Rattle.plcr_run.specs.declared.writing.Writing.{Writing}
 use Rattle.plcr_run.specs.inner.Slots.{IsPut}
 use Rattle.plcr_run.specs.inner.Tokens.{writer_of, with_writer}
 use Rattle.plcr_run.proofs.Turned.{InsideSteps, inside_tokens, saved_goes, put_twice}
+use Rattle.plcr_run.proofs.reporting.save.Given.{Over}
 use Rattle.plcr_run.proofs.reporting.save.Goals as goal
 
-reads_of : (g : goal.Over) (c : goal.After-slots-2-1 g) → OnlySees c.walk_to_end.new.hold.walker c.save_walk-saved.new.hold.walker
+reads_of : (g : Over) (c : goal.After-slots-2-1 g) → OnlySees c.walk_to_end.new.hold.walker c.save_walk-saved.new.hold.walker
 reads_of g c = reading_sees c.walk_to_end.new.hold c.save_walk-saved.new.hold c.walk_to_end.ensures.walking c.save_walk-saved.ensures.same
 
-steps_of : (g : goal.Over) (c : goal.After-slots-2-1 g) → InsideSteps c.args.list.now c.args.writing.now c.args.slots.now c.args.pass c.take_hold-hold.result c.told.new.self c.save_walk-saved.new.hold c.told-2.new.self c.put.new.slots
+steps_of : (g : Over) (c : goal.After-slots-2-1 g) → InsideSteps c.args.list.now c.args.writing.now c.args.slots.now c.args.pass c.take_hold-hold.result c.told.new.self c.save_walk-saved.new.hold c.told-2.new.self c.put.new.slots
 steps_of g c =
     let hold : c.keep.result ≡ c.save_walk-saved.new.hold = c.keep.ensures ∙ c.note-2.ensures.same in
     record {
