@@ -78,7 +78,7 @@ pub record LastSlot (slots front : List Slot) (slot : Slot) : Type 0 where
   pub left : front ≡ take (length front) slots
 
 pub last_slot : (slots front : List Slot) (slot : Slot) (n : ℕ) → front ++ slot ∷ [] ≡ take n slots → LastSlot slots front slot
-last_slot [] front slot n e = let none : length (front ++ slot ∷ []) ≡ length (take n []) = ap (λ (l : List Slot). length l) e in let long = length-append front (slot ∷ []) in let short = length-take n ([] {A = Slot}) in absurd (omega arith)
+last_slot [] front slot n e = let none : length (front ++ slot ∷ []) ≡ length (take n []) = ap (λ (l : List Slot). length l) e in let long = length-append front (slot ∷ []) in let nothing : List Slot = [] in let short = length-take n nothing in absurd (omega arith)
 last_slot (z ∷ zs) front slot zero e = let none : length (front ++ slot ∷ []) ≡ 0 = ap (λ (l : List Slot). length l) e in let long = length-append front (slot ∷ []) in absurd (omega arith)
 last_slot (z ∷ zs) [] slot (suc n) e = let first : slot ≡ z = cc in record { is = sym first; within = omega arith; left = refl }
 last_slot (z ∷ zs) (y ∷ front) slot (suc n) e =
