@@ -1,6 +1,7 @@
 -- Statements that keep no file, and what stays of the changes of a list that will be made.
 use Rattle.std.proofs.Common.{◌≡◌, ℕ, zero, suc, ◌+◌, Bool, true, false, List, [], ◌∷◌, Option, Some, None, Result, Ok, Err, eqb, ltb, refl, ap}
-use Rattle.std.specs.Prelude.{if◌then◌else◌}
+use Rattle.std.specs.Prelude.{if◌then◌else◌, OnOk}
+use Rattle.plcr_script.specs.Places.{in_behind}
 use Rattle.plcr_machine.specs.declared.change.Change.{Change}
 use Rattle.plcr_machine.specs.declared.entry.Entry.TheVariants.{Count}
 use Rattle.plcr_machine.specs.Events.{Event, Changed, Noted, changes_in}
@@ -86,3 +87,32 @@ entering_keeps pass s = of (is_in (s.places pass))
     of : (b : Bool) → will_change (if b then s else entered pass s) ≡ will_change s
     of true = refl
     of false = finished_same s.opened (entered pass s).events s.events refl
+
+-- a statement that is none of a pass's is one of the writer's, and moves no pass
+pub is_change : (s : Statement) → ((p : ℕ) → s ≡ statements.Enter p → ⊥) → ((p most : ℕ) → s ≡ statements.Walk p most → ⊥) → ((p : ℕ) → s ≡ statements.Leave p → ⊥) → ((p : ℕ) (file : List ℕ) → s ≡ statements.Report p file → ⊥) → IsChange s
+is_change (statements.Load header name) a b c d = tt
+is_change (statements.Unload header) a b c d = tt
+is_change (statements.BeginLoad header name) a b c d = tt
+is_change (statements.BeginUnload header) a b c d = tt
+is_change (statements.Step most) a b c d = tt
+is_change statements.End a b c d = tt
+is_change (statements.Enter p) a b c d = absurd (a p refl)
+is_change (statements.Walk p most) a b c d = absurd (b p most refl)
+is_change (statements.Leave p) a b c d = absurd (c p refl)
+is_change (statements.Report p file) a b c d = absurd (d p file refl)
+
+pub change_moves : (s : Statement) (k : ℕ) (was : Bool) → IsChange s → was ≡ in_behind k was s
+change_moves (statements.Load header name) k was i = refl
+change_moves (statements.Unload header) k was i = refl
+change_moves (statements.BeginLoad header name) k was i = refl
+change_moves (statements.BeginUnload header) k was i = refl
+change_moves (statements.Step most) k was i = refl
+change_moves statements.End k was i = refl
+change_moves (statements.Enter p) k was i = absurd i
+change_moves (statements.Walk p most) k was i = absurd i
+change_moves (statements.Leave p) k was i = absurd i
+change_moves (statements.Report p file) k was i = absurd i
+
+pub always : {T E : Type 0} (r : Result T E) (P : Type 0) → P → OnOk r P
+always (Ok x) P p = p
+always (Err e) P p = tt

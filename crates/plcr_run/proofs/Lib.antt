@@ -1,3 +1,5 @@
+pub mod Composed
+pub mod Standing
 pub mod Named
 pub mod Kept
 pub mod Taken

@@ -1,7 +1,7 @@
 -- The end of a script: the open change is finished, and each pass meets the writer.
-use Rattle.std.proofs.Common.{◌≡◌, ◌≢◌, ℕ, zero, suc, ◌+◌, ◌<◌, ◌≤◌, Bool, true, false, List, [], ◌∷◌, ◌++◌, length, length-append, take, Option, Some, None, get_or, cond, eqb, refl, sym, ap, ◌∙◌, subst, ⊎_elim, inl, inr, arith}
+use Rattle.std.proofs.Common.{◌≡◌, ◌≢◌, ℕ, zero, suc, ◌+◌, ◌<◌, ◌≤◌, Bool, true, false, List, [], ◌∷◌, ◌++◌, length, length-append, append-nil, take, drop, Option, Some, None, get_or, cond, eqb, refl, sym, ap, ◌∙◌, subst, ⊎_elim, inl, inr, arith}
 use Rattle.std.proofs.lemmas.Bool.{cases_eq, or_right}
-use Rattle.std.proofs.lemmas.List.{length-take}
+use Rattle.std.proofs.lemmas.List.{length-take, drop_all, take_all}
 use Rattle.atomic_table.specs.Seated.{TableId}
 use Rattle.plcr_machine.specs.declared.entry.Entry.{Entry}
 use Rattle.plcr_machine.specs.Lists.{Grows, loads}
@@ -155,3 +155,9 @@ ends_in table writing slots mid mids writer new before leaves finish tokens m co
           let done = finish.state met.all (left_below (length slots) state) left in
           (λ i. events_of (met.names i) (met.history i)) ∙ done.events ∙ ap (λ n. ended n state) long;
     }
+
+-- a list that was written over whole
+pub take_front : (n : ℕ) (new items : List Slot) → length new ≡ length items → length items ≡ n → take n (new ++ drop (length new) items) ≡ new
+take_front n new items same all =
+    let none : drop (length new) items ≡ [] = drop_all (length new) items (omega arith) in
+    ap (λ (l : List Slot). take n (new ++ l)) none ∙ ap (λ (l : List Slot). take n l) (append-nil new) ∙ take_all n new (omega arith)

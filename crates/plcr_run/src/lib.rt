@@ -6,9 +6,13 @@ mod changing;
 mod ending;
 mod passes;
 mod reporting;
+mod running;
+mod scripts;
 mod slots;
 mod stepping;
 mod walking;
 mod writing;
 
+pub use reporting::save_walk;
+pub use scripts::{play, run_script};
 pub use walking::{walk, walk_to_end};

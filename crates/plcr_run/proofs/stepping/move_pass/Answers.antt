@@ -14,6 +14,6 @@ returns-in-Walk-clause-turns c = λ fault report. rw c.in-Walk.is c.walk_on.ensu
 pub returns-in-Leave-clause-turns : goal.returns-in-Leave-clause-turns
 unfolding turn_of
 returns-in-Leave-clause-turns c = λ fault report. rw c.in-Leave.is (record {
-  goes = c.leave.ensures.goes;
-  outcome = λ all state is. let t = c.leave.ensures.told all state is in λ i. Left c.in-Leave.pass (t.0 i) (t.1 i) (t.2 i);
+  goes = c.leave-met.ensures.goes;
+  outcome = λ all state is. let t = c.leave-met.ensures.told all state is in λ i. Left c.in-Leave.pass (t.0 i) (t.1 i) (t.2 i);
 })
