@@ -1,3 +1,5 @@
+pub mod Openings
+pub mod Played
 pub mod Composed
 pub mod Standing
 pub mod Named
