@@ -50,7 +50,7 @@ known_in table old olds r hold tokens within was =
 
 -- what is put into a slot, after it was taken from there
 pub put_twice : (olds mids news : List Slot) (r : ℕ) (away slot : Slot) → IsPut olds mids r away → IsPut mids news r slot → IsPut olds news r slot
-put_twice olds mids news r away slot a b = record {
+put_twice olds mids news r gone slot a b = record {
   count = b.count ∙ a.count;
   here = b.here;
   others = λ k n. b.others k n ∙ a.others k n;
