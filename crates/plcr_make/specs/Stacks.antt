@@ -1,5 +1,5 @@
 -- The threads that are made, numbered from 0, and their stacks, among so many images.
-use Rattle.std.specs.Prelude.{ℕ, ◌+◌, ◌*◌, ◌/◌, ◌%◌, List, [], ◌∷◌, ◌++◌, ◌==◌, nat_lt, if◌then◌else◌, replicate}
+use Rattle.std.specs.Prelude.{ℕ, ◌+◌, ◌*◌, ◌/◌, ◌%◌, List, [], ◌∷◌, ◌++◌, ◌==◌, nat_lt, if◌then◌else◌}
 use Rattle.std.specs.Int.{w64, to_le_bytes}
 use Rattle.plcr_loader.specs.declared.constants.TheConstants.{LC_THREAD}
 use Rattle.plcr_make.specs.declared.constants.TheConstants.{THREADS, CODE_OFFSET, FIRST_STACK, STACK_SIZE, FRAMES, FRAME_SIZE, THREAD_STRIDE, THREAD_COMMAND_SIZE, VM_PROT_READ_WRITE, x86_THREAD_STATE64, x86_THREAD_STATE64_COUNT}

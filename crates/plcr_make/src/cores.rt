@@ -26,7 +26,12 @@ pub fn core_bytes(alloc: Global, images: u32) -> Result<Vec<u8>, AllocError>
     let stacks = place + IMAGE_BYTES * u64::from(images);
     let length = stacks + STACK_SIZE * u64::from(THREADS);
     let mut bytes = Vec::with_capacity(alloc, length as usize)?;
-    add_header(&mut bytes, MH_CORE, images + 1 + THREADS, commands_size(images))?;
+    add_header(
+        &mut bytes,
+        MH_CORE,
+        images + 1 + THREADS,
+        commands_size(images),
+    )?;
     add_image_segments(&mut bytes, place, images)?;
     add_segment(&mut bytes, &stacks_segment(stacks))?;
     add_threads(&mut bytes, images)?;

@@ -3,9 +3,7 @@ ghost use Rattle.std.specs.Prelude.{◌≡◌, ◌<◌, ◌^◌, ◌++◌, OnOk}
 ghost use Rattle.plcr_make.specs.Images as images;
 ghost use Rattle.plcr_make.specs.Images.{image_bytes};
 
-use crate::constants::{
-    FIRST_IMAGE, IMAGE_BYTES, IMAGE_SIZE, MH_DYLIB, VM_PROT_READ_EXECUTE,
-};
+use crate::constants::{FIRST_IMAGE, IMAGE_BYTES, IMAGE_SIZE, MH_DYLIB, VM_PROT_READ_EXECUTE};
 use crate::numbers::add_u32s;
 use crate::segments::{Segment, add_header, add_segment};
 use plcr_loader::{LC_UUID, SEG_TEXT, segment_command_64, uuid_command};
@@ -56,5 +54,6 @@ pub(crate) fn add_image(bytes: &mut Vec<u8>, k: u32) -> Result<(), AllocError>
     add_segment(bytes, &text_segment(k))?;
     add_u32s(bytes, &[LC_UUID, uuid_command::LENGTH as u32])?;
     bytes.extend_from_slice(&[0; 12])?;
-    bytes.extend_from_slice(&k.to_be_bytes())
+    bytes.extend_from_slice(&k.to_be_bytes())?;
+    Ok(())
 }

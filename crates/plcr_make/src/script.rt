@@ -2,7 +2,7 @@
 ghost use Rattle.std.specs.Prelude.{◌≡◌, ◌≤◌, ◌++◌, codes, IfOk, OnOk};
 ghost use Rattle.plcr_make.specs.declared.constants.TheConstants.{MOST_IMAGES};
 ghost use Rattle.plcr_make.specs.Numbers.{joined};
-ghost use Rattle.plcr_make.specs.Scripts.{load_line, unload_line, unload_lines, script_of};
+ghost use Rattle.plcr_make.specs.Scripts.{load_line, unload_lines, script_of};
 
 use crate::constants::UNLOAD_STRIDE;
 use crate::images::image_address;
@@ -46,17 +46,18 @@ fn add_unloads(alloc: Global, bytes: &mut Vec<u8>, images: u32) -> Result<(), Al
     ensures { OnOk result (bytes.new.items ≡ bytes.old.items ++ joined unload_lines images) }
 {
     for k in 0..images {
-        if k % UNLOAD_STRIDE == 0 {
-            add_unload(alloc, bytes, k)?;
-        }
+        add_unload(alloc, bytes, k)?;
     }
     Ok(())
 }
 
-/// Adds the line of an unload.
+/// Adds the line of an unload, where the stride divides the image's number.
 fn add_unload(alloc: Global, bytes: &mut Vec<u8>, k: u32) -> Result<(), AllocError>
-    ensures { OnOk result (bytes.new.items ≡ bytes.old.items ++ unload_line k) }
+    ensures { OnOk result (bytes.new.items ≡ bytes.old.items ++ unload_lines k) }
 {
+    if k % UNLOAD_STRIDE != 0 {
+        return Ok(());
+    }
     let address = image_address(k);
     let line = format!(in alloc; "unload 0x{address:x}\n")?;
     bytes.extend_from_slice(line.as_bytes())

@@ -9,6 +9,7 @@ use std::alloc::AllocError;
 
 /// A segment without sections: its name, where it stands in memory and in the file, and what its memory may be used
 /// for, at most and at first.
+#[derive(Clone, Copy)]
 pub(crate) struct Segment {
     pub name: [u8; 16],
     pub address: u64,

@@ -16,7 +16,6 @@ const LINE_ROOM: usize = 128;
 /// # Errors
 ///
 /// `PutFailed` where the sink didn't take the whole line. A front of it was then written.
-#[tactic(auto, unfolding(crate::specs::Summary::summary_line))]
 pub fn write_summary<K: Sink>(
     images: u64,
     threads: u64,
