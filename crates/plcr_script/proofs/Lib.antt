@@ -17,3 +17,4 @@ pub mod Turning
 pub mod SoundRuns
 pub mod PrefixRuns
 pub mod PlacedRuns
+pub mod PacedRuns

@@ -62,7 +62,7 @@ step_changes o zero events = by_cases (ltb o.plan.before o.made)
 step_changes o (suc n) events = one_step o n events (step_changes o n events)
 
 -- and no pass goes in by them
-steps_starts : (o : Opened) (n : ℕ) (events : List Event) (pass : ℕ) → changes_before pass (steps o n events) ≡ changes_before pass events
+pub steps_starts : (o : Opened) (n : ℕ) (events : List Event) (pass : ℕ) → changes_before pass (steps o n events) ≡ changes_before pass events
 steps_starts o zero events pass = refl
 steps_starts o (suc n) events pass = of (eqb (o.made + n) o.plan.before) (ltb o.plan.before (o.made + n)) ∙ steps_starts o n events pass
   where
@@ -82,12 +82,15 @@ looks_starts : (passes : ℕ) (events : List Event) (pass : ℕ) → changes_bef
 looks_starts zero events pass = refl
 looks_starts (suc p) events pass = looks_starts p events pass
 
-searched_add : (nodes passes : ℕ) (events : List Event) → Adds events (searched nodes passes events)
-searched_add nodes passes events = record { added = []; changes = searched_changes nodes passes events; starts = λ pass. of pass (is_full nodes passes events) }
+pub searched_starts : (nodes passes : ℕ) (events : List Event) (pass : ℕ) → changes_before pass (searched nodes passes events) ≡ changes_before pass events
+searched_starts nodes passes events pass = of (is_full nodes passes events)
   where
-    of : (pass : ℕ) (b : Bool) → changes_before pass (if b then looks passes events else events) ≡ changes_before pass events
-    of pass true = looks_starts passes events pass
-    of pass false = refl
+    of : (b : Bool) → changes_before pass (if b then looks passes events else events) ≡ changes_before pass events
+    of true = looks_starts passes events pass
+    of false = refl
+
+searched_add : (nodes passes : ℕ) (events : List Event) → Adds events (searched nodes passes events)
+searched_add nodes passes events = record { added = []; changes = searched_changes nodes passes events; starts = searched_starts nodes passes events }
 
 -- the change that is open may come next, as long as it has not come
 abbrev OpenFits : List Change → Option Opened → Type 0

@@ -1,5 +1,5 @@
 -- What the runs of all scripts have in common. Each of these is the contract of a function of the crate.
-use Rattle.std.specs.Prelude.{◌≡◌, ℕ, ◌≤◌, true, List, [], ◌∷◌, ◌++◌, length, ◌==◌, if◌then◌else◌}
+use Rattle.std.specs.Prelude.{◌≡◌, ℕ, suc, ◌≤◌, true, List, [], ◌∷◌, ◌++◌, All, length, ◌==◌, if◌then◌else◌}
 use Rattle.plcr_machine.specs.declared.change.Change.{Change}
 use Rattle.plcr_machine.specs.declared.change.Named.{Named}
 use Rattle.plcr_machine.specs.declared.entry.Entry.{Entry}
@@ -12,8 +12,10 @@ use Rattle.plcr_script.specs.Scripts.{ScriptValue}
 use Rattle.plcr_script.specs.Places.{is_in_behind}
 use Rattle.plcr_script.specs.Meanings.{Meanings}
 use Rattle.plcr_script.specs.RunStates.{Place, is_in, has_ended, walk, walk_to_end, State, first_state, entered_if_out}
-use Rattle.plcr_script.specs.RunTurns.{reported}
-use Rattle.plcr_script.specs.Run.{state_after, turns_from, changes_after}
+use Rattle.plcr_script.specs.declared.outcomes.Outcome.{Outcome}
+use Rattle.plcr_script.specs.declared.outcomes.Outcome.TheVariants.{Reported}
+use Rattle.plcr_script.specs.RunTurns.{Turn, listed, reported}
+use Rattle.plcr_script.specs.Run.{NumberedTurn, state_after, turns_from, run_of, changes_after}
 
 -- the state of a script's run behind some statements
 abbrev pub state_behind : Meanings → ScriptValue → List NumberedStatement → State
@@ -63,3 +65,23 @@ ReportsAreOfLawfulWalks = (process : Meanings) (script : ScriptValue) (statement
 abbrev pub StoppedRunsArePrefixes : Type 0
 StoppedRunsArePrefixes = (process : Meanings) (script : ScriptValue) (statements others : List NumberedStatement) → script.statements ≡ statements ++ others
     → (later : List Change) × (changes_after process script script.statements ≡ later ++ changes_after process script statements)
+
+-- what a report comes to: its file has the report with the images of a lawful walk, through the lists that changes leave; the walk begins between the changes that were counted before its pass entered and the one that may stand uncounted, and ends no later than the one that may stand uncounted as the pass leaves
+pub record IsLawfulReport (process : Meanings) (changes : List Change) (turn : Turn) (file : List ℕ) (bytes images low high : ℕ) : Type 0 where
+  pub start : ℕ
+  pub met : List Named
+  pub kept : turn.kept ≡ (file, process.report (listed met)) ∷ []
+  pub size : bytes ≡ length (process.report (listed met))
+  pub count : images ≡ length met
+  pub walked : WasWalked changes start met
+  pub first : (low ≤ start) × (start ≤ suc low)
+  pub last : walked.end ≤ suc high
+
+-- a turn keeps no file, or is such a report
+abbrev pub KeepsLawfully : Meanings → List Change → Turn → Outcome → Type 0
+KeepsLawfully process changes turn (Reported file bytes images low high) = IsLawfulReport process changes turn file.now bytes images low high
+KeepsLawfully process changes turn other = turn.kept ≡ []
+
+-- each turn of a run does so, with the changes that its list has at the end
+abbrev pub RunsKeepLawfully : Type 0
+RunsKeepLawfully = (process : Meanings) (script : ScriptValue) → All (λ (t : NumberedTurn). KeepsLawfully process (changes_after process script script.statements) t.turn t.turn.outcome) (run_of process script)
