@@ -18,3 +18,4 @@ pub mod SoundRuns
 pub mod PrefixRuns
 pub mod PlacedRuns
 pub mod PacedRuns
+pub mod KeptRuns

@@ -1,17 +1,14 @@
 -- In each state of a run all changes are counted, but for one that has come and is open still.
-use Rattle.std.proofs.Common.{◌≡◌, ℕ, zero, suc, ◌+◌, ◌-◌, ◌<◌, ◌≤◌, Bool, true, false, List, [], ◌∷◌, Option, Some, None, eqb, ltb, length, refl, sym, ap, ◌∙◌, subst, arith, le_refl, lt-ltb, ltb-true, ltb-false, add-zero, add-suc}
+use Rattle.std.proofs.Common.{◌≡◌, ℕ, zero, suc, ◌+◌, ◌<◌, ◌≤◌, Bool, true, false, List, ◌∷◌, Option, Some, None, eqb, ltb, length, refl, ◌∙◌, subst, arith, lt-ltb, ltb-true, ltb-false, add-zero, add-suc}
 use Rattle.std.specs.Prelude.{◌==◌, if◌then◌else◌}
-use Rattle.plcr_machine.specs.declared.entry.Entry.TheVariants.{Announce, Enter, Leave, Retire, Count}
+use Rattle.plcr_machine.specs.declared.entry.Entry.TheVariants.{Count}
 use Rattle.plcr_machine.specs.Passes.{counts}
 use Rattle.plcr_machine.specs.Holds.{before_enter}
 use Rattle.plcr_machine.specs.Events.{Event, Changed, Noted, changes_in, noted_in, looks}
 use Rattle.plcr_machine.proofs.Cases.{by_cases, at_or_else, eqb_same}
-use Rattle.plcr_script.specs.Scripts.{ScriptValue}
-use Rattle.plcr_script.specs.Meanings.{Meanings}
-use Rattle.plcr_script.specs.declared.statements.NumberedStatement.{NumberedStatement}
 use Rattle.plcr_script.specs.RunChanges.{Plan}
-use Rattle.plcr_script.specs.RunStates.{Opened, steps_in, steps_left, stepped, steps, is_full, searched, walk, State, first_state, entered, entered_if_out, walked, left, low_of, high_of}
-use Rattle.plcr_script.specs.RunLaws.{state_behind, changes_before}
+use Rattle.plcr_script.specs.RunStates.{Opened, steps_in, steps_left, stepped, steps, is_full, searched, walk, State, first_state, entered, walked, left, high_of}
+use Rattle.plcr_script.specs.RunLaws.{changes_before}
 use Rattle.plcr_script.proofs.Turning.{with_open, after_steps, after_all, looked, MayCome, searched_changes}
 use Rattle.plcr_script.proofs.SoundRuns.{steps_starts, searched_starts}
 
@@ -43,10 +40,12 @@ step_paced plan made events few h = three_ways made plan.before before at past
     before lt =
         let none : length (changes_in events) ≡ counts (noted_in events) + 0 = rw (below_ne made (suc plan.before) (omega (arith, lt))) at h in
         rw (below_ne made plan.before lt, not_below plan.before made (omega (arith, lt)), below_ne (suc made) (suc plan.before) (omega (arith, lt))) none
+
     at : made ≡ plan.before → HasPace (uncounted plan (suc made)) (stepped plan made events)
     at same =
         let none : length (changes_in events) ≡ counts (noted_in events) + 0 = rw (below_ne made (suc plan.before) (omega (arith, same))) at h in
         rw (same, eqb_same plan.before, eqb_same (suc plan.before)) (omega (arith, none))
+
     past : plan.before < made → HasPace (uncounted plan (suc made)) (stepped plan made events)
     past lt =
         let next : made ≡ suc plan.before = omega (arith, lt, few) in
@@ -89,6 +88,7 @@ paced_now s h = of s.opened h.opened
         bit : (b : Bool) → (if b then 1 else 0) ≤ 1
         bit true = omega arith
         bit false = omega arith
+
     of : (o : Option Opened) → OpenPaced o s.events → (high_of s ≤ length (changes_in s.events)) × (length (changes_in s.events) ≤ suc (high_of s))
     of None e = (omega (arith, e), omega (arith, e))
     of (Some o) e = (omega (arith, e.1), omega (arith, e.1, one o.plan o.made))
