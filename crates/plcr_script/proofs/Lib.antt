@@ -17,3 +17,5 @@ pub mod Turning
 pub mod SoundRuns
 pub mod PrefixRuns
 pub mod PlacedRuns
+pub mod PacedRuns
+pub mod KeptRuns

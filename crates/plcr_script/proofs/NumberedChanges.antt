@@ -1,10 +1,10 @@
 -- The lists that changes leave whose loads are numbered from 1.
-use Rattle.std.proofs.Common.{◌≡◌, ℕ, zero, suc, ◌<◌, ◌≤◌, Bool, true, false, cond, leb, List, [], ◌∷◌, ◌++◌, Some, length, refl, sym, ◌∙◌, subst, arith, le_refl, length-append}
+use Rattle.std.proofs.Common.{◌≡◌, ℕ, zero, suc, ◌<◌, ◌≤◌, leb, List, [], ◌∷◌, ◌++◌, Some, length, refl, ◌∙◌, subst, arith, le_refl, length-append}
 use Rattle.plcr_machine.specs.declared.change.Named.{Named}
 use Rattle.plcr_machine.specs.declared.change.Change.{Change}
 use Rattle.plcr_machine.specs.declared.change.Change.TheVariants.{Loads, Unloads}
 use Rattle.plcr_machine.specs.Walks.{RisesAbove, first_of_list, next_in, last_with, follow}
-use Rattle.plcr_machine.specs.Changes.{load_of, without_first, list_of, first_changes, list_after_changes}
+use Rattle.plcr_machine.specs.Changes.{load_of, without_first, list_of, list_after_changes}
 use Rattle.std.proofs.lemmas.Bool.{lt-leb}
 use Rattle.plcr_machine.proofs.Cases.{by_cases, at_or_else, eqb_same}
 use Rattle.plcr_script.specs.RunChanges.{loads_in}

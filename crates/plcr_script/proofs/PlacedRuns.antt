@@ -1,5 +1,5 @@
 -- The passes that are in, in a run, are those that the statements put in.
-use Rattle.std.proofs.Common.{◌≡◌, ℕ, ◌<◌, Bool, true, false, eqb, List, [], ◌∷◌, Option, Some, refl, sym, ap, ◌∙◌, cond}
+use Rattle.std.proofs.Common.{◌≡◌, ℕ, Bool, true, false, eqb, List, [], ◌∷◌, refl, sym, ap, ◌∙◌, cond}
 use Rattle.std.specs.Prelude.{fold, if◌then◌else◌}
 use Rattle.plcr_machine.specs.Events.{changes_in}
 use Rattle.plcr_machine.proofs.Cases.{at_or_else, eqb_same}
@@ -8,13 +8,12 @@ use Rattle.plcr_script.specs.declared.statements.Statement.TheVariants as statem
 use Rattle.plcr_script.specs.declared.statements.NumberedStatement.{NumberedStatement}
 use Rattle.plcr_script.specs.Places.{in_behind, is_in_behind}
 use Rattle.plcr_script.specs.Meanings.{Meanings}
-use Rattle.plcr_script.specs.RunChanges.{Plan}
-use Rattle.plcr_script.specs.RunStates.{Opened, steps_left, Place, Out, In, is_in, placed, walk, State, first_state, entered, entered_if_out, walked, left}
+use Rattle.plcr_script.specs.RunStates.{Place, Out, In, is_in, placed, walk, State, first_state, entered, entered_if_out}
 use Rattle.plcr_script.specs.RunTurns.{turn_of}
 use Rattle.plcr_script.specs.Run.{state_after}
 use Rattle.plcr_script.specs.RunLaws.{PassesAreWhereTheyWerePut}
 use Rattle.plcr_script.proofs.WalkEnds.{walk_is_in}
-use Rattle.plcr_script.proofs.Turning.{with_open, after_steps, after_all, looked, MayCome, changing_keeps}
+use Rattle.plcr_script.proofs.Turning.{changing_keeps}
 
 -- the pass is in, or out
 abbrev Is : ℕ → Bool → State → Type 0

@@ -1,16 +1,15 @@
 -- The changes of a run that stops are the first of those that the whole run makes.
-use Rattle.std.proofs.Common.{◌≡◌, ◌⊎◌, inl, inr, ℕ, zero, suc, ◌+◌, ◌-◌, ◌<◌, ◌≤◌, Bool, true, false, List, [], ◌∷◌, ◌++◌, Option, Some, None, eqb, ltb, refl, sym, ap, ◌∙◌, subst, arith, add-zero, add-suc, add_assoc}
+use Rattle.std.proofs.Common.{◌≡◌, ◌⊎◌, inl, inr, ℕ, zero, suc, ◌+◌, ◌-◌, ◌<◌, Bool, true, false, List, [], ◌∷◌, ◌++◌, Option, Some, None, eqb, ltb, refl, sym, ap, ◌∙◌, arith, add-zero, add-suc, add_assoc}
 use Rattle.std.specs.Prelude.{if◌then◌else◌}
 use Rattle.plcr_machine.specs.declared.change.Change.{Change}
 use Rattle.plcr_machine.specs.declared.entry.Entry.TheVariants.{Count}
 use Rattle.plcr_machine.specs.Events.{Event, Changed, Noted, changes_in}
-use Rattle.plcr_script.specs.Scripts.{ScriptValue}
 use Rattle.plcr_script.specs.Meanings.{Meanings}
 use Rattle.plcr_script.specs.declared.statements.NumberedStatement.{NumberedStatement}
 use Rattle.plcr_script.specs.RunChanges.{Plan}
 use Rattle.plcr_script.specs.RunStates.{Opened, steps_in, steps_left, stepped, steps, searched, Place, is_in, walk, State, first_state, entered, walked, leaves, left, all_left, finished, ended}
 use Rattle.plcr_script.specs.RunTurns.{turn_of}
-use Rattle.plcr_script.specs.Run.{state_after, turns_from, end_after, changes_after}
+use Rattle.plcr_script.specs.Run.{state_after, turns_from, end_after}
 use Rattle.plcr_script.specs.RunLaws.{RunsGoOn, StoppedRunsArePrefixes}
 use Rattle.plcr_script.proofs.Turning.{with_open, after_steps, after_all, looked, MayCome, searched_changes, statements_keep}
 use Rattle.plcr_script.proofs.SoundRuns.{AddNothing, AddChange, step_changes}
@@ -29,7 +28,7 @@ steps_same o zero a b same = same
 steps_same o (suc n) a b same = stepped_same o.plan (o.made + n) (steps o n a) (steps o n b) (steps_same o n a b same)
 
 -- the changes of a state, with the open one made to its end
-abbrev will_be : Option Opened → List Event → List Change
+abbrev pub will_be : Option Opened → List Event → List Change
 will_be opened events = changes_in (finished opened events)
 
 will_be_same : (opened : Option Opened) (a b : List Event) → changes_in a ≡ changes_in b → will_be opened a ≡ will_be opened b
@@ -42,7 +41,7 @@ steps_on o n zero events = rw (add-zero n) refl
 steps_on o n (suc more) events = rw (add-suc n more, ← add_assoc o.made n more, steps_on o n more events) refl
 
 -- what will be at the end goes on from this
-abbrev GoesOn : List Change → State → Type 0
+abbrev pub GoesOn : List Change → State → Type 0
 GoesOn past s = (later : List Change) × (will_be s.opened s.events ≡ later ++ past)
 
 module _ (past : List Change) where
@@ -83,6 +82,22 @@ module _ (past : List Change) where
   leave_goes : (s : State) (p : ℕ) → GoesOn past s → GoesOn past (left p s)
   leave_goes s p h = same_keeps s.opened s.events (left p s).events refl h
 
+  -- and so do statements
+  pub statements_go : (process : Meanings) (nodes passes : ℕ) (s : State) (xs : List NumberedStatement) → GoesOn past s → GoesOn past (state_after process nodes passes s xs)
+  statements_go process nodes passes s xs h = statements_keep process nodes passes (GoesOn past) (looks_go nodes passes) opening_goes steps_go end_goes enter_goes walk_goes leave_goes xs s h
+
+-- what will be at the end goes on from what is now
+pub goes_from_now : (s : State) → GoesOn (changes_in s.events) s
+goes_from_now s = of s.opened
+  where
+    of : (o : Option Opened) → (later : List Change) × (will_be o s.events ≡ later ++ changes_in s.events)
+    of None = ([], refl)
+    of (Some o) = steps_of (step_changes o (steps_left o) s.events)
+      where
+        steps_of : AddNothing o (steps_left o) s.events ⊎ AddChange o (steps_left o) s.events → (later : List Change) × (changes_in (steps o (steps_left o) s.events) ≡ later ++ changes_in s.events)
+        steps_of (inl same) = ([], same.0)
+        steps_of (inr came) = (o.plan.change ∷ [], came.0)
+
 -- the passes that come out at the end change nothing
 all_left_changes : (passes : ℕ) (places : ℕ → Place) (events : List Event) → changes_in (all_left passes places events) ≡ changes_in events
 all_left_changes zero places events = refl
@@ -117,6 +132,6 @@ stopped_prefix process script xs ys parts =
     let passes = script.passes in
     let s = state_after process nodes passes first_state xs in
     let past = will_be s.opened s.events in
-    let go = statements_keep process nodes passes (GoesOn past) (looks_go past nodes passes) (opening_goes past) (steps_go past) (end_goes past) (enter_goes past) (walk_goes past) (leave_goes past) ys s ([], refl) in
+    let go = statements_go past process nodes passes s ys ([], refl) in
     let whole : state_after process nodes passes first_state script.statements ≡ state_after process nodes passes s ys = ap (state_after process nodes passes first_state) parts ∙ states_go_on process nodes passes first_state xs ys in
     (go.0, ap (λ (t : State). changes_in (ended passes t)) whole ∙ ended_changes passes (state_after process nodes passes s ys) ∙ go.1 ∙ ap (λ (cs : List Change). go.0 ++ cs) (sym (ended_changes passes s)))

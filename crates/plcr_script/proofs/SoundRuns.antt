@@ -1,22 +1,20 @@
 -- In each state of a run loads are numbered, and the walk of each pass that is in went image by image.
-use Rattle.std.proofs.Common.{◌≡◌, ◌⊎◌, inl, inr, ⊎_elim, ℕ, zero, suc, ◌+◌, ◌-◌, ◌<◌, ◌≤◌, Bool, true, false, List, [], ◌∷◌, ◌++◌, Option, Some, None, eqb, ltb, length, refl, sym, ap, ◌∙◌, subst, arith, le_refl, lt-ltb, ltb-true, ltb-false}
+use Rattle.std.proofs.Common.{◌≡◌, ◌⊎◌, inl, inr, ⊎_elim, ℕ, zero, suc, ◌+◌, ◌<◌, ◌≤◌, Bool, true, false, List, [], ◌∷◌, ◌++◌, Option, Some, None, eqb, ltb, length, refl, sym, ap, ◌∙◌, arith, le_refl, lt-ltb, ltb-true, ltb-false}
 use Rattle.std.specs.Prelude.{if◌then◌else◌}
 use Rattle.plcr_machine.specs.declared.change.Change.{Change}
-use Rattle.plcr_machine.specs.declared.entry.Entry.TheVariants.{Announce, Enter, Leave, Retire, Count}
-use Rattle.plcr_machine.specs.Passes.{counts}
-use Rattle.plcr_machine.specs.Events.{Event, Changed, Noted, changes_in, noted_in, looks}
+use Rattle.plcr_machine.specs.declared.entry.Entry.TheVariants.{Count}
+use Rattle.plcr_machine.specs.Events.{Event, Changed, Noted, changes_in, looks}
 use Rattle.plcr_machine.proofs.Cases.{by_cases, at_or_else, eqb_same}
 use Rattle.plcr_script.specs.Scripts.{ScriptValue}
 use Rattle.plcr_script.specs.Meanings.{Meanings}
 use Rattle.plcr_script.specs.declared.statements.NumberedStatement.{NumberedStatement}
 use Rattle.plcr_script.specs.RunChanges.{Plan, loads_in}
-use Rattle.plcr_script.specs.RunStates.{Opened, steps_left, stepped, steps, is_full, searched, Place, Out, In, placed, is_in, has_ended, walk, walk_to_end, State, first_state, entered, entered_if_out, walked, leaves, left}
+use Rattle.plcr_script.specs.RunStates.{Opened, steps_left, steps, is_full, searched, Place, Out, placed, is_in, has_ended, walk, walk_to_end, State, first_state, entered, entered_if_out, walked, left}
 use Rattle.plcr_script.specs.RunTurns.{reported}
-use Rattle.plcr_script.specs.Run.{state_after}
 use Rattle.plcr_script.specs.RunLaws.{state_behind, changes_before, WasWalked}
 use Rattle.plcr_script.proofs.NumberedChanges.{AreNumbered}
 use Rattle.plcr_script.proofs.WalkEnds.{WalkFits, walk_fits, more_fits, walk_is_in, walk_comes_to_end, was_walked}
-use Rattle.plcr_script.proofs.Turning.{with_open, after_steps, after_all, looked, MayCome, looks_changes, searched_changes, enter_if_keeps, statements_keep}
+use Rattle.plcr_script.proofs.Turning.{with_open, after_steps, after_all, looked, MayCome, searched_changes, enter_if_keeps, statements_keep}
 
 -- events that went on: changes may have come, but no pass went in
 record Adds (old new : List Event) : Type 0 where
@@ -62,7 +60,7 @@ step_changes o zero events = by_cases (ltb o.plan.before o.made)
 step_changes o (suc n) events = one_step o n events (step_changes o n events)
 
 -- and no pass goes in by them
-steps_starts : (o : Opened) (n : ℕ) (events : List Event) (pass : ℕ) → changes_before pass (steps o n events) ≡ changes_before pass events
+pub steps_starts : (o : Opened) (n : ℕ) (events : List Event) (pass : ℕ) → changes_before pass (steps o n events) ≡ changes_before pass events
 steps_starts o zero events pass = refl
 steps_starts o (suc n) events pass = of (eqb (o.made + n) o.plan.before) (ltb o.plan.before (o.made + n)) ∙ steps_starts o n events pass
   where
@@ -82,34 +80,37 @@ looks_starts : (passes : ℕ) (events : List Event) (pass : ℕ) → changes_bef
 looks_starts zero events pass = refl
 looks_starts (suc p) events pass = looks_starts p events pass
 
-searched_add : (nodes passes : ℕ) (events : List Event) → Adds events (searched nodes passes events)
-searched_add nodes passes events = record { added = []; changes = searched_changes nodes passes events; starts = λ pass. of pass (is_full nodes passes events) }
+pub searched_starts : (nodes passes : ℕ) (events : List Event) (pass : ℕ) → changes_before pass (searched nodes passes events) ≡ changes_before pass events
+searched_starts nodes passes events pass = of (is_full nodes passes events)
   where
-    of : (pass : ℕ) (b : Bool) → changes_before pass (if b then looks passes events else events) ≡ changes_before pass events
-    of pass true = looks_starts passes events pass
-    of pass false = refl
+    of : (b : Bool) → changes_before pass (if b then looks passes events else events) ≡ changes_before pass events
+    of true = looks_starts passes events pass
+    of false = refl
+
+searched_add : (nodes passes : ℕ) (events : List Event) → Adds events (searched nodes passes events)
+searched_add nodes passes events = record { added = []; changes = searched_changes nodes passes events; starts = searched_starts nodes passes events }
 
 -- the change that is open may come next, as long as it has not come
-abbrev OpenFits : List Change → Option Opened → Type 0
+abbrev pub OpenFits : List Change → Option Opened → Type 0
 OpenFits changes None = Unit {0}
 OpenFits changes (Some o) = o.made ≤ o.plan.before → AreNumbered (o.plan.change ∷ changes)
 
-record Sound (s : State) : Type 0 where
-  numbered : AreNumbered (changes_in s.events)
-  opened : OpenFits (changes_in s.events) s.opened
-  walks : (pass : ℕ) → WalkFits (changes_in s.events) (changes_before pass s.events) (s.places pass)
+pub record Sound (s : State) : Type 0 where
+  pub numbered : AreNumbered (changes_in s.events)
+  pub opened : OpenFits (changes_in s.events) s.opened
+  pub walks : (pass : ℕ) → WalkFits (changes_in s.events) (changes_before pass s.events) (s.places pass)
 
 walks_add : (places : ℕ → Place) (old new : List Event) → Adds old new → ((pass : ℕ) → WalkFits (changes_in old) (changes_before pass old) (places pass)) → (pass : ℕ) → WalkFits (changes_in new) (changes_before pass new) (places pass)
 walks_add places old new adds walks pass = rw (adds.changes, adds.starts pass) (more_fits adds.added (changes_in old) (changes_before pass old) (places pass) (walks pass))
 
-looks_sound : (nodes passes : ℕ) (s : State) → Sound s → Sound (looked nodes passes s)
+pub looks_sound : (nodes passes : ℕ) (s : State) → Sound s → Sound (looked nodes passes s)
 looks_sound nodes passes s h = record {
   numbered = rw (searched_changes nodes passes s.events) h.numbered;
   opened = rw (searched_changes nodes passes s.events) h.opened;
   walks = walks_add s.places s.events (searched nodes passes s.events) (searched_add nodes passes s.events) h.walks;
 }
 
-opening_sound : (s : State) (plan : Plan) → Sound s → s.opened ≡ None → MayCome plan s → Sound (with_open plan s)
+pub opening_sound : (s : State) (plan : Plan) → Sound s → s.opened ≡ None → MayCome plan s → Sound (with_open plan s)
 opening_sound s plan h none may = record { numbered = h.numbered; opened = λ le. may h.numbered; walks = h.walks }
 
 -- loads stay numbered as the open change goes on
@@ -118,7 +119,7 @@ numbered_on s o n h is =
     let fits : OpenFits (changes_in s.events) (Some o) = rw is at h.opened in
     ⊎_elim (λ (same : AddNothing o n s.events). rw same.0 h.numbered) (λ (came : AddChange o n s.events). rw came.0 (fits came.1)) (step_changes o n s.events)
 
-steps_sound : (s : State) (o : Opened) (more : ℕ) → Sound s → s.opened ≡ Some o → more < steps_left o → Sound (after_steps more o s)
+pub steps_sound : (s : State) (o : Opened) (more : ℕ) → Sound s → s.opened ≡ Some o → more < steps_left o → Sound (after_steps more o s)
 steps_sound s o more h is few = record {
   numbered = numbered_on s o more h is;
   opened = λ below.
@@ -127,7 +128,7 @@ steps_sound s o more h is few = record {
   walks = walks_add s.places s.events (steps o more s.events) (steps_add o more s.events) h.walks;
 }
 
-end_sound : (s : State) (o : Opened) → Sound s → s.opened ≡ Some o → Sound (after_all o s)
+pub end_sound : (s : State) (o : Opened) → Sound s → s.opened ≡ Some o → Sound (after_all o s)
 end_sound s o h is = record {
   numbered = numbered_on s o (steps_left o) h is;
   opened = tt;
@@ -140,7 +141,7 @@ walks_placed changes start places p place walks fits pass = at_or_else pass p
     (λ same. rw (same, eqb_same p) fits)
     (λ other. rw other (walks pass))
 
-enter_sound : (s : State) (p : ℕ) → Sound s → Sound (entered p s)
+pub enter_sound : (s : State) (p : ℕ) → Sound s → Sound (entered p s)
 enter_sound s p h = record {
   numbered = h.numbered;
   opened = h.opened;
@@ -152,21 +153,21 @@ enter_sound s p h = record {
     other_way : (a b : ℕ) → eqb b a ≡ false → eqb a b ≡ false
     other_way a b ne = at_or_else a b (λ same. absurd (let clash : true ≡ false = sym (eqb_same b) ∙ ap (eqb b) (sym same) ∙ ne in cc)) (λ e. e)
 
-walk_sound : (s : State) (p most : ℕ) → Sound s → Sound (walked p (walk most (changes_in s.events) (s.places p)) s)
+pub walk_sound : (s : State) (p most : ℕ) → Sound s → Sound (walked p (walk most (changes_in s.events) (s.places p)) s)
 walk_sound s p most h = record {
   numbered = h.numbered;
   opened = h.opened;
   walks = walks_placed (changes_in s.events) (λ pass. changes_before pass s.events) s.places p (walk most (changes_in s.events) (s.places p)) h.walks (walk_fits most (changes_in s.events) (changes_before p s.events) (s.places p) (h.walks p));
 }
 
-leave_sound : (s : State) (p : ℕ) → Sound s → Sound (left p s)
+pub leave_sound : (s : State) (p : ℕ) → Sound s → Sound (left p s)
 leave_sound s p h = record {
   numbered = h.numbered;
   opened = h.opened;
   walks = walks_placed (changes_in s.events) (λ pass. changes_before pass s.events) s.places p Out h.walks tt;
 }
 
-first_sound : Sound first_state
+pub first_sound : Sound first_state
 first_sound = record { numbered = tt; opened = tt; walks = λ pass. tt }
 
 -- each state of a run is sound
@@ -178,17 +179,23 @@ run_sound process script xs =
 pub run_walk_ends : (process : Meanings) (script : ScriptValue) (xs : List NumberedStatement) (place : Place) → is_in place ≡ true → has_ended (walk_to_end (changes_in (state_behind process script xs).events) place) ≡ true
 run_walk_ends process script xs place inside = walk_comes_to_end (changes_in (state_behind process script xs).events) place (run_sound process script xs).numbered inside
 
--- and reports are of lawful ones
+-- a pass that is in, or goes in, is in
+pub went_in : (s : State) (p : ℕ) → is_in ((entered_if_out p s).places p) ≡ true
+went_in s p = of (is_in (s.places p)) refl
+  where
+    of : (b : Bool) → is_in (s.places p) ≡ b → is_in ((if b then s else entered p s).places p) ≡ true
+    of true e = e
+    of false e = rw (eqb_same p) refl
+
+-- a report of a pass that is in has the images of a lawful walk
+pub sound_walk : (s : State) (p : ℕ) → Sound s → is_in (s.places p) ≡ true → WasWalked (changes_in s.events) (changes_before p s.events) (reported p s)
+sound_walk s p h is =
+    let changes = changes_in s.events in
+    let n = suc (loads_in changes) in
+    was_walked changes (changes_before p s.events) (walk_to_end changes (s.places p)) h.numbered (walk_is_in n changes (s.places p) ∙ is) (walk_comes_to_end changes (s.places p) h.numbered is) (walk_fits n changes (changes_before p s.events) (s.places p) (h.walks p))
+
+-- and so are the reports of a run
 pub run_reports_lawful : (process : Meanings) (script : ScriptValue) (xs : List NumberedStatement) (p : ℕ) → let inside = entered_if_out p (state_behind process script xs) in WasWalked (changes_in inside.events) (changes_before p inside.events) (reported p inside)
 run_reports_lawful process script xs p =
     let s = state_behind process script xs in
-    let inside = entered_if_out p s in
-    let h : Sound inside = enter_if_keeps process script.nodes script.passes Sound (looks_sound script.nodes script.passes) opening_sound steps_sound end_sound enter_sound walk_sound leave_sound s p (run_sound process script xs) in
-    let changes = changes_in inside.events in
-    let is : is_in (inside.places p) ≡ true = went_in s (is_in (s.places p)) refl in
-    let n = suc (loads_in changes) in
-    was_walked changes (changes_before p inside.events) (walk_to_end changes (inside.places p)) h.numbered (walk_is_in n changes (inside.places p) ∙ is) (walk_comes_to_end changes (inside.places p) h.numbered is) (walk_fits n changes (changes_before p inside.events) (inside.places p) (h.walks p))
-  where
-    went_in : (s : State) (b : Bool) → is_in (s.places p) ≡ b → is_in ((if b then s else entered p s).places p) ≡ true
-    went_in s true e = e
-    went_in s false e = rw (eqb_same p) refl
+    sound_walk (entered_if_out p s) p (enter_if_keeps process script.nodes script.passes Sound (looks_sound script.nodes script.passes) opening_sound steps_sound end_sound enter_sound walk_sound leave_sound s p (run_sound process script xs)) (went_in s p)

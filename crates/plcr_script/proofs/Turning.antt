@@ -1,5 +1,5 @@
 -- What each statement of a run keeps.
-use Rattle.std.proofs.Common.{◌≡◌, ℕ, zero, suc, ◌+◌, ◌-◌, ◌<◌, ◌≤◌, Bool, true, false, List, [], ◌∷◌, Option, Some, None, Result, Ok, Err, ltb, leb, refl, sym, ap, ◌∙◌, subst, arith}
+use Rattle.std.proofs.Common.{◌≡◌, ℕ, zero, suc, ◌+◌, ◌<◌, Bool, true, false, List, [], ◌∷◌, Option, Some, None, Result, Ok, Err, leb, refl, subst}
 use Rattle.std.specs.Prelude.{if◌then◌else◌, ok_or, option_map}
 use Rattle.std.proofs.lemmas.Bool.{leb-false}
 use Rattle.plcr_base.specs.Chains.{passed}
@@ -14,7 +14,7 @@ use Rattle.plcr_script.specs.declared.statements.Statement.TheVariants as statem
 use Rattle.plcr_script.specs.declared.statements.NumberedStatement.{NumberedStatement}
 use Rattle.plcr_script.specs.Places.{pass_of}
 use Rattle.plcr_script.specs.Meanings.{Meanings}
-use Rattle.plcr_script.specs.RunChanges.{Plan, loads_in, first_with, worn, load_refusal, load_plan, planned_load, unload_plan, found_unload, unless_refusal, planned_unload}
+use Rattle.plcr_script.specs.RunChanges.{Plan, first_with, worn, load_refusal, load_plan, planned_load, unload_plan, found_unload, unless_refusal, planned_unload}
 use Rattle.plcr_script.specs.RunStates.{Opened, steps_left, steps, is_full, searched, State, entered, entered_if_out, is_in, walked, walk, left}
 use Rattle.plcr_script.specs.RunTurns.{Turn, comes_to, stepped_on, stepped_through, step_turn, where_open, left_open, made_whole, unless_refused, unless_busy, full, with_opened, without_opened, with_node, load_turn, unload_turn, turn_of}
 use Rattle.plcr_script.specs.Run.{state_after}

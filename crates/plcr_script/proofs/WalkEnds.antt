@@ -1,8 +1,8 @@
 -- Walks of a run, which go on and come to their ends.
-use Rattle.std.proofs.Common.{◌≡◌, ℕ, zero, suc, ◌+◌, ◌-◌, ◌<◌, ◌≤◌, Bool, true, false, List, [], ◌∷◌, ◌++◌, Option, Some, None, length, refl, sym, ap, ◌∙◌, subst, arith, le_refl, zero-add, suc-add, length-append}
+use Rattle.std.proofs.Common.{◌≡◌, ℕ, zero, suc, ◌+◌, ◌-◌, ◌≤◌, true, false, List, [], ◌∷◌, ◌++◌, Option, Some, None, length, refl, sym, ap, ◌∙◌, arith, le_refl, zero-add, suc-add, length-append}
 use Rattle.plcr_machine.specs.declared.change.Named.{Named}
 use Rattle.plcr_machine.specs.declared.change.Change.{Change}
-use Rattle.plcr_machine.specs.Walks.{follow, last_met, Meets, IsWholeWalk, IsLawfulWalk}
+use Rattle.plcr_machine.specs.Walks.{follow, last_met, Meets, IsWholeWalk}
 use Rattle.plcr_machine.specs.Changes.{load_of, list_after_changes}
 use Rattle.plcr_machine.proofs.Growing.{follow-same, meets-same, meets_until, meets-snoc, last_met-snoc}
 use Rattle.plcr_machine.proofs.Lawful.{whole_walk_lawful}

@@ -1,19 +1,20 @@
 -- What the runs of all scripts have in common. Each of these is the contract of a function of the crate.
-use Rattle.std.specs.Prelude.{◌≡◌, ℕ, ◌≤◌, true, List, [], ◌∷◌, ◌++◌, length, ◌==◌, if◌then◌else◌}
+use Rattle.std.specs.Prelude.{◌≡◌, ℕ, suc, ◌≤◌, true, List, [], ◌∷◌, ◌++◌, All, length, ◌==◌, if◌then◌else◌}
 use Rattle.plcr_machine.specs.declared.change.Change.{Change}
 use Rattle.plcr_machine.specs.declared.change.Named.{Named}
-use Rattle.plcr_machine.specs.declared.entry.Entry.{Entry}
 use Rattle.plcr_machine.specs.declared.entry.Entry.TheVariants.{Enter}
 use Rattle.plcr_machine.specs.Changes.{load_of, list_after_changes}
 use Rattle.plcr_machine.specs.Walks.{IsWholeWalk, IsLawfulWalk}
 use Rattle.plcr_machine.specs.Events.{Event, Changed, Noted, changes_in}
 use Rattle.plcr_script.specs.declared.statements.NumberedStatement.{NumberedStatement}
 use Rattle.plcr_script.specs.Scripts.{ScriptValue}
+use Rattle.plcr_script.specs.Contexts.{lent}
 use Rattle.plcr_script.specs.Places.{is_in_behind}
 use Rattle.plcr_script.specs.Meanings.{Meanings}
 use Rattle.plcr_script.specs.RunStates.{Place, is_in, has_ended, walk, walk_to_end, State, first_state, entered_if_out}
-use Rattle.plcr_script.specs.RunTurns.{reported}
-use Rattle.plcr_script.specs.Run.{state_after, turns_from, changes_after}
+use Rattle.plcr_script.specs.declared.outcomes.Outcome.TheVariants.{Reported}
+use Rattle.plcr_script.specs.RunTurns.{Turn, listed, reported}
+use Rattle.plcr_script.specs.Run.{NumberedTurn, state_after, turns_from, run_of, changes_after}
 
 -- the state of a script's run behind some statements
 abbrev pub state_behind : Meanings → ScriptValue → List NumberedStatement → State
@@ -63,3 +64,19 @@ ReportsAreOfLawfulWalks = (process : Meanings) (script : ScriptValue) (statement
 abbrev pub StoppedRunsArePrefixes : Type 0
 StoppedRunsArePrefixes = (process : Meanings) (script : ScriptValue) (statements others : List NumberedStatement) → script.statements ≡ statements ++ others
     → (later : List Change) × (changes_after process script script.statements ≡ later ++ changes_after process script statements)
+
+-- a file that a turn keeps has a report with the images of a lawful walk, through the lists that changes leave, and the turn's line tells of it. The walk begins between the changes that were counted before its pass entered and one more, which may have stood uncounted, and it ends with no more changes than were counted before the pass left, and one more
+pub record IsLawfulReport (process : Meanings) (changes : List Change) (turn : Turn) (file : List ℕ × List ℕ) : Type 0 where
+  pub start : ℕ
+  pub met : List Named
+  pub low : ℕ
+  pub high : ℕ
+  pub bytes : file.1 ≡ process.report (listed met)
+  pub told : turn.outcome ≡ Reported (lent file.0) (length file.1) (length met) low high
+  pub walked : WasWalked changes start met
+  pub first : (low ≤ start) × (start ≤ suc low)
+  pub last : walked.end ≤ suc high
+
+-- each file of a run has such a report, by the changes of its list as it has them at the end
+abbrev pub RunsKeepLawfully : Type 0
+RunsKeepLawfully = (process : Meanings) (script : ScriptValue) → All (λ (t : NumberedTurn). All (IsLawfulReport process (changes_after process script script.statements) t.turn) t.turn.kept) (run_of process script)

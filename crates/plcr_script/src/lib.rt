@@ -37,8 +37,8 @@ pub use outcomes::{Outcome, write_outcome};
 pub use process::Process;
 pub use reading::read_script;
 pub use run_laws::{
-    passes_are_where_they_were_put, reports_are_of_lawful_walks, stopped_runs_are_prefixes,
-    walks_come_to_their_ends,
+    passes_are_where_they_were_put, reports_are_kept_lawfully, reports_are_of_lawful_walks,
+    stopped_runs_are_prefixes, walks_come_to_their_ends,
 };
 pub use scripts::Script;
 pub use statements::{NumberedStatement, Statement, Text};

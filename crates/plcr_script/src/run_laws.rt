@@ -1,6 +1,6 @@
 //! What the runs of all scripts have in common, each as the contract of a function that does nothing.
 
-ghost use Rattle.plcr_script.specs.RunLaws.{PassesAreWhereTheyWerePut, RunsGoOn, EndedWalksStay, WalksComeToTheirEnds, ReportsAreOfLawfulWalks, StoppedRunsArePrefixes};
+ghost use Rattle.plcr_script.specs.RunLaws.{PassesAreWhereTheyWerePut, RunsGoOn, EndedWalksStay, WalksComeToTheirEnds, ReportsAreOfLawfulWalks, RunsKeepLawfully, StoppedRunsArePrefixes};
 
 /// The walk of each pass that is in comes to its end, and stays there.
 pub fn walks_come_to_their_ends()
@@ -22,4 +22,9 @@ pub fn stopped_runs_are_prefixes()
 /// The passes that are in, in a run, are those that its statements put in.
 pub fn passes_are_where_they_were_put()
     ensures { PassesAreWhereTheyWerePut }
+{}
+
+/// Each file that a run keeps has a report of the images of a lawful walk, and its line tells the walk's window.
+pub fn reports_are_kept_lawfully()
+    ensures { RunsKeepLawfully }
 {}
