@@ -80,11 +80,10 @@ ran_part process script old new writing slots writer prefixes stopped e =
     sym (events-changes writer.names writer.history) ∙ ap changes_in events ∙ ended_changes writer.passes b.state ∙ b.changes ∙ sym (ended_changes script.passes (state_behind process script b.done)) in
     record {
       stopped = stopped.stopped e.all;
-      done = b.done;
-      others = b.others;
-      parts = b.parts;
-      kept = b.kept;
       past_is = record {
+        done = b.done;
+        others = b.others;
+        parts = b.parts;
         writer = writer;
         all = met_by script writing slots writer stopped.nodes stopped.passes e;
         legal = known_by script writing slots writer stopped.nodes stopped.passes e;
@@ -93,4 +92,5 @@ ran_part process script old new writing slots writer prefixes stopped e =
         later = p.0;
         changes = p.1 ∙ ap (λ (cs : List Change). p.0 ++ cs) (sym mine);
       };
+      kept = b.kept;
     }

@@ -27,7 +27,10 @@ pub record LeavesWhole (process : Meanings) (script : ScriptValue) (past : Optio
   pub may : MayHave process script writer.history writer.names
 
 -- what happened on the list is lawful, and its changes are those of the first statements of the script: the first of those that the whole script makes
-pub record LeavesPart (process : Meanings) (script : ScriptValue) (done : List NumberedStatement) (past : Option WriterState) : Type 0 where
+pub record LeavesPart (process : Meanings) (script : ScriptValue) (past : Option WriterState) : Type 0 where
+  pub done : List NumberedStatement
+  pub others : List NumberedStatement
+  pub parts : script.statements ≡ done ++ others
   pub writer : WriterState
   pub all : HasMetAll script past writer
   pub legal : IsHistory script.nodes script.passes writer.history writer.names
@@ -41,14 +44,11 @@ pub record RanWhole (process : Meanings) (script : ScriptValue) (old new : Seen)
   pub done : IsDone (run_of process script) old new
   pub past_is : LeavesWhole process script past
 
--- its run stopped at a file that wasn't kept, or at a line that wasn't printed whole, behind some statements, whose files were kept
+-- its run stopped at a file that wasn't kept, or at a line that wasn't printed whole. The files of the statements that were done were kept
 pub record RanPart (process : Meanings) (script : ScriptValue) (old new : Seen) (past : Option WriterState) : Type 0 where
   pub stopped : IsStopped (run_of process script) old new
-  pub done : List NumberedStatement
-  pub others : List NumberedStatement
-  pub parts : script.statements ≡ done ++ others
-  pub kept : Gains old.desk.kept new.desk.kept (kept_by (run_behind process script done))
-  pub past_is : LeavesPart process script done past
+  pub past_is : LeavesPart process script past
+  pub kept : Gains old.desk.kept new.desk.kept (kept_by (run_behind process script past_is.done))
 
 -- there was no memory for its list, and nothing was done
 pub record RanNot (old new : Seen) (past : Option WriterState) : Type 0 where
