@@ -5,6 +5,7 @@ pub mod Keys
 pub mod Refusals
 pub mod Scripts
 pub mod Sayings
+pub mod Places
 pub mod Reading
 pub mod inner
 pub mod Log
@@ -12,5 +13,11 @@ pub mod Contexts
 pub mod Lawful
 pub mod Laws
 pub mod Changes
+pub mod Meanings
 pub mod Runs
+pub mod RunChanges
+pub mod RunStates
+pub mod RunTurns
+pub mod Run
+pub mod RunLaws
 pub mod Worked

@@ -11,18 +11,9 @@ use Rattle.plcr_script.specs.declared.outcomes.Outcome.{Outcome}
 use Rattle.plcr_script.specs.declared.outcomes.Outcome.TheVariants as outcomes
 use Rattle.plcr_script.specs.Scripts.{ScriptValue}
 use Rattle.plcr_script.specs.Contexts.{lent}
+pub use Rattle.plcr_script.specs.Meanings.{Meanings, meanings}
 use Rattle.plcr_script.specs.Log.{log_line}
 use Rattle.plcr_script.specs.Changes.{Change, Loads, Unloads, Loaded, first_with, list_after, next_load}
-
--- what a stopped process means to a run
-pub record Meanings : Type 0 where
-  -- the number of the fault of the image at a header; none where there is an image
-  pub fault : ℕ → Option ℕ
-  -- the bytes of a report with these images
-  pub report : List Listed → List ℕ
-
-abbrev pub meanings : (ℕ → Option ℕ) → (List Listed → List ℕ) → Meanings
-meanings fault report = record { fault = fault; report = report }
 
 -- what a statement comes to: its outcome, the changes of the image list that it makes, and the files that it keeps
 pub record Turn : Type 0 where
@@ -83,6 +74,7 @@ unfoldable pub turn_of : Meanings → ℕ → List Change → Statement → Turn
 turn_of process nodes changes (Load header name) = load_turn (process.fault header) nodes changes (record { header = header; name = name })
 turn_of process nodes changes (Unload header) = unload_turn changes header
 turn_of process nodes changes (Report pass file) = report_turn process changes file
+turn_of process nodes changes other = only outcomes.Idle
 
 -- a turn and the number of its line
 pub record NumberedTurn : Type 0 where
