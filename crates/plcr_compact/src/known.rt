@@ -1,4 +1,5 @@
-//! What was found of the sections of a memory, kept so that each index and each page is read whole once.
+//! What was found of the sections of a memory, kept so that each index and each page is read whole
+//! once.
 ghost use Rattle.std.specs.Prelude.{◌≡◌, ◌≤◌, ◌<◌, ◌^◌, All, IfOk, IfSome, IsSomeAnd};
 ghost use Rattle.plcr_regs.specs.Frames.{IfFrame, IsOfThread, frame_lookup};
 ghost use Rattle.plcr_compact.specs.Callers.{compact_frame};
@@ -17,11 +18,15 @@ use plcr_memory::Memory;
 use plcr_regs::{Frame, Step};
 use std::marker::Model;
 
-/// The indexes of so many images are kept.
-pub const KNOWN_INDEXES: usize = 1024;
+/// The indexes of so many images are kept: as many as a list of images can have.
+pub const KNOWN_INDEXES: usize = 4096;
 
 /// So many pages are kept.
 pub const KNOWN_PAGES: usize = 1024;
+
+// Linkers lay pages at multiples of their size, so that slots are chosen by all bits of a place
+// (Knuth, multiplicative hashing).
+const SPREAD: u64 = 0x9e37_79b9_7f4a_7c15;
 
 /// What reading the index of a section gave.
 #[derive(Clone, Copy)]
@@ -74,8 +79,9 @@ fn keep_index(
 fn page_slot(part: Part, entry: &Entry) -> usize
     ensures { result < KNOWN_PAGES }
 {
-    let place = part.at.wrapping_add(u64::from(entry.value)) / 4;
-    (place % KNOWN_PAGES as u64) as usize
+    let place = part.at.wrapping_add(u64::from(entry.value));
+    let spread = place.wrapping_mul(SPREAD) >> 32;
+    (spread % KNOWN_PAGES as u64) as usize
 }
 
 // What is kept in a slot, where it is of the page of this entry.
@@ -119,8 +125,8 @@ fn no_pages(memory: &Memory) -> [Option<KnownPage>; KNOWN_PAGES]
     [None; KNOWN_PAGES]
 }
 
-/// The sections of a memory, of which the indexes and pages that were read are kept in room of fixed size. Contracts see
-/// the memory.
+/// The sections of a memory, of which the indexes and pages that were read are kept in room of
+/// fixed size. Contracts see the memory.
 #[derive(Drop)]
 pub struct KnownSections<'m> {
     memory: &'m Memory,
@@ -217,8 +223,8 @@ impl<'m> KnownSections<'m> {
         entry_of(words, &header.common, &entry, &page, offset)
     }
 
-    /// What `find` says, where the image stands at this place of a list: of images at different places the indexes are
-    /// kept apart.
+    /// What `find` says, where the image stands at this place of a list: of images at different
+    /// places the indexes are kept apart.
     #[tactic(auto, unfolding(crate::specs::Sections::found_at), using(crate::proofs::Standing::stored_section))]
     pub fn find(&mut self, place: usize, image: &Image, offset: u64) -> Result<Found, u8>
         ensures found { result ≡ found_at self.old image.now offset }
