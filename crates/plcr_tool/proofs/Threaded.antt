@@ -1,27 +1,20 @@
 -- The threads of a process can be handed in for a report: their registers have 64 bits, and so have those of each frame, since they are told as words.
-use Rattle.std.proofs.Common.{◌≡◌, ℕ, zero, suc, ◌+◌, ◌*◌, ◌%◌, ◌^◌, ◌<◌, ◌≤◌, Bool, true, false, cond, List, [], ◌∷◌, length, map, drop, replicate, Option, Some, None, refl, sym, subst, ◌∙◌, arith, lit<, lit≤}
-use Rattle.std.specs.Prelude.{slice_index_or, slice_set, unwrap_or, IfSome, nat_le, find, not, if◌then◌else◌, option_map}
+use Rattle.std.proofs.Common.{◌≡◌, ℕ, zero, suc, ◌+◌, ◌^◌, ◌<◌, ◌≤◌, true, List, [], ◌∷◌, length, map, Option, Some, None, refl, sym, subst, ◌∙◌, arith, lit<, lit≤}
+use Rattle.std.specs.Prelude.{slice_index_or, unwrap_or, IfSome, nat_le, option_map}
 use Rattle.std.specs.List.{AllByRecursion, enumerate_from, range_with_len, list_all}
 use Rattle.std.specs.Option.{option_and_then}
 use Rattle.std.proofs.lemmas.List.FromFn.{length-map-range_with_len, length-enumerate_from}
 use Rattle.std.proofs.lemmas.List.{length-map}
 use Rattle.std.proofs.lemmas.Bool.{and_parts, leb-true}
 use Rattle.std.proofs.lemmas.Nat.{mod_below}
-use Rattle.std.proofs.Math.Nat.{mod-le}
 use Rattle.plcr_base.specs.Bytes.{IsBytes}
-use Rattle.plcr_base.specs.Numbers.{u64_in}
-use Rattle.plcr_memory.specs.Regions.{Contents, bytes_at}
+use Rattle.plcr_memory.specs.Regions.{Contents}
 use Rattle.plcr_loader.specs.Fields.{number}
 use Rattle.plcr_regs.specs.declared.arch.Arch.{Arch}
 use Rattle.plcr_regs.specs.declared.arch.Arch.TheVariants.{X86_64, Arm64}
-use Rattle.plcr_regs.specs.declared.frame.Frame as regs
-use Rattle.plcr_regs.specs.declared.frame.Step.{Step}
-use Rattle.plcr_regs.specs.declared.frame.Step.TheVariants as steps
-use Rattle.plcr_regs.specs.declared.limits.TheConstants.{MOST_REGISTERS}
 use Rattle.plcr_regs.specs.declared.registers.Registers.{Registers}
-use Rattle.plcr_regs.specs.Frames.{code_address, cut, frame_pc, register_at}
+use Rattle.plcr_regs.specs.Frames.{frame_pc}
 use Rattle.plcr_regs.specs.Names.{register_names, register_count}
-use Rattle.plcr_regs.specs.Places.{pc_place, fp_place, sp_place}
 use Rattle.plcr_loader.specs.declared.nlist_64.TheConstants.{N_VALUE}
 use Rattle.plcr_macho.specs.declared.image.Image.{Image}
 use Rattle.plcr_macho.specs.Containing.{first_over}
@@ -30,21 +23,15 @@ use Rattle.plcr_symbols.specs.declared.symbol.SymbolAt.{SymbolAt}
 use Rattle.plcr_symbols.specs.Laws.{row_of}
 use Rattle.plcr_symbols.specs.Symbols.{rows_of, symbol_at}
 use Rattle.plcr_symbols.proofs.Lawful.{symbol_found, symbol_named}
-use Rattle.plcr_frameptr.specs.declared.saved.TheConstants.{SAVED_FRAME}
-use Rattle.plcr_frameptr.specs.Callers.{IsCaller}
-use Rattle.plcr_frameptr.specs.Saved.{caller_of, saved_frame}
-use Rattle.plcr_frameptr.proofs.Called.{caller_found}
 use Rattle.plcr_cursor.specs.declared.given.Given.{Given}
-use Rattle.plcr_cursor.specs.declared.given.Reader.TheVariants.{FramePointer}
 use Rattle.plcr_cursor.specs.declared.limits.TheConstants.{MOST_FRAMES}
 use Rattle.plcr_cursor.specs.Frames.{frames_of}
 use Rattle.plcr_cursor.proofs.Chained.{are_frames}
 use Rattle.plcr_encode.specs.declared.context.Context.{Context}
-use Rattle.plcr_encode.specs.Frames.{frame_of, lookup_in, pc_of, symbol_of, thread_frames}
-use Rattle.plcr_encode.specs.Values.{value_at, register_at as register_named, registers_of, thread_of, threads_of}
+use Rattle.plcr_encode.specs.Frames.{frame_of, lookup_in, symbol_of}
+use Rattle.plcr_encode.specs.Values.{register_at as register_named, registers_of, thread_of, threads_of}
 use Rattle.plcr_encode.proofs.Named.{mapped_length}
 use Rattle.plcr_tool.specs.Laws.{IsHandedState, AreHandedStates, IsHandedSymbol, IsHandedFrame, IsHandedRegister, IsHandedThread, AreHandedThreads}
-use Rattle.plcr_tool.proofs.Stored.{piece_there, eight_small}
 
 -- what holds of each that a function gives
 all_mapped : {A B : Type 0} (P : B → Type 0) (f : A → B) → ((x : A) → P (f x)) → (xs : List A) → AllByRecursion P (map f xs)

@@ -7,8 +7,8 @@ ghost use Rattle.plcr_command.specs.Endings.{Goes};
 ghost use Rattle.plcr_tool.specs.Show.{IsReport, ReportMisread, ShowDoes, Shows, shown_files};
 
 use plcr_command::{Ending, Refusal, refuse, report_file, status, take_file};
-use plcr_imagelist::Writer;
 use plcr_decode::{DecodeFault, decode, write_text};
+use plcr_imagelist::Writer;
 use plcr_io::{Desk, PutFailed, Sink};
 use plcr_report::Report;
 use std::alloc::Global;
