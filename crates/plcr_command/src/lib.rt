@@ -1,5 +1,5 @@
-//! What every command shares: taking and reading the files that its words name, what it is refused for, the
-//! process that a core holds, outputs that are saved, its lines, and how it ends.
+//! What every command shares: taking and reading the files that its words name, what it is refused
+//! for, the process that a core holds, outputs that are saved, its lines, and how it ends.
 #![tactic(auto)]
 
 mod endings;

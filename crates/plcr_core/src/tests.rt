@@ -158,7 +158,8 @@ fn faults_are_the_first_in_their_order(rt: HostRuntime) -> Result<(), Fail> {
     Ok(())
 }
 
-// A core of that processor, whose header tells so many commands of so many bytes, and these words behind it.
+// A core of that processor, whose header tells so many commands of so many bytes, and these words
+// behind it.
 fn words_file(
     alloc: Global,
     cputype: u32,
@@ -190,7 +191,8 @@ fn load_commands_are_refused(rt: HostRuntime) -> Result<(), Fail> {
     past[1] = 72;
     past[10] = 100;
     past[12] = 5;
-    // The processor, the number of commands and their bytes, the words behind the header, and the fault.
+    // The processor, the number of commands and their bytes, the words behind the header, and the
+    // fault.
     let cases = [
         (7, 1, 7, [].as_slice(), other),
         (X86_64, 1, 7, [1, 8].as_slice(), bad(0)),
@@ -305,7 +307,8 @@ fn add_numbers(file: &mut Vec<u8>, count: usize, known: &[(usize, u64)]) -> Resu
     Ok(())
 }
 
-// A core of that processor with one thread command of so many bytes: these words, and then so many numbers.
+// A core of that processor with one thread command of so many bytes: these words, and then so many
+// numbers.
 fn state_file(
     alloc: Global,
     cputype: u32,
@@ -357,7 +360,8 @@ fn an_arm64_core_has_its_thread(rt: HostRuntime) -> Result<(), Fail> {
     Ok(())
 }
 
-// The rip of a thread in a wrapped state, and cores whose states are those of another processor or width.
+// The rip of a thread in a wrapped state, and cores whose states are those of another processor or
+// width.
 #[test]
 fn states_go_by_the_processor(rt: HostRuntime) -> Result<(), Fail> {
     let alloc = rt.alloc();

@@ -7,8 +7,8 @@ use plcr_loader::thread_group::{COUNT, FLAVOR, LENGTH};
 use plcr_loader::{Trouble, load_command};
 use plcr_regs::{Arch, Registers, read_state};
 
-/// The registers of the first accepted group. None where a group passes the end, Some(None) where no group
-/// is accepted.
+/// The registers of the first accepted group. None where a group passes the end, Some(None) where
+/// no group is accepted.
 fn accepted_state(arch: Arch, groups: &[u8]) -> Option<Option<Registers>>
     ensures { result ≡ option_map (first_state arch) (groups_in groups.now) }
 {

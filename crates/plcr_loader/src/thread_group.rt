@@ -1,5 +1,5 @@
-//! What follows the front of an LC_THREAD or LC_UNIXTHREAD (loader.h): groups, each of these fields and then of as many
-//! 4-byte words as its count says.
+//! What follows the front of an LC_THREAD or LC_UNIXTHREAD (loader.h): groups, each of these fields
+//! and then of as many 4-byte words as its count says.
 
 use crate::field::Field;
 

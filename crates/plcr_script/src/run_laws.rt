@@ -1,4 +1,5 @@
-//! What the runs of all scripts have in common, each as the contract of a function that does nothing.
+//! What the runs of all scripts have in common, each as the contract of a function that does
+//! nothing.
 
 ghost use Rattle.plcr_script.specs.RunLaws.{PassesAreWhereTheyWerePut, RunsGoOn, EndedWalksStay, WalksComeToTheirEnds, ReportsAreOfLawfulWalks, RunsKeepLawfully, StoppedRunsArePrefixes};
 
@@ -13,7 +14,8 @@ pub fn reports_are_of_lawful_walks()
     ensures { ReportsAreOfLawfulWalks }
 {}
 
-/// A run goes on from where it is; and one that stops made the first of the changes that the whole run makes.
+/// A run goes on from where it is; and one that stops made the first of the changes that the whole
+/// run makes.
 pub fn stopped_runs_are_prefixes()
     ensures go_on { RunsGoOn }
     ensures prefix { StoppedRunsArePrefixes }
@@ -24,7 +26,8 @@ pub fn passes_are_where_they_were_put()
     ensures { PassesAreWhereTheyWerePut }
 {}
 
-/// Each file that a run keeps has a report of the images of a lawful walk, and its line tells the walk's window.
+/// Each file that a run keeps has a report of the images of a lawful walk, and its line tells the
+/// walk's window.
 pub fn reports_are_kept_lawfully()
     ensures { RunsKeepLawfully }
 {}
