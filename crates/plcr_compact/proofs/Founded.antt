@@ -1,11 +1,12 @@
 -- How a section is searched, step by step.
 use Rattle.std.proofs.Common.{◌≡◌, ◌≤◌, ◌<◌, ℕ, ◌-◌, true, false, List, length, take, Option, Some, None, Ok, Err, refl, sym, ap, subst, ◌∙◌, arith}
 use Rattle.std.specs.Prelude.{◌≢◌, ◌==◌, slice_get, nat_lt, IsOk}
-use Rattle.std.proofs.lemmas.Bool.Decides.{nat_tests}
+use Rattle.std.proofs.lemmas.Bool.{lt-ltb, le-ltb}
 use Rattle.std.proofs.lemmas.List.{take_all}
 use Rattle.std.proofs.lemmas.Option.{slice_get_past}
 use Rattle.plcr_base.specs.Chains.{◌>>=◌, result_map}
 use Rattle.plcr_base.proofs.Chained.{map_ok, map_err}
+use Rattle.plcr_base.proofs.Plain.{not_equal}
 use Rattle.plcr_leb128.specs.Cells.{Source}
 use Rattle.plcr_compact.specs.declared.entry_kind.EntryKind.{EntryKind}
 use Rattle.plcr_compact.specs.declared.entry_kind.EntryKind.TheVariants as kinds
@@ -92,36 +93,27 @@ unfolding page_at
 page_whole section header offset o = rw o.whole refl
 
 -- the choice in the index
-less : (a b : ℕ) → a < b → nat_lt a b ≡ true
-less a b h = grind (arith, nat_tests)
-
-not_less : (a b : ℕ) → b ≤ a → nat_lt a b ≡ false
-not_less a b h = grind (arith, nat_tests)
-
-not_zero : (a : ℕ) → a ≢ 0 → (a == 0) ≡ false
-not_zero a h = grind (arith, nat_tests)
-
 pub page_past : (offset : ℕ) (es : List Entry) → sentinel es ≡ None → page_of offset es ≡ Err NO_ENTRY
 unfolding page_of
 page_past offset es h = rw h refl
 
 pub page_low : (offset : ℕ) (es : List Entry) (s : Entry) → sentinel es ≡ Some s → s.function ≤ offset → page_of offset es ≡ Err NO_ENTRY
 unfolding page_of
-page_low offset es s h le = rw (h, not_less offset s.function le) refl
+page_low offset es s h le = rw (h, le-ltb offset s.function le) refl
 
 pub page_none : (offset : ℕ) (es : List Entry) (s : Entry) → sentinel es ≡ Some s → offset < s.function → chosen offset (before_sentinel es) ≡ None → page_of offset es ≡ Err NO_ENTRY
 unfolding page_of
-page_none offset es s h lt none = rw (h, less offset s.function lt, none) refl
+page_none offset es s h lt none = rw (h, lt-ltb offset s.function lt, none) refl
 
 pub page_zero : (offset : ℕ) (es : List Entry) (s e : Entry) → sentinel es ≡ Some s → offset < s.function → chosen offset (before_sentinel es) ≡ Some e → e.value ≡ 0
     → page_of offset es ≡ Err NO_ENTRY
 unfolding page_of
-page_zero offset es s e h lt some none = rw (h, less offset s.function lt, some, none) refl
+page_zero offset es s e h lt some none = rw (h, lt-ltb offset s.function lt, some, none) refl
 
 pub page_some : (offset : ℕ) (es : List Entry) (s e : Entry) → sentinel es ≡ Some s → offset < s.function → chosen offset (before_sentinel es) ≡ Some e → e.value ≢ 0
     → page_of offset es ≡ Ok e
 unfolding page_of
-page_some offset es s e h lt some leads = rw (h, less offset s.function lt, some, not_zero e.value leads) refl
+page_some offset es s e h lt some leads = rw (h, lt-ltb offset s.function lt, some, not_equal e.value 0 leads) refl
 
 -- a page
 pub page_checked : (section : Source) (entry : Entry) (header : PageHeader) → page_header_in section entry.value ≡ Ok header
