@@ -1,5 +1,5 @@
 //! The command `show REPORT`.
-ghost use Rattle.std.specs.Prelude.{◌≡◌, [], ◌∷◌, None, MatchResult};
+ghost use Rattle.std.specs.Prelude.{◌≡◌, [], ◌∷◌, MatchResult};
 ghost use Rattle.plcr_command.specs.Seen.{seen};
 ghost use Rattle.plcr_command.specs.Taking.{MadeNothing};
 ghost use Rattle.plcr_command.specs.Refusals.{IsRead, Refuses};
@@ -7,7 +7,6 @@ ghost use Rattle.plcr_command.specs.Endings.{Goes};
 ghost use Rattle.plcr_tool.specs.Show.{IsReport, ReportMisread, ShowDoes, Shows, shown_files};
 
 use plcr_command::{Ending, Refusal, refuse, report_file, status, take_file};
-use plcr_imagelist::Writer;
 use plcr_decode::{DecodeFault, decode, write_text};
 use plcr_io::{Desk, PutFailed, Sink};
 use plcr_report::Report;
@@ -15,19 +14,16 @@ use std::alloc::Global;
 
 /// Prints the text of a report. Gives the status: 0 done, 2 the file couldn't be taken, 5 the text wasn't
 /// printed whole, 6 no report, 7 want of memory. All memory is taken before the first line is printed, and
-/// nothing is made. It runs no script, and so leaves `past` as it is.
+/// nothing is made.
 pub fn show_command<D: Desk, L: Sink>(
     alloc: Global,
     report: &str,
     desk: &mut D,
     lines: &mut L,
-    past: &mut Option<Writer>,
 ) -> u8
-    requires { past.old ≡ None }
     ensures does { ShowDoes report.now
         (seen (D.told desk.old) (L.written lines.old) (L.faults lines.old))
         (seen (D.told desk.new) (L.written lines.new) (L.faults lines.new)) result }
-    ensures past { past.new ≡ None }
     ensures mark { L.mark lines.new ≡ L.mark lines.old }
 {
     status(show(alloc, report, desk, lines))

@@ -38,7 +38,7 @@ pub fn top<D: Desk, L: Sink>(
     match words {
         [word, report] => {
             if word.as_str() == "show" {
-                show_command(alloc, report.as_str(), desk, lines, past)
+                show_command(alloc, report.as_str(), desk, lines)
             } else {
                 misused(lines)
             }
