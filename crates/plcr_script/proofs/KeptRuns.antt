@@ -1,6 +1,8 @@
 -- Each file that a run keeps has a report of the images of a lawful walk.
-use Rattle.std.proofs.Common.{◌≡◌, ℕ, ◌≤◌, Bool, true, false, List, [], ◌∷◌, ◌++◌, Option, Some, None, Result, Ok, Err, leb, refl, sym, ◌∙◌, subst, arith, length-append}
-use Rattle.std.specs.Prelude.{All, Contains, if◌then◌else◌}
+use Rattle.std.proofs.Common.{◌≡◌, ℕ, ◌≤◌, Bool, true, false, List, [], ◌∷◌, ◌++◌, Option, Some, None, Result, Ok, Err, leb, refl, sym, ap, ◌∙◌, subst, arith, length-append}
+use Rattle.std.specs.Prelude.{All, Contains, map, option_to_list, if◌then◌else◌}
+use Rattle.std.specs.List.{cons_option}
+use Rattle.std.proofs.lemmas.List.{map-append}
 use Rattle.std.proofs.lemmas.List.Elements.{All-nil, All-cons}
 use Rattle.plcr_machine.specs.declared.change.Named.{Named}
 use Rattle.plcr_machine.specs.declared.change.Change.{Change}
@@ -13,12 +15,12 @@ use Rattle.plcr_script.specs.declared.statements.Statement.{Statement}
 use Rattle.plcr_script.specs.declared.statements.Statement.TheVariants as statements
 use Rattle.plcr_script.specs.declared.statements.NumberedStatement.{NumberedStatement}
 use Rattle.plcr_script.specs.Meanings.{Meanings}
-use Rattle.plcr_script.specs.Reading.{file_of}
+use Rattle.plcr_script.specs.Reading.{file_of, files_of}
 use Rattle.plcr_script.specs.RunChanges.{Plan, planned_load, planned_unload}
 use Rattle.plcr_script.specs.RunStates.{Opened, steps_left, is_full, State, first_state, entered, entered_if_out, is_in, low_of, high_of}
 use Rattle.plcr_script.specs.RunTurns.{Turn, comes_to, stepped_on, stepped_through, step_turn, with_opened, left_open, made_whole, unless_refused, without_opened, full, with_node, listed, reported, turn_of}
-use Rattle.plcr_script.specs.Run.{NumberedTurn, turns_from, state_after, run_of, changes_after, end_after}
-use Rattle.plcr_script.specs.RunLaws.{WasWalked, changes_before, IsLawfulReport, RunsKeepLawfully}
+use Rattle.plcr_script.specs.Run.{NumberedTurn, turns_from, state_after, run_of, kept_by, changes_after, end_after}
+use Rattle.plcr_script.specs.RunLaws.{WasWalked, changes_before, IsLawfulReport, RunsKeepLawfully, RunsKeepTheirFiles}
 use Rattle.plcr_script.proofs.NumberedChanges.{lists_stay}
 use Rattle.plcr_script.proofs.Turning.{looked, turn_keeps, enter_if_keeps}
 use Rattle.plcr_script.proofs.SoundRuns.{Sound, went_in, sound_walk, looks_sound, opening_sound, steps_sound, end_sound, enter_sound, walk_sound, leave_sound, first_sound}
@@ -192,3 +194,27 @@ unfolding run_of end_after
 run_keeps_lawfully process script =
     turns_lawful process script.nodes script.passes first_state script.statements (changes_after process script script.statements) first_sound first_paced
     (ended_changes script.passes (state_after process script.nodes script.passes first_state script.statements))
+
+-- the names of the files that turns keep
+abbrev names : List (List ℕ × List ℕ) → List (List ℕ)
+names files = map (λ (file : List ℕ × List ℕ). file.0) files
+
+one_kept : (process : Meanings) (nodes passes : ℕ) (s : State) (statement : Statement) → names (turn_of process nodes passes s statement).kept ≡ option_to_list (file_of statement)
+unfolding turn_of
+one_kept process nodes passes s (statements.Report p file) = refl
+one_kept process nodes passes s statement = ap names (turn_quiet process nodes passes s statement refl)
+
+or_none : {A : Type 0} (o : Option A) (xs : List A) → option_to_list o ++ xs ≡ cons_option o xs
+or_none None xs = refl
+or_none (Some x) xs = refl
+
+names_kept : (process : Meanings) (nodes passes : ℕ) (s : State) (xs : List NumberedStatement) → names (kept_by (turns_from process nodes passes s xs)) ≡ files_of xs
+names_kept process nodes passes s [] = refl
+names_kept process nodes passes s (x ∷ xs) =
+    let turn = turn_of process nodes passes s x.statement in
+    map-append (λ (file : List ℕ × List ℕ). file.0) turn.kept (kept_by (turns_from process nodes passes turn.state xs))
+    ∙ rw (one_kept process nodes passes s x.statement, names_kept process nodes passes turn.state xs) (or_none (file_of x.statement) (files_of xs))
+
+pub run_keeps_its_files : RunsKeepTheirFiles
+unfolding run_of
+run_keeps_its_files process script = names_kept process script.nodes script.passes first_state script.statements

@@ -1,5 +1,5 @@
 -- What the runs of all scripts have in common. Each of these is the contract of a function of the crate.
-use Rattle.std.specs.Prelude.{◌≡◌, ℕ, suc, ◌≤◌, true, List, [], ◌∷◌, ◌++◌, All, length, ◌==◌, if◌then◌else◌}
+use Rattle.std.specs.Prelude.{◌≡◌, ℕ, suc, ◌≤◌, true, List, [], ◌∷◌, ◌++◌, All, length, map, ◌==◌, if◌then◌else◌}
 use Rattle.plcr_machine.specs.declared.change.Change.{Change}
 use Rattle.plcr_machine.specs.declared.change.Named.{Named}
 use Rattle.plcr_machine.specs.declared.entry.Entry.TheVariants.{Enter}
@@ -10,11 +10,12 @@ use Rattle.plcr_script.specs.declared.statements.NumberedStatement.{NumberedStat
 use Rattle.plcr_script.specs.Scripts.{ScriptValue}
 use Rattle.plcr_script.specs.Contexts.{lent}
 use Rattle.plcr_script.specs.Places.{is_in_behind}
+use Rattle.plcr_script.specs.Reading.{files_of}
 use Rattle.plcr_script.specs.Meanings.{Meanings}
 use Rattle.plcr_script.specs.RunStates.{Place, is_in, has_ended, walk, walk_to_end, State, first_state, entered_if_out}
 use Rattle.plcr_script.specs.declared.outcomes.Outcome.TheVariants.{Reported}
 use Rattle.plcr_script.specs.RunTurns.{Turn, listed, reported}
-use Rattle.plcr_script.specs.Run.{NumberedTurn, state_after, turns_from, run_of, changes_after}
+use Rattle.plcr_script.specs.Run.{NumberedTurn, state_after, turns_from, run_of, kept_by, changes_after}
 
 -- the state of a script's run behind some statements
 abbrev pub state_behind : Meanings → ScriptValue → List NumberedStatement → State
@@ -80,3 +81,7 @@ pub record IsLawfulReport (process : Meanings) (changes : List Change) (turn : T
 -- each file of a run has such a report, by the changes of its list as it has them at the end
 abbrev pub RunsKeepLawfully : Type 0
 RunsKeepLawfully = (process : Meanings) (script : ScriptValue) → All (λ (t : NumberedTurn). All (IsLawfulReport process (changes_after process script script.statements) t.turn) t.turn.kept) (run_of process script)
+
+-- a run keeps the files that its script names, each once and in their order
+abbrev pub RunsKeepTheirFiles : Type 0
+RunsKeepTheirFiles = (process : Meanings) (script : ScriptValue) → map (λ (file : List ℕ × List ℕ). file.0) (kept_by (run_of process script)) ≡ files_of script.statements

@@ -1,6 +1,6 @@
 //! What the runs of all scripts have in common, each as the contract of a function that does nothing.
 
-ghost use Rattle.plcr_script.specs.RunLaws.{PassesAreWhereTheyWerePut, RunsGoOn, EndedWalksStay, WalksComeToTheirEnds, ReportsAreOfLawfulWalks, RunsKeepLawfully, StoppedRunsArePrefixes};
+ghost use Rattle.plcr_script.specs.RunLaws.{PassesAreWhereTheyWerePut, RunsGoOn, EndedWalksStay, WalksComeToTheirEnds, ReportsAreOfLawfulWalks, RunsKeepLawfully, RunsKeepTheirFiles, StoppedRunsArePrefixes};
 
 /// The walk of each pass that is in comes to its end, and stays there.
 pub fn walks_come_to_their_ends()
@@ -24,7 +24,9 @@ pub fn passes_are_where_they_were_put()
     ensures { PassesAreWhereTheyWerePut }
 {}
 
-/// Each file that a run keeps has a report of the images of a lawful walk, and its line tells the walk's window.
+/// A run keeps the files that its script names; each has a report of the images of a lawful walk, and its line tells the
+/// walk's window.
 pub fn reports_are_kept_lawfully()
-    ensures { RunsKeepLawfully }
+    ensures lawfully { RunsKeepLawfully }
+    ensures files { RunsKeepTheirFiles }
 {}
