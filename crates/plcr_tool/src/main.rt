@@ -12,6 +12,10 @@ mod laws;
 mod report;
 mod show;
 #[cfg(test)]
+mod long_tests;
+#[cfg(test)]
+mod run_tests;
+#[cfg(test)]
 mod show_tests;
 #[cfg(test)]
 mod tests;
