@@ -1,4 +1,5 @@
 pub mod Complete
+pub mod Headline
 pub mod Laws
 pub mod Past
 pub mod Report

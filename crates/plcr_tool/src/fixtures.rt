@@ -204,12 +204,14 @@ pub fn thread_core(
     Ok(bytes)
 }
 
-/// A desk with the core `c` of these bytes and the script `s`, and these outputs.
+/// A desk with the core `c` of these bytes and the script `s`, and three outputs of so much room; the puts of these
+/// numbers to the first of them fail.
 pub fn desk_of(
     alloc: Global,
     core: Vec<u8>,
     script: &[u8],
-    outs: Vec<MemOut>,
+    room: usize,
+    puts: Vec<u32>,
 ) -> Result<MemDesk, Fail> {
     let core = MemFile {
         name: String::from_str(alloc, "c")?,
@@ -219,23 +221,12 @@ pub fn desk_of(
         name: String::from_str(alloc, "s")?,
         bytes: Vec::from_slice(alloc, script)?,
     };
+    let one = MemOut::new(alloc, room, 300, puts)?;
+    let two = MemOut::new(alloc, room, 300, Vec::new(alloc))?;
+    let three = MemOut::new(alloc, room, 300, Vec::new(alloc))?;
     let files = vec![in alloc; core, script]?;
+    let outs = vec![in alloc; one, two, three]?;
     Ok(MemDesk::new(alloc, files, outs, Vec::new(alloc))?)
-}
-
-/// So many outputs.
-pub fn outputs(alloc: Global, count: u32) -> Result<Vec<MemOut>, Fail> {
-    let mut outs = Vec::new(alloc);
-    for _ in 0..count {
-        outs.push(MemOut::new(alloc, 1000, 300, Vec::new(alloc))?)?;
-    }
-    Ok(outs)
-}
-
-/// The same, and one output.
-pub fn desk_with(alloc: Global, core: Vec<u8>, script: &[u8]) -> Result<MemDesk, Fail> {
-    let out = MemOut::new(alloc, 20_000, 300, Vec::new(alloc))?;
-    desk_of(alloc, core, script, vec![in alloc; out]?)
 }
 
 /// A desk with the core `c` and the script `s`, and two outputs; its calls of these numbers fail, and the

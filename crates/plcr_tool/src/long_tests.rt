@@ -1,3 +1,5 @@
+ghost use Rattle.std.specs.Prelude.{◌<◌};
+
 use crate::fixtures::{desk_of, image_core};
 use crate::report::report_command;
 use plcr_io::{MemDesk, MemOut};
@@ -10,8 +12,7 @@ fn run(
     core: Vec<u8>,
     script: &[u8],
 ) -> Result<(MemDesk, MemOut), Fail> {
-    let out = MemOut::new(alloc, 300_000, 300, Vec::new(alloc))?;
-    let mut desk = desk_of(alloc, core, script, vec![in alloc; out]?)?;
+    let mut desk = desk_of(alloc, core, script, 300_000, Vec::new(alloc))?;
     let mut lines = MemOut::new(alloc, 4_000_000, 300, Vec::new(alloc))?;
     let mut past = None;
     let status = report_command(alloc, "c", "s", &mut desk, &mut lines, &mut past);

@@ -1,4 +1,4 @@
-use crate::fixtures::{desk_of, image_core, outputs};
+use crate::fixtures::{desk_of, image_core};
 use crate::report::report_command;
 use plcr_decode::decode;
 use plcr_imagelist::Writer;
@@ -15,9 +15,9 @@ struct Ran {
     past: Option<Writer>,
 }
 
-/// Runs a script on a core of eight images, into these outputs.
-fn run(alloc: Global, script: &[u8], outs: Vec<MemOut>) -> Result<Ran, Fail> {
-    let mut desk = desk_of(alloc, image_core(alloc, 8, 1)?, script, outs)?;
+/// Runs a script on a core of eight images; these puts to the first output fail.
+fn run(alloc: Global, script: &[u8], puts: Vec<u32>) -> Result<Ran, Fail> {
+    let mut desk = desk_of(alloc, image_core(alloc, 8, 1)?, script, 1000, puts)?;
     let mut lines = MemOut::new(alloc, 2000, 100, Vec::new(alloc))?;
     let mut past = None;
     let status = report_command(alloc, "c", "s", &mut desk, &mut lines, &mut past);
@@ -62,7 +62,7 @@ const LOGS: [(&[u8], &str); 6] = [
 fn statements_come_to_their_lines(rt: HostRuntime) -> Result<(), Fail> {
     let alloc = rt.alloc();
     for (script, log) in LOGS {
-        let ran = run(alloc, script, outputs(alloc, 3)?)?;
+        let ran = run(alloc, script, Vec::new(alloc))?;
         assert_eq!(rt; ran.status, 0);
         assert_eq!(rt; ran.lines.bytes(), log.as_bytes());
         assert!(rt; ran.past.is_some());
@@ -78,7 +78,7 @@ fn a_long_name_takes_more_steps(rt: HostRuntime) -> Result<(), Fail> {
         for _ in 0..length {
             script.push(b'n')?;
         }
-        let ran = run(alloc, script.as_slice(), outputs(alloc, 0)?)?;
+        let ran = run(alloc, script.as_slice(), Vec::new(alloc))?;
         assert_eq!(rt; ran.status, 0);
         assert_eq!(rt; ran.lines.bytes(), log.as_bytes());
     }
@@ -92,7 +92,7 @@ fn a_walk_goes_on_as_the_list_stands(rt: HostRuntime) -> Result<(), Fail> {
     let script = b"load 0x100000000 A\nload 0x100004000 B\nload 0x100008000 C\nenter 0\nwalk 0 2\n\
         load 0x10000c000 D\nload 0x100010000 E\nload 0x100014000 F\nunload 0x100000000\n\
         unload 0x100008000\nreport 0 a\n";
-    let ran = run(alloc, script, outputs(alloc, 1)?)?;
+    let ran = run(alloc, script, Vec::new(alloc))?;
     assert_eq!(rt; ran.status, 0);
     assert!(rt; ran.lines.bytes().ends_with(b"\n11 report a 491 5 3 8\n"));
     let report = match decode(alloc, ran.desk.file("a").ok_or("not kept")?) {
@@ -120,18 +120,12 @@ fn scripts_are_refused(rt: HostRuntime) -> Result<(), Fail> {
         (b"set os 1\ntable 1 1\n", "script 1 2 6\n"),
     ];
     for (script, line) in cases {
-        let ran = run(alloc, script, outputs(alloc, 0)?)?;
+        let ran = run(alloc, script, Vec::new(alloc))?;
         assert_eq!(rt; ran.status, 4);
         assert_eq!(rt; ran.lines.bytes(), line.as_bytes());
         assert!(rt; ran.past.is_none());
     }
     Ok(())
-}
-
-/// An output whose third put fails.
-fn cut_output(alloc: Global) -> Result<Vec<MemOut>, Fail> {
-    let out = MemOut::new(alloc, 1000, 256, vec![in alloc; 3]?)?;
-    Ok(vec![in alloc; out]?)
 }
 
 const EIGHT_LOADS: &[u8] = b"load 0x100000000 A\nload 0x100004000 B\nload 0x100008000 C\n\
@@ -143,10 +137,10 @@ fn a_put_fails(rt: HostRuntime) -> Result<(), Fail> {
     let alloc = rt.alloc();
     let mut script = EIGHT_LOADS.to_vec(alloc)?;
     script.extend_from_slice(b"report 0 a\n")?;
-    let whole = run(alloc, script.as_slice(), outputs(alloc, 1)?)?;
+    let whole = run(alloc, script.as_slice(), Vec::new(alloc))?;
     assert_eq!(rt; whole.status, 0);
     assert_eq!(rt; whole.desk.file("a").map(|file| file.len()), Some(623));
-    let cut = run(alloc, script.as_slice(), cut_output(alloc)?)?;
+    let cut = run(alloc, script.as_slice(), vec![in alloc; 3]?)?;
     assert_eq!(rt; cut.status, 5);
     assert!(rt; cut.lines.bytes().ends_with(b"\n8 load 8\ncannot write a\n"));
     assert!(rt; cut.desk.file("a").is_none());
@@ -164,7 +158,7 @@ fn a_run_stops_with_passes_in(rt: HostRuntime) -> Result<(), Fail> {
         script.extend_from_slice(format!(in alloc; "enter {pass}\n")?.as_bytes())?;
     }
     script.extend_from_slice(b"walk 3 2\nbegin load 0x100000000 I\nstep 4\nreport 0 a\nenter 11\n")?;
-    let ran = run(alloc, script.as_slice(), cut_output(alloc)?)?;
+    let ran = run(alloc, script.as_slice(), vec![in alloc; 3]?)?;
     assert_eq!(rt; ran.status, 5);
     assert!(rt;
         ran.lines

@@ -26,7 +26,7 @@ play-requires-clause-context g c =
     let core = c.args.job.core in
     let script = c.script_of-script.result.now in
     let lawful = one_lawful c.args.job.scripts script c.script_of-script.ensures c.requires.lawful.scripts in
-    (rw c.context-context.ensures.arch (threads_writable core.arch core.threads c.requires.lawful.threads), same_writable c.context-context.result (context_of script core.arch) c.context-context.ensures (lawful.writable core.arch))
+    (rw c.context-context.ensures.same.arch (threads_writable core.arch core.threads c.requires.lawful.threads), same_writable c.context-context.result (context_of script core.arch) c.context-context.ensures.same (lawful.writable core.arch))
 
 pub returns-clause-ends : goal.returns-clause-ends
 returns-clause-ends g c =
@@ -38,5 +38,5 @@ returns-clause-ends g c =
     record {
       script = script;
       alone = c.script_of-script.ensures;
-      ends = subst P (meanings_same (fault_at core) _ _ (report_is core script c.context-context.result c.context-context.ensures)) c.play.ensures.played;
+      ends = subst P (meanings_same (fault_at core) _ _ (report_is core script c.context-context.result c.context-context.ensures.same)) c.play.ensures.played;
     }
