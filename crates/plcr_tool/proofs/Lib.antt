@@ -1,5 +1,6 @@
 pub mod Captured
 pub mod Completed
+pub mod CoreStates
 pub mod Ended
 pub mod Fitting
 pub mod Shown
