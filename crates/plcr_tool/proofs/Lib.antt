@@ -3,6 +3,7 @@ pub mod Completed
 pub mod CoreStates
 pub mod Ended
 pub mod Fitting
+pub mod Headlined
 pub mod Shown
 pub mod Stored
 pub mod Threaded

@@ -4,9 +4,10 @@ ghost use Rattle.plcr_command.specs.Seen.{seen};
 ghost use Rattle.plcr_command.specs.Jobs.{IsLawfulJob};
 ghost use Rattle.plcr_command.specs.Endings.{Goes};
 ghost use Rattle.plcr_command.specs.inner.Endings.{GoesOn};
+ghost use Rattle.plcr_tool.specs.Headline.{ReportsTellTruly};
 ghost use Rattle.plcr_tool.specs.Past.{ReportLeaves};
 ghost use Rattle.plcr_tool.specs.Report.{ReportDoes, Reports};
-ghost use Rattle.plcr_tool.specs.inner.Report.{Leaves, RunEnds};
+ghost use Rattle.plcr_tool.specs.inner.Report.{Leaves, RunEnds, TrulyBy};
 
 use plcr_command::{CoreProcess, Ending, Job, Modes, read_job, refuse, status};
 use plcr_imagelist::Writer;
@@ -41,6 +42,9 @@ pub fn report_command<D: Desk, L: Sink>(
     ensures past { ReportLeaves core.now script.now
         (seen (D.told desk.old) (L.written lines.old) (L.faults lines.old))
         (seen (D.told desk.new) (L.written lines.new) (L.faults lines.new)) past.new result }
+    ensures headline { ReportsTellTruly core.now script.now
+        (seen (D.told desk.old) (L.written lines.old) (L.faults lines.old))
+        (seen (D.told desk.new) (L.written lines.new) (L.faults lines.new)) past.new result }
     ensures mark { L.mark lines.new ≡ L.mark lines.old }
 {
     status(report(alloc, core, script, desk, lines, past))
@@ -59,6 +63,9 @@ fn report<'a, D: Desk, L: Sink>(
         (seen (D.told desk.old) (L.written lines.old) (L.faults lines.old))
         (seen (D.told desk.new) (L.written lines.new) (L.faults lines.new)) result }
     ensures leaves { Leaves core.now script.now
+        (seen (D.told desk.old) (L.written lines.old) (L.faults lines.old))
+        (seen (D.told desk.new) (L.written lines.new) (L.faults lines.new)) past.new result }
+    ensures truly { TrulyBy core.now script.now
         (seen (D.told desk.old) (L.written lines.old) (L.faults lines.old))
         (seen (D.told desk.new) (L.written lines.new) (L.faults lines.new)) past.new result }
     ensures goes { Goes

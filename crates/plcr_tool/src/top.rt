@@ -2,6 +2,7 @@
 ghost use Rattle.std.specs.Prelude.{◌≡◌, ◌≤◌, None, map, string_bytes};
 ghost use Rattle.plcr_base.specs.Told.{Prints};
 ghost use Rattle.plcr_command.specs.Seen.{seen};
+ghost use Rattle.plcr_tool.specs.Headline.{TopTellsTruly};
 ghost use Rattle.plcr_tool.specs.Past.{TopLeaves};
 ghost use Rattle.plcr_tool.specs.Top.{TopDoes, usage_line};
 
@@ -31,6 +32,9 @@ pub fn top<D: Desk, L: Sink>(
         (seen (D.told desk.old) (L.written lines.old) (L.faults lines.old))
         (seen (D.told desk.new) (L.written lines.new) (L.faults lines.new)) result }
     ensures past { TopLeaves (map string_bytes words.now)
+        (seen (D.told desk.old) (L.written lines.old) (L.faults lines.old))
+        (seen (D.told desk.new) (L.written lines.new) (L.faults lines.new)) past.new result }
+    ensures headline { TopTellsTruly (map string_bytes words.now)
         (seen (D.told desk.old) (L.written lines.old) (L.faults lines.old))
         (seen (D.told desk.new) (L.written lines.new) (L.faults lines.new)) past.new result }
     ensures mark { L.mark lines.new ≡ L.mark lines.old }
