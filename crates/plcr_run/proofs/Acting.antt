@@ -1,5 +1,5 @@
 -- A pass that is told what the writer has seen, does something, and tells the writer.
-use Rattle.std.proofs.Common.{◌≡◌, ◌≢◌, ℕ, ◌<◌, Bool, true, false, List, [], ◌∷◌, ◌++◌, length, refl, sym, ap, ◌∙◌, subst, ⊎_elim, arith}
+use Rattle.std.proofs.Common.{◌≡◌, ◌≢◌, ℕ, ◌<◌, List, [], length, refl, sym, ap, ◌∙◌, subst, ⊎_elim}
 use Rattle.std.proofs.lemmas.Bool.{cases_eq}
 use Rattle.atomic_table.specs.Seated.{TableId}
 use Rattle.plcr_machine.specs.declared.entry.Entry.{Entry}
@@ -9,11 +9,10 @@ use Rattle.plcr_machine.specs.Parts.{own_entries, owner_entries}
 use Rattle.plcr_machine.specs.Changes.{TakesFirst}
 use Rattle.plcr_machine.proofs.ListsMade.{takes_same}
 use Rattle.plcr_nodes.specs.Entries.{WentOn}
-use Rattle.plcr_nodes.specs.Seeing.{AddsOthers, GoesOn}
 use Rattle.plcr_nodes.proofs.Seeing.{grows_again, own_of}
 use Rattle.plcr_imagelist.specs.States.{WriterState}
 use Rattle.plcr_imagelist.specs.Listing.{HasLists}
-use Rattle.plcr_imagelist.specs.Holds.{WalkerState, IsWalking}
+use Rattle.plcr_imagelist.specs.Holds.{WalkerState}
 use Rattle.plcr_imagelist.specs.Tellings.{note_of_writer, note_of_walker, IsWriterTold, IsWalkerTold}
 use Rattle.plcr_imagelist.proofs.Looking.{went_again}
 use Rattle.plcr_imagelist.proofs.Changed.{has_lists}
@@ -126,9 +125,9 @@ acting_alone table old olds r pass told last slot new news tokens within known w
     let knew : (k : ℕ) → k < w.passes → Grows (seen_in (slot_at olds k)) w.history = λ k below. placed_seen w k (slot_at olds k) (tokens.placed k below) in
     let others : (k : ℕ) → k < w.passes → k ≢ r → (own_entries k w'.history ≡ own_entries k w.history) × (own_entries k w.history ≡ own_entries k (seen_in (slot_at olds k))) =
     λ k below n.
-        let whole : own_entries k w'.history ≡ own_entries k (seen_in (slot_at olds k)) = all k (subst (λ m. k < m) (sym passes') below) ∙ ap (λ (s : Slot). own_entries k (seen_in s)) (put.others k n) in
-        let mid = own_between k (seen_in (slot_at olds k)) w.history w'.history (knew k below) grown whole in
-        (whole ∙ sym mid, mid) in
+    let whole : own_entries k w'.history ≡ own_entries k (seen_in (slot_at olds k)) = all k (subst (λ m. k < m) (sym passes') below) ∙ ap (λ (s : Slot). own_entries k (seen_in s)) (put.others k n) in
+    let mid = own_between k (seen_in (slot_at olds k)) w.history w'.history (knew k below) grown whole in
+    (whole ∙ sym mid, mid) in
     let alone : OneActs w.passes r w.history w'.history = record { grows = grown; owner = owner; others = λ k below n. (others k below n).0 } in
     let told_on : Grows w.history told.history = subst (λ (h : List Entry). Grows w.history h) (sym seen) acts.hears.told in
     let last_on : Grows last.history w'.history = subst (λ (h : List Entry). Grows last.history h) (sym history') t.told in

@@ -1,19 +1,17 @@
 -- The turns of a run one after the other: what was done for them so far, and where they stop.
-use Rattle.std.proofs.Common.{inl, inr, ◌≡◌, ℕ, zero, suc, ◌+◌, ◌<◌, ◌⊎◌, Bool, true, false, List, [], ◌∷◌, ◌++◌, Option, Some, None, Result, Ok, Err, length, take, drop, not, refl, sym, ap, subst, ◌∙◌, append-nil, append_assoc, take-append-drop, arith}
-use Rattle.std.specs.Prelude.{slice_get, All}
+use Rattle.std.proofs.Common.{inl, inr, ◌≡◌, ℕ, zero, suc, ◌+◌, ◌⊎◌, List, [], ◌∷◌, ◌++◌, Some, Result, Ok, Err, length, take, drop, refl, sym, ap, subst, ◌∙◌, append-nil, take-append-drop}
+use Rattle.std.specs.Prelude.{slice_get}
 use Rattle.std.specs.Option.{option_map}
 use Rattle.std.proofs.Math.Seq.{take-length}
 use Rattle.std.proofs.lemmas.Grind.{flat_map-append}
 use Rattle.plcr_base.specs.Told.{Gains}
-use Rattle.plcr_machine.specs.Events.{changes_in}
 use Rattle.plcr_script.specs.declared.statements.Statement.{Statement}
 use Rattle.plcr_script.specs.declared.statements.NumberedStatement.{NumberedStatement}
 use Rattle.plcr_script.specs.Scripts.{ScriptValue, line_at, statement_at}
-use Rattle.plcr_script.specs.Lawful.{IsFitStatement, IsLawful}
-use Rattle.plcr_script.specs.Places.{in_behind, is_in_behind, is_misplaced, HasPass}
+use Rattle.plcr_script.specs.Places.{in_behind, is_in_behind}
 use Rattle.plcr_script.specs.Meanings.{Meanings}
 use Rattle.plcr_script.specs.RunStates.{State, is_in, first_state}
-use Rattle.plcr_script.specs.RunTurns.{Turn, turn_of}
+use Rattle.plcr_script.specs.RunTurns.{turn_of}
 use Rattle.plcr_script.specs.Run.{NumberedTurn, turns_from, run_of, state_after, kept_by, log_of}
 use Rattle.plcr_script.specs.RunLaws.{state_behind}
 use Rattle.plcr_script.proofs.PrefixRuns.{states_go_on}
@@ -29,7 +27,7 @@ use Rattle.plcr_run.specs.declared.slots.Slot.{Slot}
 use Rattle.plcr_run.specs.declared.writing.Writing.{Writing}
 use Rattle.plcr_run.specs.inner.Slots.{slot_at}
 use Rattle.plcr_run.specs.inner.Tokens.{writer_of, IsAll, place_in, StateIs}
-use Rattle.plcr_run.specs.inner.Stepping.{IsUnwritten, StepEnds, StepLeaves, StepIs, Takes, Steps, MovesOnly, will_change}
+use Rattle.plcr_run.specs.inner.Stepping.{IsUnwritten, StepEnds, StepIs, Steps, MovesOnly, will_change}
 use Rattle.plcr_run.specs.inner.Running.{IsFresh, RunDone, RunStopped, StoppedBehind}
 use Rattle.plcr_run.specs.Runs.{run_behind, IsDone, IsStopped, CannotKeep, CannotLog, line_of}
 

@@ -5,7 +5,6 @@ use Rattle.plcr_script.specs.Places.{in_behind}
 use Rattle.plcr_machine.specs.declared.change.Change.{Change}
 use Rattle.plcr_machine.specs.declared.entry.Entry.TheVariants.{Count}
 use Rattle.plcr_machine.specs.Events.{Event, Changed, Noted, changes_in}
-use Rattle.plcr_machine.proofs.Cases.{by_cases}
 use Rattle.plcr_script.specs.declared.statements.Statement.{Statement}
 use Rattle.plcr_script.specs.declared.statements.Statement.TheVariants as statements
 use Rattle.plcr_script.specs.declared.outcomes.Outcome.{Outcome}

@@ -1,18 +1,15 @@
 -- Turns one after the other, and the end of a script.
-use Rattle.std.proofs.Common.{◌≡◌, ◌≢◌, ℕ, zero, suc, ◌+◌, ◌<◌, ◌≤◌, Bool, true, false, List, [], ◌∷◌, ◌++◌, length, Option, Some, None, cond, eqb, ltb, refl, sym, ap, ◌∙◌, subst, ⊎_elim, inl, inr, arith, ne_eqb}
-use Rattle.std.proofs.lemmas.Bool.{cases_Bool, cases_eq, lt-ltb, le-ltb, ltb-true, ltb-false, eqb-true, eqb-false}
+use Rattle.std.proofs.Common.{◌≡◌, ◌≢◌, ℕ, suc, ◌+◌, ◌<◌, true, false, List, length, cond, eqb, ltb, refl, sym, ap, ◌∙◌, subst, ⊎_elim, arith}
+use Rattle.std.proofs.lemmas.Bool.{cases_eq, lt-ltb, le-ltb, ltb-true, ltb-false, eqb-true, eqb-false}
 use Rattle.atomic_table.specs.Seated.{TableId}
-use Rattle.plcr_machine.specs.declared.entry.Entry.{Entry}
-use Rattle.plcr_machine.specs.Events.{Event, events_of}
-use Rattle.plcr_machine.proofs.Cases.{eqb_same, by_cases}
-use Rattle.plcr_imagelist.specs.States.{WriterState}
+use Rattle.plcr_machine.proofs.Cases.{by_cases}
 use Rattle.plcr_script.specs.RunStates as states
 use Rattle.plcr_script.specs.RunStates.{Place, State, placed, is_in, left, leaves, all_left, entered, entered_if_out}
 use Rattle.plcr_run.specs.declared.slots.Slot.{Slot}
 use Rattle.plcr_run.specs.declared.slots.Slot.TheVariants.{Out, In, Away}
 use Rattle.plcr_run.specs.declared.writing.Writing.{Writing}
 use Rattle.plcr_run.specs.inner.Slots.{slot_at, is_out_slot, IsOutSlot, IsInSlot, IsOutAt, IsInAt}
-use Rattle.plcr_run.specs.inner.Tokens.{writer_of, AreTokens, IsPlaced, IsAll, place_in, StateIs, Goes}
+use Rattle.plcr_run.specs.inner.Tokens.{writer_of, AreTokens, IsPlaced, place_in, StateIs, Goes}
 use Rattle.plcr_run.specs.inner.Ending.{left_below, AreOut}
 
 -- one after the other

@@ -1,5 +1,5 @@
 -- The end of a script: the open change is finished, and each pass meets the writer.
-use Rattle.std.proofs.Common.{◌≡◌, ◌≢◌, ℕ, zero, suc, ◌+◌, ◌<◌, ◌≤◌, Bool, true, false, List, [], ◌∷◌, ◌++◌, length, length-append, append-nil, take, drop, Option, Some, None, get_or, cond, eqb, refl, sym, ap, ◌∙◌, subst, ⊎_elim, inl, inr, arith}
+use Rattle.std.proofs.Common.{◌≡◌, ℕ, zero, suc, ◌<◌, ◌≤◌, true, List, [], ◌∷◌, ◌++◌, length, length-append, append-nil, take, drop, Option, eqb, refl, sym, ap, ◌∙◌, subst, ⊎_elim, arith}
 use Rattle.std.proofs.lemmas.Bool.{cases_eq, or_right}
 use Rattle.std.proofs.lemmas.List.{length-take, drop_all, take_all}
 use Rattle.atomic_table.specs.Seated.{TableId}
@@ -22,13 +22,13 @@ use Rattle.plcr_imagelist.proofs.Looking.{went_again}
 use Rattle.plcr_script.specs.RunStates as states
 use Rattle.plcr_script.specs.RunStates.{State, ended, finished, all_left, steps, steps_left}
 use Rattle.plcr_run.specs.declared.slots.Slot.{Slot}
-use Rattle.plcr_run.specs.declared.slots.Slot.TheVariants.{Out, In, Away}
+use Rattle.plcr_run.specs.declared.slots.Slot.TheVariants.{Out}
 use Rattle.plcr_run.specs.declared.writing.Writing.{Writing}
 use Rattle.plcr_run.specs.declared.writing.Writing.TheVariants.{Resting, Changing}
-use Rattle.plcr_run.specs.inner.Slots.{slot_at, IsOutSlot, IsOutAt}
-use Rattle.plcr_run.specs.inner.Tokens.{writer_of, AreTokens, IsPlaced, IsKnown, IsAll, seen_in, opened_by, opened_in, StateIs, Goes}
+use Rattle.plcr_run.specs.inner.Slots.{slot_at}
+use Rattle.plcr_run.specs.inner.Tokens.{writer_of, AreTokens, IsPlaced, IsAll, seen_in, opened_by, Goes}
 use Rattle.plcr_run.specs.inner.Changes.{IsSteppedThrough}
-use Rattle.plcr_run.specs.inner.Ending.{left_below, AreOut, finished_state, HasMet, EndsIn}
+use Rattle.plcr_run.specs.inner.Ending.{left_below, finished_state, HasMet, EndsIn}
 use Rattle.plcr_run.proofs.Between.{own_between, went_same}
 use Rattle.plcr_run.proofs.Acting.{placed_seen}
 use Rattle.plcr_run.proofs.Stepped.{through_made, through_went}
@@ -38,17 +38,19 @@ use Rattle.plcr_run.proofs.WriterTurned.{tokens_writer, alone_writer}
 pub finish_goes : (table : TableId) (change : ChangeState) (writer : WriterState) (slots : List Slot) → IsSteppedThrough change writer → IsAtRest writer → AreTokens table (Changing change) slots
     → AreTokens table (Resting writer) slots × Goes (Changing change) slots finished_state (Resting writer) slots
 finish_goes table change writer slots t rest tokens =
-    let went = through_went change writer t in
-    (tokens_writer table (Changing change) (Resting writer) slots tokens went (has_lists writer rest.known rest.first) rest, record {
-       sizes = (went.nodes, went.passes);
-       back = λ all. (alone_writer table (Changing change) (Resting writer) slots tokens went all).0;
-       state = λ all state is.
-           let o = (alone_writer table (Changing change) (Resting writer) slots tokens went all).1 in
-           let m = through_made change writer writer.history tokens.lists.known t o ([], refl) in
-           let events : events_of writer.names writer.history ≡ finished state.opened state.events =
-           m.1 ∙ ap (λ n. steps (opened_by change) n (events_of change.writer.names change.writer.history)) m.0 ∙ (λ i. finished (is.opened i) (is.events i)) in
-           record { events = events; opened = refl; places = λ k below. is.places k (subst (λ m. k < m) went.passes below) };
-     })
+    let went = through_went change writer t in (
+      tokens_writer table (Changing change) (Resting writer) slots tokens went (has_lists writer rest.known rest.first) rest,
+      record {
+        sizes = (went.nodes, went.passes);
+        back = λ all. (alone_writer table (Changing change) (Resting writer) slots tokens went all).0;
+        state = λ all state is.
+            let o = (alone_writer table (Changing change) (Resting writer) slots tokens went all).1 in
+            let m = through_made change writer writer.history tokens.lists.known t o ([], refl) in
+            let events : events_of writer.names writer.history ≡ finished state.opened state.events =
+            m.1 ∙ ap (λ n. steps (opened_by change) n (events_of change.writer.names change.writer.history)) m.0 ∙ (λ i. finished (is.opened i) (is.events i)) in
+            record { events = events; opened = refl; places = λ k below. is.places k (subst (λ m. k < m) went.passes below) };
+      },
+    )
 
 -- nothing was open
 pub rest_goes : (writer : WriterState) (slots : List Slot) → Goes (Resting writer) slots finished_state (Resting writer) slots

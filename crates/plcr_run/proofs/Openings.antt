@@ -1,25 +1,21 @@
 -- The list that is opened for a run.
-use Rattle.std.proofs.Common.{◌≡◌, ◌⊎◌, inl, inr, ℕ, zero, suc, ◌+◌, ◌<◌, ◌≤◌, Bool, true, false, List, [], ◌∷◌, ◌++◌, map, length, length-append, get_or, leb, refl, sym, ap, subst, ◌∙◌, ⊎_elim, arith}
+use Rattle.std.proofs.Common.{◌≡◌, ◌⊎◌, inl, inr, ℕ, zero, suc, ◌<◌, ◌≤◌, true, false, List, [], ◌∷◌, ◌++◌, map, length, length-append, get_or, leb, refl, sym, ap, subst, ◌∙◌, ⊎_elim, arith}
 use Rattle.std.proofs.lemmas.List.{map-append, length-map}
 use Rattle.std.proofs.lemmas.Bool.{cases_eq, cases_Bool, leb-true, leb-false}
 use Rattle.atomic_table.specs.Seated.{TableId}
-use Rattle.plcr_machine.specs.declared.limits.TheConstants.{MOST_NODES, MOST_PASSES}
 use Rattle.plcr_machine.specs.Histories.{IsHistory}
 use Rattle.plcr_imagelist.specs.States.{WriterState, IsAtRest}
-use Rattle.plcr_imagelist.specs.Holds.{WalkerState}
 use Rattle.plcr_imagelist.specs.Opening.{opened_writer, opened_walker, opened_walkers}
 use Rattle.plcr_imagelist.proofs.Changed.{has_lists}
 use Rattle.plcr_script.specs.Scripts.{ScriptValue}
 use Rattle.plcr_script.specs.Lawful.{AreSizes}
-use Rattle.plcr_script.specs.RunStates as states
-use Rattle.plcr_script.specs.RunStates.{is_in, first_state}
+use Rattle.plcr_script.specs.RunStates.{is_in}
 use Rattle.plcr_run.specs.declared.scripts.Opened.{Opened}
 use Rattle.plcr_run.specs.declared.slots.Slot.{Slot}
-use Rattle.plcr_run.specs.declared.slots.Slot.TheVariants.{Out, In, Away}
-use Rattle.plcr_run.specs.declared.writing.Writing.{Writing}
+use Rattle.plcr_run.specs.declared.slots.Slot.TheVariants.{Out, Away}
 use Rattle.plcr_run.specs.declared.writing.Writing.TheVariants.{Resting}
 use Rattle.plcr_run.specs.inner.Slots.{slot_at}
-use Rattle.plcr_run.specs.inner.Tokens.{IsPlaced, AreTokens, place_in, StateIs}
+use Rattle.plcr_run.specs.inner.Tokens.{IsPlaced, AreTokens, place_in}
 use Rattle.plcr_run.specs.inner.Opening.{IsOpened}
 use Rattle.plcr_run.specs.inner.Running.{IsFresh}
 

@@ -1,43 +1,40 @@
 -- The steps of the writer, where a later history is known to have no more of what passes did.
-use Rattle.std.proofs.Common.{◌≡◌, ◌≢◌, ℕ, zero, suc, ◌+◌, ◌*◌, ◌-◌, ◌<◌, ◌≤◌, Bool, true, false, List, [], ◌∷◌, ◌++◌, map, length, Option, Some, None, cond, eqb, leb, ltb, refl, sym, ap, ◌∙◌, subst, ⊎_elim, inl, inr, arith, ne_eqb, eq-eqb}
-use Rattle.std.proofs.lemmas.Bool.{cases_Bool, cases_eq, lt-ltb, le-ltb}
+use Rattle.std.proofs.Common.{◌≡◌, ℕ, zero, suc, ◌+◌, ◌<◌, Bool, true, false, List, [], ◌∷◌, length, cond, eqb, ltb, refl, sym, ap, ◌∙◌, subst, ⊎_elim, arith, ne_eqb, eq-eqb}
+use Rattle.std.proofs.lemmas.Bool.{cases_eq, lt-ltb, le-ltb}
 use Rattle.std.specs.Prelude.{◌==◌, if◌then◌else◌}
 use Rattle.std.proofs.lemmas.List.{length-map}
-use Rattle.atomic_table.specs.Seated.{TableId}
 use Rattle.plcr_machine.specs.declared.image.Image.{Image}
 use Rattle.plcr_machine.specs.declared.entry.Entry.{Entry}
 use Rattle.plcr_machine.specs.declared.entry.Entry.TheVariants.{Load, Unload, Count, Look}
 use Rattle.plcr_machine.specs.declared.change.Named.{Named}
 use Rattle.plcr_machine.specs.declared.change.Change.{Change}
-use Rattle.plcr_machine.specs.declared.change.Change.TheVariants.{Loads as LoadsNamed, Unloads as UnloadsFirst}
-use Rattle.plcr_machine.specs.Lists.{Grows, live, loads, changes}
-use Rattle.plcr_machine.specs.Passes.{is_announced, stamp_of, seen_by, counts, announced_count, count_below}
+use Rattle.plcr_machine.specs.declared.change.Change.TheVariants.{Unloads as UnloadsFirst}
+use Rattle.plcr_machine.specs.Lists.{Grows, live, loads}
+use Rattle.plcr_machine.specs.Passes.{is_announced, stamp_of, seen_by, announced_count}
 use Rattle.plcr_machine.specs.Nodes.{is_free, waiting_count}
-use Rattle.plcr_machine.specs.Histories.{IsLegal, IsHistory}
-use Rattle.plcr_machine.specs.Parts.{own_entries, owner_entries}
-use Rattle.plcr_machine.specs.Changes.{named, all_named, TakesFirst, changes_of, header_at, list_of}
-use Rattle.plcr_machine.specs.Events.{Event, Changed, Noted, events_of, changes_in, noted_in, held, looks, looked_at}
-use Rattle.plcr_machine.proofs.Cases.{by_cases, not_both}
+use Rattle.plcr_machine.specs.Histories.{IsHistory}
+use Rattle.plcr_machine.specs.Parts.{own_entries}
+use Rattle.plcr_machine.specs.Changes.{named, header_at, list_of}
+use Rattle.plcr_machine.specs.Events.{Event, Changed, Noted, events_of, changes_in, looked_at}
+use Rattle.plcr_machine.proofs.Cases.{not_both}
 use Rattle.plcr_machine.proofs.Freedom.{live_apart}
 use Rattle.plcr_machine.proofs.Counted.{none_counted, counted_none}
-use Rattle.plcr_machine.proofs.ListsMade.{changes_of-length, lists_made}
-use Rattle.plcr_machine.proofs.EventsMade.{events-changes, events-counts, events-announced, held_waiting, load_events, look_events}
-use Rattle.plcr_machine.proofs.Insiders.{count_below-same}
+use Rattle.plcr_machine.proofs.ListsMade.{lists_made}
+use Rattle.plcr_machine.proofs.EventsMade.{events-changes, held_waiting, load_events}
 use Rattle.plcr_nodes.specs.Entries.{WentOn}
-use Rattle.plcr_nodes.specs.Seeing.{AddsOthers, GoesOn}
 use Rattle.plcr_nodes.proofs.Seeing.{grows_again}
 use Rattle.plcr_imagelist.specs.Finding.{NoneFree, IsFreeIn}
 use Rattle.plcr_imagelist.specs.States.{WriterState, Doing, Loads, Unloads, ChangeState, change_step, steps_of}
-use Rattle.plcr_imagelist.specs.Changes.{WriterSeesMore, IsLookedAt, Looks, IsCountedAt, IsLoadedAt, IsUnloadedAt, IsChangedAt, FindsNode, AtOnce, AfterLooks}
+use Rattle.plcr_imagelist.specs.Changes.{WriterSeesMore, IsLookedAt, Looks, IsCountedAt, IsLoadedAt, IsUnloadedAt, IsChangedAt}
 use Rattle.plcr_imagelist.specs.Listing.{HasLists, change_of, writer_of as left_of}
 use Rattle.plcr_imagelist.specs.Steps.{MakesStore, Advances, IsStepped}
 use Rattle.plcr_imagelist.specs.declared.change.Progress.{Progress}
 use Rattle.plcr_imagelist.specs.declared.change.Progress.TheVariants.{More, Done}
 use Rattle.plcr_imagelist.proofs.Taking.{header_at-first}
-use Rattle.plcr_imagelist.proofs.Looking.{went_again, looks_grow}
+use Rattle.plcr_imagelist.proofs.Looking.{went_again}
 use Rattle.plcr_script.specs.RunChanges.{Plan}
 use Rattle.plcr_nodes.specs.declared.view.Store.{Store}
-use Rattle.plcr_script.specs.RunStates.{Opened, is_full, searched, stepped, steps}
+use Rattle.plcr_script.specs.RunStates.{is_full, stepped}
 use Rattle.plcr_run.specs.inner.Tokens.{opened_by, steps_before}
 use Rattle.plcr_run.proofs.Between.{went_same}
 use Rattle.plcr_run.proofs.Still.{OwnerActs, writer_still}
@@ -141,12 +138,14 @@ loaded_made old header name load node new top known k o on =
     let now : new ≡ w = (λ i. record (k.now i) { stores = new.stores }) ∙ (λ i. record old { history = entry ∷ saw.history i; names = name ∷ saw.names i; stores = new.stores }) in
     let events : events_of (name ∷ old.names) (entry ∷ old.history) ≡ Changed (change_of (Loads header name) load) ∷ events_of old.names old.history =
     subst (λ n. events_of (name ∷ old.names) (Load node n header ∷ old.history) ≡ Changed (change_of (Loads header name) n) ∷ events_of old.names old.history) (sym number)
-    (load_events old.nodes old.passes node header name old.names old.history known.legal known.named).1 in
-    (number, subst (λ (s : WriterState). StepMade old s (Changed (change_of (Loads header name) load) ∷ events_of old.names old.history) top) (sym now) (record {
-       made = events;
-       acts = owner_more old.passes entry old.history top o (record { none = λ j h. refl }) (subst (λ (h : List Entry). Grows (entry ∷ h) top) saw.history all);
-       named = ap suc known.named;
-     }))
+    (load_events old.nodes old.passes node header name old.names old.history known.legal known.named).1 in (
+      number,
+      subst (λ (s : WriterState). StepMade old s (Changed (change_of (Loads header name) load) ∷ events_of old.names old.history) top) (sym now) (record {
+        made = events;
+        acts = owner_more old.passes entry old.history top o (record { none = λ j h. refl }) (subst (λ (h : List Entry). Grows (entry ∷ h) top) saw.history all);
+        named = ap suc known.named;
+      }),
+    )
 
 -- the image was unlinked
 pub unloaded_went : (old : WriterState) (image : Image) (new : WriterState) → IsUnloadedAt old image new → WriterWent old new

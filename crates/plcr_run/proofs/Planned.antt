@@ -1,20 +1,18 @@
 -- What a run says of a load and of an unload, by what the writer knows.
-use Rattle.std.proofs.Common.{◌≡◌, ◌≢◌, ℕ, zero, suc, ◌+◌, ◌/◌, ◌<◌, ◌≤◌, Bool, true, false, List, [], ◌∷◌, ◌++◌, map, length, Option, Some, None, Result, Ok, Err, cond, eqb, leb, ltb, refl, sym, ap, ◌∙◌, subst, arith, eqb-true}
-use Rattle.std.proofs.lemmas.Bool.{lt-ltb, le-ltb, le-leb, lt-leb}
+use Rattle.std.proofs.Common.{◌≡◌, ◌≢◌, ℕ, suc, ◌+◌, ◌/◌, ◌<◌, ◌≤◌, false, List, [], ◌∷◌, length, Option, Some, None, Ok, Err, eqb, leb, ltb, refl, sym, ap, ◌∙◌, arith, eqb-true}
+use Rattle.std.proofs.lemmas.Bool.{lt-ltb, le-ltb, lt-leb}
 use Rattle.std.specs.Option.{option_map}
 use Rattle.std.specs.Prelude.{ok_or}
 use Rattle.plcr_base.specs.Chains.{passed}
 use Rattle.plcr_base.specs.declared.limits.TheConstants.{IMAGE_NAME_BYTES}
 use Rattle.plcr_machine.specs.declared.limits.TheConstants.{MOST_CHANGES}
 use Rattle.plcr_machine.specs.declared.image.Image.{Image}
-use Rattle.plcr_machine.specs.declared.entry.Entry.{Entry}
 use Rattle.plcr_machine.specs.declared.change.Named.{Named}
 use Rattle.plcr_machine.specs.declared.change.Change.{Change}
 use Rattle.plcr_machine.specs.declared.change.Change.TheVariants.{Loads as LoadsNamed, Unloads as UnloadsFirst}
 use Rattle.plcr_machine.specs.Lists.{live, loads, changes}
-use Rattle.plcr_machine.specs.Passes.{counts}
-use Rattle.plcr_machine.specs.Changes.{named, all_named, changes_of, list_of}
-use Rattle.plcr_machine.specs.Events.{Event, events_of, changes_in}
+use Rattle.plcr_machine.specs.Changes.{named, all_named, list_of}
+use Rattle.plcr_machine.specs.Events.{events_of, changes_in}
 use Rattle.plcr_machine.proofs.Cases.{by_cases}
 use Rattle.plcr_machine.proofs.Pace.{paced_rest}
 use Rattle.plcr_machine.proofs.Insiders.{counts_few}

@@ -1,16 +1,16 @@
 -- What a run leaves once its script has ended.
-use Rattle.std.proofs.Common.{◌≡◌, ℕ, ◌<◌, true, List, ◌++◌, length, take, drop, Option, Some, Result, Ok, Err, refl, sym, ap, subst, ◌∙◌, arith}
+use Rattle.std.proofs.Common.{◌≡◌, ℕ, List, ◌++◌, length, take, drop, Some, Result, Ok, Err, refl, sym, ap, subst, ◌∙◌, arith}
 use Rattle.std.specs.Prelude.{OnOk, OnErr}
 use Rattle.plcr_machine.specs.declared.change.Change.{Change}
 use Rattle.plcr_machine.specs.Histories.{IsHistory}
 use Rattle.plcr_machine.specs.Changes.{changes_of}
-use Rattle.plcr_machine.specs.Events.{Event, events_of, changes_in}
+use Rattle.plcr_machine.specs.Events.{events_of, changes_in}
 use Rattle.plcr_machine.proofs.EventsMade.{events-changes}
 use Rattle.plcr_imagelist.specs.States.{WriterState}
 use Rattle.plcr_script.specs.Scripts.{ScriptValue}
 use Rattle.plcr_script.specs.Meanings.{Meanings}
-use Rattle.plcr_script.specs.RunStates.{State, ended}
-use Rattle.plcr_script.specs.Run.{run_of, end_after, end_of, changes_after}
+use Rattle.plcr_script.specs.RunStates.{ended}
+use Rattle.plcr_script.specs.Run.{end_after, changes_after}
 use Rattle.plcr_script.specs.RunLaws.{state_behind, StoppedRunsArePrefixes}
 use Rattle.plcr_script.proofs.PrefixRuns.{ended_changes}
 use Rattle.plcr_command.specs.Seen.{Seen}
@@ -24,7 +24,7 @@ use Rattle.plcr_run.proofs.Meetings.{take_front}
 use Rattle.plcr_run.proofs.Openings.{opened_tokens, opened_fresh}
 use Rattle.plcr_run.specs.inner.Ending.{EndsIn}
 use Rattle.plcr_run.specs.inner.Running.{RunDone, RunStopped}
-use Rattle.plcr_run.specs.Past.{HasMetAll, LeavesWhole, LeavesPart, RanWhole, RanPart}
+use Rattle.plcr_run.specs.Past.{HasMetAll, RanWhole, RanPart}
 
 met_by : (script : ScriptValue) (writing : Writing) (slots : List Slot) (writer : WriterState) → (writer_of writing).nodes ≡ script.nodes → (writer_of writing).passes ≡ script.passes → EndsIn writing slots writer → HasMetAll script (Some writer) writer
 met_by script writing slots writer nodes passes e = record {

@@ -1,31 +1,26 @@
 -- Steps of the open change, and the turns of a run.
-use Rattle.std.proofs.Common.{◌≡◌, ◌≢◌, ℕ, zero, suc, ◌+◌, ◌-◌, ◌<◌, ◌≤◌, Bool, true, false, List, [], ◌∷◌, ◌++◌, length, Option, Some, None, cond, leb, refl, sym, ap, ◌∙◌, subst, ⊎_elim, inl, inr, arith}
+use Rattle.std.proofs.Common.{◌≡◌, ℕ, zero, suc, ◌+◌, ◌<◌, Bool, true, false, List, [], Some, None, cond, leb, refl, sym, ap, ◌∙◌, subst, arith}
 use Rattle.std.proofs.lemmas.Bool.{le-leb, lt-leb}
-use Rattle.std.specs.Prelude.{nat_le, ◌==◌, if◌then◌else◌}
 use Rattle.atomic_table.specs.Seated.{TableId}
 use Rattle.plcr_machine.specs.declared.entry.Entry.{Entry}
 use Rattle.plcr_machine.specs.Lists.{Grows}
 use Rattle.plcr_machine.specs.Histories.{IsHistory}
-use Rattle.plcr_machine.specs.Events.{Event, events_of}
+use Rattle.plcr_machine.specs.Events.{events_of}
 use Rattle.plcr_nodes.proofs.Seeing.{grows_again}
-use Rattle.plcr_imagelist.specs.declared.change.Progress.{Progress}
 use Rattle.plcr_imagelist.specs.declared.change.Progress.TheVariants.{More, Done}
-use Rattle.plcr_imagelist.specs.States.{WriterState, Doing, Loads, Unloads, ChangeState, IsAtRest, is_load, steps_of, change_step}
-use Rattle.plcr_imagelist.specs.Steps.{IsStepped}
+use Rattle.plcr_imagelist.specs.States.{WriterState, Doing, Loads, Unloads, ChangeState, IsAtRest, is_load, steps_of}
 use Rattle.plcr_imagelist.specs.Listing.{HasLists, change_of}
 use Rattle.plcr_imagelist.proofs.Changed.{has_lists}
 use Rattle.plcr_script.specs.declared.outcomes.Outcome.{Outcome}
 use Rattle.plcr_script.specs.declared.outcomes.Outcome.TheVariants as outcomes
-use Rattle.plcr_script.specs.RunChanges.{Plan, made_outcome}
-use Rattle.plcr_script.specs.RunStates.{Opened, Place, State, stepped, steps, steps_in, steps_left}
-use Rattle.plcr_script.specs.RunTurns.{Turn, where_open, comes_to, stepped_through, stepped_on, step_turn}
-use Rattle.plcr_run.specs.declared.slots.Slot.{Slot}
-use Rattle.plcr_run.specs.declared.writing.Writing.{Writing}
+use Rattle.plcr_script.specs.RunChanges.{made_outcome}
+use Rattle.plcr_script.specs.RunStates.{Place, stepped, steps, steps_left}
+use Rattle.plcr_script.specs.RunTurns.{where_open, stepped_through, stepped_on, step_turn}
 use Rattle.plcr_run.specs.declared.writing.Writing.TheVariants.{Resting, Changing}
-use Rattle.plcr_run.specs.inner.Tokens.{writer_of, IsGoing, steps_before, opened_by, opened_in}
+use Rattle.plcr_run.specs.inner.Tokens.{steps_before, opened_by}
 use Rattle.plcr_run.specs.inner.Changes.{MakesSteps, IsSteppedOn, IsSteppedThrough, WriterTurns, said_when_made}
 use Rattle.plcr_run.proofs.Still.{OwnerActs}
-use Rattle.plcr_run.proofs.Owning.{WriterWent, went_twice, StepMade, step_went, step_made, change_at}
+use Rattle.plcr_run.proofs.Owning.{WriterWent, went_twice, step_went, step_made, change_at}
 use Rattle.plcr_run.proofs.WriterWent.{steps_went, stepped_known}
 use Rattle.plcr_run.proofs.WriterTurned.{the_state, TurnIs, Knows, writer_turns, turn_by}
 

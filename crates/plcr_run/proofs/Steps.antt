@@ -1,16 +1,14 @@
 -- Each step of a pass, where a later history is known to have no more of what others did.
-use Rattle.std.proofs.Common.{◌≡◌, ◌≢◌, ℕ, zero, suc, ◌<◌, ◌≤◌, Bool, true, false, List, [], ◌∷◌, ◌++◌, length, cond, eqb, refl, sym, ap, ◌∙◌, subst, arith, ne_eqb}
+use Rattle.std.proofs.Common.{◌≡◌, ◌≢◌, ℕ, ◌≤◌, false, List, [], ◌∷◌, length, eqb, refl, sym, ap, ◌∙◌, subst, arith, ne_eqb}
 use Rattle.plcr_machine.specs.declared.entry.Entry.{Entry}
 use Rattle.plcr_machine.specs.declared.entry.Entry.TheVariants.{Announce, Enter, Leave, Retire}
 use Rattle.plcr_machine.specs.Lists.{Grows, loads}
 use Rattle.plcr_machine.specs.Passes.{counts}
 use Rattle.plcr_machine.specs.Histories.{IsHistory}
 use Rattle.plcr_machine.specs.Parts.{own_entries, owner_entries}
-use Rattle.plcr_machine.proofs.Growing.{counts-grows}
-use Rattle.plcr_nodes.specs.Entries.{WentOn}
-use Rattle.plcr_nodes.specs.Seeing.{AddsOthers, GoesOn}
+use Rattle.plcr_nodes.specs.Seeing.{GoesOn}
 use Rattle.plcr_nodes.proofs.Seeing.{grows_again, own_of}
-use Rattle.plcr_imagelist.specs.Holds.{WalkerState, HoldState, IsPassed, IsHeld, IsReleased, IsNext, IsWalking}
+use Rattle.plcr_imagelist.specs.Holds.{WalkerState, HoldState, IsPassed, IsHeld, IsReleased}
 use Rattle.plcr_imagelist.specs.Carrying.{OnlySees}
 use Rattle.plcr_run.proofs.Between.{went_same}
 use Rattle.plcr_run.proofs.Still.{OneActs, pass_still}
@@ -112,12 +110,13 @@ went_out r old new low high top number named released o on =
     let first = made_entry r w (Leave w.number) released.out top number named released.leave own1 o (grows_again released.out.history new.history top out on) in
     let mid : WalkerState = record w { history = Leave w.number ∷ w.history } in
     let retire : IsPassed mid (Retire w.number) new = subst (λ (s : WalkerState). IsPassed s (Retire w.number) new) first.1.now released.retire in
-    let second = made_entry r mid (Retire w.number) new top number named retire own2 first.1.acts on in
-    (released.high_is ∙ ap counts first.0,
-     record {
-       now = second.1.now ∙ (λ i. record w { history = Retire (number i) ∷ Leave (number i) ∷ w.history });
-       acts = subst (λ (s : WalkerState). OneActs w.passes r s.history top) (sym second.1.now) second.1.acts;
-     })
+    let second = made_entry r mid (Retire w.number) new top number named retire own2 first.1.acts on in (
+      released.high_is ∙ ap counts first.0,
+      record {
+        now = second.1.now ∙ (λ i. record w { history = Retire (number i) ∷ Leave (number i) ∷ w.history });
+        acts = subst (λ (s : WalkerState). OneActs w.passes r s.history top) (sym second.1.now) second.1.acts;
+      },
+    )
 
 -- a pass only saw, and nothing came
 pub only_saw : (r : ℕ) (old new : WalkerState) (top : List Entry) → old.number ≡ r → length old.names ≡ loads old.history

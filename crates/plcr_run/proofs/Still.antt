@@ -1,17 +1,12 @@
 -- Where a later history is known to have no more of what others did, what was seen between is what was there.
-use Rattle.std.proofs.Common.{◌≡◌, ◌≢◌, ℕ, ◌<◌, Bool, true, false, List, [], ◌∷◌, ◌++◌, length, cond, eqb, refl, sym, ap, ◌∙◌, subst, ⊎_elim, arith, ne_eqb}
+use Rattle.std.proofs.Common.{◌≡◌, ◌≢◌, ℕ, ◌<◌, List, sym, subst, ⊎_elim}
 use Rattle.std.proofs.lemmas.Bool.{cases_eq}
 use Rattle.plcr_machine.specs.declared.entry.Entry.{Entry}
-use Rattle.plcr_machine.specs.declared.entry.Entry.TheVariants.{Announce, Enter, Leave, Retire, Load, Unload, Count, Look}
-use Rattle.plcr_machine.specs.Lists.{Grows, loads}
-use Rattle.plcr_machine.specs.Histories.{IsLegal, IsHistory}
+use Rattle.plcr_machine.specs.Lists.{Grows}
+use Rattle.plcr_machine.specs.Histories.{IsLegal}
 use Rattle.plcr_machine.specs.Parts.{own_entries, owner_entries}
 use Rattle.plcr_machine.proofs.Makers.{nothing_else}
-use Rattle.plcr_machine.proofs.Cases.{eqb_same}
-use Rattle.plcr_nodes.specs.Entries.{among, WentOn}
-use Rattle.plcr_nodes.specs.Seeing.{AddsOthers, GoesOn}
-use Rattle.plcr_nodes.proofs.Seeing.{grows_again, own_of}
-use Rattle.plcr_run.proofs.Between.{own_between, owner_between, went_same}
+use Rattle.plcr_run.proofs.Between.{own_between, owner_between}
 
 -- A later history has no entry more of the writer, nor of a pass but this one
 pub record OneActs (passes r : ℕ) (now top : List Entry) : Type 0 where

@@ -1,7 +1,6 @@
 -- One step of a run: what was done with its file and its line, and the turn of its statement.
-use Rattle.std.proofs.Common.{inl, inr, ◌≡◌, ◌≢◌, ◌⊎◌, ℕ, zero, suc, ◌+◌, ◌<◌, Bool, true, false, List, [], ◌∷◌, ◌++◌, map, Option, None, Some, Result, Ok, Err, Bor, length, cond, eqb, refl, sym, ap, subst, ◌∙◌, arith, ⊎_elim, ne_eqb}
+use Rattle.std.proofs.Common.{inl, inr, ◌≡◌, ◌≢◌, ℕ, ◌<◌, true, false, List, [], ◌∷◌, Option, None, Result, Ok, Err, Bor, length, cond, refl, sym, ap, subst, ◌∙◌, ⊎_elim, ne_eqb}
 use Rattle.std.proofs.lemmas.Bool.{cases_eq}
-use Rattle.std.proofs.lemmas.List.{length-map}
 use Rattle.std.specs.Prelude.{◌==◌, if◌then◌else◌}
 use Rattle.std.specs.Io.KnownBytes.{append_known}
 use Rattle.plcr_base.specs.Causes.{Rose}
@@ -16,14 +15,12 @@ use Rattle.plcr_machine.specs.Events.{changes_in}
 use Rattle.plcr_machine.proofs.Cases.{eqb_same}
 use Rattle.plcr_macho.specs.Images.{Listed}
 use Rattle.plcr_imagelist.specs.Walk as walk
-use Rattle.plcr_imagelist.specs.Holds.{HoldState}
 use Rattle.plcr_script.specs.declared.outcomes.Outcome.{Outcome}
 use Rattle.plcr_script.specs.declared.outcomes.Outcome.TheVariants.{Reported}
 use Rattle.plcr_script.specs.Log.{log_line}
 use Rattle.plcr_script.specs.Contexts.{lent}
 use Rattle.plcr_script.specs.Meanings.{Meanings}
-use Rattle.plcr_script.specs.RunStates as states
-use Rattle.plcr_script.specs.RunStates.{Place, State, placed, is_in, met_in, entered_if_out, walked, walk_to_end, left, low_of, high_of}
+use Rattle.plcr_script.specs.RunStates.{Place, State, placed, is_in, met_in, entered_if_out, walked, walk_to_end, left}
 use Rattle.plcr_script.specs.RunTurns.{Turn, listed, reported, report_turn}
 use Rattle.plcr_command.specs.Seen.{Seen, seen}
 use Rattle.plcr_command.specs.Saving.{IsSaved, IsUnsaved}
@@ -37,8 +34,8 @@ use Rattle.plcr_run.specs.declared.writing.Writing.{Writing}
 use Rattle.plcr_run.specs.inner.Slots.{slot_at, IsInSlot, IsOutSlot, IsInAt, IsOutAt}
 use Rattle.plcr_run.specs.inner.Tokens.{writer_of, IsAll, place_in, StateIs, Goes, Turns, LeavesWith}
 use Rattle.plcr_run.specs.inner.Reports.{images_in, images_at}
-use Rattle.plcr_run.specs.inner.Stepping.{IsUnwritten, StepEnds, StepLeaves, StepIs, Takes, ReportEnds, will_change}
-use Rattle.plcr_run.proofs.Leaving.{goes_twice, goes_as, state_same, place_out, place_inside}
+use Rattle.plcr_run.specs.inner.Stepping.{IsUnwritten, StepEnds, StepLeaves, StepIs, Takes, ReportEnds}
+use Rattle.plcr_run.proofs.Leaving.{goes_twice, state_same, place_out, place_inside}
 use Rattle.plcr_run.proofs.Kept.{entering_keeps}
 
 -- a line was printed

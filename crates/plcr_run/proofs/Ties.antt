@@ -1,13 +1,12 @@
 -- What the history of the writer says of the state of a run, and what a walk meets by headers and names.
-use Rattle.std.proofs.Common.{◌≡◌, ◌≢◌, ℕ, zero, suc, ◌+◌, ◌-◌, ◌<◌, ◌≤◌, inl, inr, Bool, true, false, List, [], ◌∷◌, ◌++◌, map, length, length-append, Option, Some, None, Contains, refl, sym, ap, ◌∙◌, subst, ⊎_elim, arith, eqb, ne_eqb, cond}
+use Rattle.std.proofs.Common.{◌≡◌, ℕ, zero, suc, ◌+◌, ◌-◌, ◌<◌, ◌≤◌, inl, inr, Bool, true, false, List, [], ◌∷◌, ◌++◌, length, Option, Some, None, Contains, refl, sym, ap, ◌∙◌, subst, ⊎_elim, arith, ne_eqb}
 use Rattle.std.proofs.lemmas.Bool.{cases_Bool, cases_eq}
-use Rattle.std.proofs.lemmas.List.{map-append, length-map}
+use Rattle.std.proofs.lemmas.List.{map-append}
 use Rattle.plcr_machine.specs.declared.image.Image.{Image}
 use Rattle.plcr_machine.specs.declared.entry.Entry.{Entry}
 use Rattle.plcr_machine.specs.declared.entry.Entry.TheVariants.{Announce, Enter, Leave, Retire, Load, Unload, Count, Look}
 use Rattle.plcr_machine.specs.declared.change.Named.{Named}
 use Rattle.plcr_machine.specs.declared.change.Change.{Change}
-use Rattle.plcr_machine.specs.declared.change.Change.TheVariants.{Loads, Unloads}
 use Rattle.plcr_machine.specs.Lists.{Grows, load_number, loads, changes, list_after}
 use Rattle.plcr_machine.specs.Passes.{counts}
 use Rattle.plcr_machine.specs.Holds.{before_enter}
@@ -23,17 +22,15 @@ use Rattle.plcr_machine.proofs.ListsMade.{changes_of-length}
 use Rattle.plcr_machine.proofs.EventsMade.{events-changes, events-counts, events-before}
 use Rattle.plcr_nodes.proofs.Seeing.{grows_again}
 use Rattle.plcr_imagelist.specs.States.{WriterState}
-use Rattle.plcr_imagelist.specs.Listing.{HasLists}
 use Rattle.plcr_imagelist.specs.Holds.{WalkerState, HoldState, IsWalking, IsNext}
 use Rattle.plcr_imagelist.proofs.Sees.{met_few}
 use Rattle.plcr_script.specs.RunChanges.{loads_in}
 use Rattle.plcr_script.specs.RunStates as states
 use Rattle.plcr_script.specs.RunStates.{Place, State, placed, met_next, next, walk, walk_to_end}
 use Rattle.plcr_run.specs.declared.slots.Slot.{Slot}
-use Rattle.plcr_run.specs.declared.slots.Slot.TheVariants.{Out, In, Away}
 use Rattle.plcr_run.specs.declared.writing.Writing.{Writing}
 use Rattle.plcr_run.specs.declared.writing.Writing.TheVariants.{Resting, Changing}
-use Rattle.plcr_run.specs.inner.Slots.{slot_at, IsPut}
+use Rattle.plcr_run.specs.inner.Slots.{IsPut}
 use Rattle.plcr_run.specs.inner.Tokens.{writer_of, with_writer, place_in, opened_in, StateIs}
 use Rattle.plcr_run.specs.inner.Walks.{Meeting, IsFurther, IsToEnd}
 use Rattle.plcr_run.proofs.Still.{OneActs}

@@ -1,10 +1,9 @@
 -- The statements of a pass, each between two tellings, and the turns of a run.
-use Rattle.std.proofs.Common.{◌≡◌, ◌≢◌, ℕ, ◌<◌, Bool, true, false, List, [], ◌∷◌, ◌++◌, length, refl, sym, ap, ◌∙◌, subst, arith}
+use Rattle.std.proofs.Common.{◌≡◌, ℕ, ◌<◌, Bool, false, List, [], ◌∷◌, length, refl, sym, ap, ◌∙◌, subst, arith}
 use Rattle.std.proofs.lemmas.List.{length-map}
 use Rattle.atomic_table.specs.Seated.{TableId}
 use Rattle.plcr_machine.specs.declared.entry.Entry.{Entry}
 use Rattle.plcr_machine.specs.declared.entry.Entry.TheVariants.{Announce, Enter, Leave, Retire}
-use Rattle.plcr_machine.specs.declared.image.Image.{Image}
 use Rattle.plcr_machine.specs.declared.change.Named.{Named}
 use Rattle.plcr_machine.specs.Lists.{Grows, loads}
 use Rattle.plcr_machine.specs.Passes.{counts}
@@ -13,7 +12,6 @@ use Rattle.plcr_machine.specs.Parts.{own_entries}
 use Rattle.plcr_machine.specs.Histories.{IsHistory}
 use Rattle.plcr_machine.specs.Changes.{named, all_named, TakesFirst, changes_of}
 use Rattle.plcr_machine.specs.Events.{Event, Noted, events_of, changes_in, noted_in}
-use Rattle.plcr_nodes.specs.Entries.{WentOn}
 use Rattle.plcr_nodes.proofs.Seeing.{grows_again}
 use Rattle.plcr_imagelist.specs.States.{WriterState}
 use Rattle.plcr_imagelist.specs.Holds.{WalkerState, HoldState, IsWalking, IsHeld, IsReleased}
@@ -21,20 +19,19 @@ use Rattle.plcr_imagelist.specs.Carrying.{OnlySees}
 use Rattle.plcr_imagelist.specs.Walk.{IsSameWalk}
 use Rattle.plcr_imagelist.specs.Tellings.{note_of_writer, note_of_walker, IsWriterTold, IsWalkerTold, IsHoldTold}
 use Rattle.plcr_imagelist.proofs.Sees.{met_named}
-use Rattle.plcr_script.specs.declared.outcomes.Outcome.{Outcome}
 use Rattle.plcr_script.specs.declared.outcomes.Outcome.TheVariants as outcomes
 use Rattle.plcr_script.specs.RunStates as states
 use Rattle.plcr_script.specs.RunStates.{Place, State, entered, met_in, has_ended, walk, walked, walk_to_end, left, low_of, high_of}
 use Rattle.plcr_script.specs.RunTurns.{walk_turn}
 use Rattle.plcr_run.specs.declared.slots.Slot.{Slot}
-use Rattle.plcr_run.specs.declared.slots.Slot.TheVariants.{Out, In, Away}
+use Rattle.plcr_run.specs.declared.slots.Slot.TheVariants.{Out, In}
 use Rattle.plcr_run.specs.declared.writing.Writing.{Writing}
 use Rattle.plcr_run.specs.inner.Slots.{slot_at, IsPut}
 use Rattle.plcr_run.specs.inner.Tokens.{writer_of, with_writer, IsGoing, seen_in, IsKnown, IsPlaced, AreTokens, IsAll, place_in, StateIs, Goes, Turns, LeavesWith}
 use Rattle.plcr_run.specs.inner.Walks.{IsFurther, IsToEnd}
 use Rattle.plcr_run.proofs.Still.{OneActs}
-use Rattle.plcr_run.proofs.Steps.{WentIn, went_in, WentOut, went_out, only_saw}
-use Rattle.plcr_run.proofs.Acting.{IsActing, tokens_acting, ActsAlone, acting_alone, ToldAll, told_all}
+use Rattle.plcr_run.proofs.Steps.{went_in, WentOut, went_out, only_saw}
+use Rattle.plcr_run.proofs.Acting.{IsActing, tokens_acting, ActsAlone, acting_alone, told_all}
 use Rattle.plcr_run.proofs.Ties.{place_of, MeetsSame, further_same, EndsSame, to_end_same, state_placed, state_changes, state_counts, state_low}
 
 -- the pass of a slot, as the tokens know it
@@ -74,11 +71,12 @@ pub record EnterSteps (table : TableId) (old : Writing) (olds : List Slot) (r : 
   pub put : IsPut olds news r (In hold)
 
 held_numbers : (told : WalkerState) (hold : HoldState) → IsHeld told hold → (hold.walker.table ≡ told.table) × (hold.walker.nodes ≡ told.nodes) × (hold.walker.passes ≡ told.passes) × (hold.walker.number ≡ told.number)
-held_numbers told hold h =
-    (ap (λ (s : WalkerState). s.table) h.enter.now ∙ ap (λ (s : WalkerState). s.table) h.announce.now,
-     ap (λ (s : WalkerState). s.nodes) h.enter.now ∙ ap (λ (s : WalkerState). s.nodes) h.announce.now,
-     ap (λ (s : WalkerState). s.passes) h.enter.now ∙ ap (λ (s : WalkerState). s.passes) h.announce.now,
-     ap (λ (s : WalkerState). s.number) h.enter.now ∙ ap (λ (s : WalkerState). s.number) h.announce.now)
+held_numbers told hold h = (
+  ap (λ (s : WalkerState). s.table) h.enter.now ∙ ap (λ (s : WalkerState). s.table) h.announce.now,
+  ap (λ (s : WalkerState). s.nodes) h.enter.now ∙ ap (λ (s : WalkerState). s.nodes) h.announce.now,
+  ap (λ (s : WalkerState). s.passes) h.enter.now ∙ ap (λ (s : WalkerState). s.passes) h.announce.now,
+  ap (λ (s : WalkerState). s.number) h.enter.now ∙ ap (λ (s : WalkerState). s.number) h.announce.now,
+)
 
 enter_acting : (table : TableId) (old : Writing) (olds : List Slot) (r : ℕ) (pass told : WalkerState) (hold : HoldState) (new : Writing) (news : List Slot) → EnterSteps table old olds r pass told hold new news → IsActing old r pass told hold.walker new
 enter_acting table old olds r pass told hold new news s = record {
@@ -96,10 +94,11 @@ enter_tokens table old olds r pass told hold new news s =
 
 -- what a pass knows once it was told
 told_knows : (old : WriterState) (r : ℕ) (pass told : WalkerState) → IsKnown old r pass → IsWalkerTold pass (note_of_writer old) told → (told.passes ≡ old.passes) × (told.number ≡ r) × IsHistory told.nodes told.passes told.history told.names
-told_knows old r pass told known t =
-    (ap (λ (s : WalkerState). s.passes) t.now ∙ known.passes,
-     ap (λ (s : WalkerState). s.number) t.now ∙ known.number,
-     subst (λ (s : WalkerState). IsHistory s.nodes s.passes s.history s.names) (sym t.now) t.sees.legal)
+told_knows old r pass told known t = (
+  ap (λ (s : WalkerState). s.passes) t.now ∙ known.passes,
+  ap (λ (s : WalkerState). s.number) t.now ∙ known.number,
+  subst (λ (s : WalkerState). IsHistory s.nodes s.passes s.history s.names) (sym t.now) t.sees.legal,
+)
 
 pub enter_goes : (table : TableId) (old : Writing) (olds : List Slot) (r : ℕ) (pass told : WalkerState) (hold : HoldState) (new : Writing) (news : List Slot) → EnterSteps table old olds r pass told hold new news → Goes old olds (entered r) new news
 enter_goes table old olds r pass told hold new news s =
@@ -184,17 +183,19 @@ knows_all table old olds r hold told last slot new news tokens within was hears 
     let known = known_in table old olds r hold tokens within was in
     let below : r < (writer_of old).passes = let count = tokens.count in omega arith in
     let a = acting_alone table old olds r hold.walker told.walker last slot new news tokens below known.0 (ap (λ (x : Slot). own_entries r (seen_in x)) was) acts put all in
-    let knows = told_knows (writer_of old) r hold.walker told.walker known.0 hears.walker in
-    (record {
-       all = a.all;
-       history = a.history;
-       names = a.names;
-       place = told_place hold told (writer_of old) known.1 hears sees;
-       number = knows.1;
-       legal = knows.2;
-       first = subst (λ (h : List Entry). TakesFirst h) (sym a.history) tokens.lists.first;
-       acts = a.acts;
-     }, a.on)
+    let knows = told_knows (writer_of old) r hold.walker told.walker known.0 hears.walker in (
+      record {
+        all = a.all;
+        history = a.history;
+        names = a.names;
+        place = told_place hold told (writer_of old) known.1 hears sees;
+        number = knows.1;
+        legal = knows.2;
+        first = subst (λ (h : List Entry). TakesFirst h) (sym a.history) tokens.lists.first;
+        acts = a.acts;
+      },
+      a.on,
+    )
 
 met_count : (h : HoldState) (place : Place) → place_of h ≡ place → (length h.met ≡ length (met_in place)) × (h.ended ≡ has_ended place)
 met_count h place e =
@@ -210,11 +211,11 @@ walk_turns table old olds r most hold told last new news met ended s further met
     let walks : IsAll new news → MeetsSame told last most = λ all. let k = knows all in further_same r most told last (writer_of new).history k.0.number k.0.legal k.0.first further k.0.acts k.1 in
     let at : IsAll new news → (state : State) → StateIs old olds state → place_of last ≡ walk most (changes_in state.events) (state.places r) =
     λ all state is.
-        let k = (knows all).0 in
-        let below : r < (writer_of old).passes = let count = s.tokens.count in let le = s.within in omega arith in
-        let place : place_of told ≡ state.places r = k.place ∙ sym (ap place_in s.was) ∙ is.places r below in
-        let changed : changes_of told.walker.names told.walker.history ≡ changes_in state.events = (λ i. changes_of (k.names i) (k.history i)) ∙ sym (state_changes old olds state is) in
-        (walks all).place ∙ (λ i. walk most (changed i) (place i)) in
+    let k = (knows all).0 in
+    let below : r < (writer_of old).passes = let count = s.tokens.count in let le = s.within in omega arith in
+    let place : place_of told ≡ state.places r = k.place ∙ sym (ap place_in s.was) ∙ is.places r below in
+    let changed : changes_of told.walker.names told.walker.history ≡ changes_in state.events = (λ i. changes_of (k.names i) (k.history i)) ∙ sym (state_changes old olds state is) in
+    (walks all).place ∙ (λ i. walk most (changed i) (place i)) in
     record {
       goes = record {
         sizes = sizes;
@@ -257,8 +258,12 @@ leave_acting table old olds r hold told pass low high new news s =
       hears = s.hears.walker;
       grows = s.released.grows;
       went = s.released.went;
-      same = (ap (λ (w : WalkerState). w.table) t ∙ ap (λ (w : WalkerState). w.table) l, ap (λ (w : WalkerState). w.nodes) t ∙ ap (λ (w : WalkerState). w.nodes) l,
-        ap (λ (w : WalkerState). w.passes) t ∙ ap (λ (w : WalkerState). w.passes) l, ap (λ (w : WalkerState). w.number) t ∙ ap (λ (w : WalkerState). w.number) l);
+      same = (
+        ap (λ (w : WalkerState). w.table) t ∙ ap (λ (w : WalkerState). w.table) l,
+        ap (λ (w : WalkerState). w.nodes) t ∙ ap (λ (w : WalkerState). w.nodes) l,
+        ap (λ (w : WalkerState). w.passes) t ∙ ap (λ (w : WalkerState). w.passes) l,
+        ap (λ (w : WalkerState). w.number) t ∙ ap (λ (w : WalkerState). w.number) l,
+      );
       tells = s.tells;
       goes = s.goes;
     }
@@ -309,10 +314,11 @@ leave_tells table old olds r hold told pass low high new news met s met_is = λ 
     let o = comes_out table old olds r hold told pass low high new news s all in
     let k = o.knows in
     let below : r < (writer_of old).passes = let count = s.tokens.count in let le = s.within in omega arith in
-    let place : place_of told ≡ state.places r = k.place ∙ sym (ap place_in s.was) ∙ is.places r below in
-    (met_is ∙ (met_count told (state.places r) place).0,
-     s.released.low_is ∙ (λ i. counts (before_enter (k.number i) (k.history i))) ∙ sym (state_low old olds state r is),
-     o.high_is ∙ ap counts k.history ∙ sym (state_counts old olds state is))
+    let place : place_of told ≡ state.places r = k.place ∙ sym (ap place_in s.was) ∙ is.places r below in (
+      met_is ∙ (met_count told (state.places r) place).0,
+      s.released.low_is ∙ (λ i. counts (before_enter (k.number i) (k.history i))) ∙ sym (state_low old olds state r is),
+      o.high_is ∙ ap counts k.history ∙ sym (state_counts old olds state is),
+    )
 
 -- a walk whose images were read is where it was
 pub read_place : (s t : HoldState) → IsSameWalk s t → t.walker ≡ s.walker → place_of t ≡ place_of s

@@ -1,11 +1,10 @@
 -- Walks, call by call.
-use Rattle.std.proofs.Common.{◌≡◌, ℕ, zero, suc, ◌+◌, ◌<◌, ◌≤◌, Bool, true, false, List, [], ◌∷◌, ◌++◌, length, length-append, refl, sym, ap, ◌∙◌, subst, ⊎_elim, arith}
+use Rattle.std.proofs.Common.{◌≡◌, suc, true, false, List, [], ◌∷◌, length, length-append, refl, ap, ◌∙◌, ⊎_elim, arith}
 use Rattle.std.proofs.lemmas.Bool.{cases_Bool}
 use Rattle.plcr_machine.specs.declared.image.Image.{Image}
-use Rattle.plcr_imagelist.specs.Holds.{WalkerState, HoldState, IsWalking, IsNext}
+use Rattle.plcr_imagelist.specs.Holds.{HoldState, IsWalking, IsNext}
 use Rattle.plcr_imagelist.specs.Carrying.{OnlySees}
 use Rattle.plcr_imagelist.proofs.Sees.{sees_itself}
-use Rattle.plcr_run.specs.inner.Walks.{Meeting, IsFurther, IsToEnd}
 
 pub walk_starts : (s : HoldState) → IsWalking s → OnlySees s.walker s.walker
 walk_starts s w = sees_itself s.walker w.known w.short

@@ -1,8 +1,8 @@
 -- The statements of the writer, and the turns of a run.
-use Rattle.std.proofs.Common.{◌≡◌, ◌≢◌, ◌⊎◌, ℕ, zero, suc, ◌+◌, ◌-◌, ◌*◌, ◌/◌, ◌<◌, ◌≤◌, Bool, true, false, List, [], ◌∷◌, ◌++◌, map, length, Option, Some, None, Result, Ok, Err, cond, eqb, leb, refl, sym, ap, ◌∙◌, subst, ⊎_elim, inl, inr, arith, ne_eqb}
-use Rattle.std.proofs.lemmas.Bool.{cases_eq, leb-true, leb-false, cases_Bool}
+use Rattle.std.proofs.Common.{◌≡◌, ◌≢◌, ℕ, zero, suc, ◌+◌, ◌-◌, ◌*◌, ◌/◌, ◌<◌, ◌≤◌, true, false, List, [], ◌∷◌, length, Option, Some, None, Result, Ok, Err, cond, refl, sym, ap, ◌∙◌, subst, ⊎_elim, arith}
+use Rattle.std.proofs.lemmas.Bool.{cases_eq}
 use Rattle.std.proofs.lemmas.List.{length-map}
-use Rattle.std.specs.Prelude.{nat_le, ◌==◌, if◌then◌else◌}
+use Rattle.std.specs.Prelude.{if◌then◌else◌}
 use Rattle.atomic_table.specs.Seated.{TableId}
 use Rattle.plcr_base.specs.declared.limits.TheConstants.{IMAGE_NAME_BYTES}
 use Rattle.plcr_machine.specs.declared.limits.TheConstants.{MOST_CHANGES, COUNT_UNIT}
@@ -13,46 +13,45 @@ use Rattle.plcr_machine.specs.declared.change.Named.{Named}
 use Rattle.plcr_machine.specs.declared.change.Change.{Change}
 use Rattle.plcr_machine.specs.declared.change.Change.TheVariants.{Loads as LoadsNamed, Unloads as UnloadsFirst}
 use Rattle.plcr_machine.specs.Lists.{Grows, live, loads, changes}
-use Rattle.plcr_machine.specs.Passes.{announced_count, is_announced, count_below}
+use Rattle.plcr_machine.specs.Passes.{announced_count, is_announced}
 use Rattle.plcr_machine.specs.Parts.{own_entries}
 use Rattle.plcr_machine.specs.Histories.{IsHistory}
-use Rattle.plcr_machine.specs.Changes.{named, changes_of, list_of}
-use Rattle.plcr_machine.specs.Events.{Event, Changed, Noted, events_of, changes_in, noted_in, looks, looked_at}
+use Rattle.plcr_machine.specs.Changes.{named, list_of}
+use Rattle.plcr_machine.specs.Events.{Event, Changed, Noted, events_of, changes_in, noted_in, looks}
 use Rattle.plcr_machine.proofs.Insiders.{count_below-same}
 use Rattle.plcr_machine.proofs.ListsMade.{lists_made}
 use Rattle.plcr_machine.proofs.EventsMade.{events-changes, events-announced, look_events}
-use Rattle.plcr_nodes.specs.Entries.{WentOn}
 use Rattle.plcr_imagelist.specs.declared.refusals.LoadRefused.{LoadRefused}
 use Rattle.plcr_imagelist.specs.declared.refusals.LoadRefused.TheVariants.{Full, NameTooLong, Worn}
 use Rattle.plcr_imagelist.specs.declared.refusals.UnloadRefused.{UnloadRefused}
 use Rattle.plcr_imagelist.specs.declared.refusals.UnloadRefused.TheVariants as unload_refusals
-use Rattle.plcr_imagelist.specs.Finding.{NoneFree, IsFreeIn, first_with}
-use Rattle.plcr_imagelist.specs.States.{WriterState, Doing, Loads, Unloads, ChangeState, IsAtRest, steps_of}
-use Rattle.plcr_imagelist.specs.Changes.{Looks, FindsNode, AtOnce, AfterLooks, IsBegunLoad, begun_load, IsLoadedAt, IsUnloadedAt, IsCountedAt}
-use Rattle.plcr_imagelist.specs.Refusing.{IsFull, RefusesFull}
+use Rattle.plcr_imagelist.specs.Finding.{first_with}
+use Rattle.plcr_imagelist.specs.States.{WriterState, Loads, Unloads, ChangeState, IsAtRest, steps_of}
+use Rattle.plcr_imagelist.specs.Changes.{Looks, FindsNode, AtOnce, AfterLooks, IsBegunLoad, begun_load}
+use Rattle.plcr_imagelist.specs.Refusing.{IsFull}
 use Rattle.plcr_imagelist.specs.Loading.{IsLoaded, IsUnloaded, LoadsOrRefuses, UnloadsOrRefuses}
-use Rattle.plcr_imagelist.specs.Steps.{BeginsLoad, BeginsUnload, begun_unload, IsStepped}
+use Rattle.plcr_imagelist.specs.Steps.{BeginsLoad, BeginsUnload, begun_unload}
 use Rattle.plcr_imagelist.specs.Listing.{HasLists, change_of}
 use Rattle.plcr_imagelist.proofs.Changed.{has_lists}
 use Rattle.plcr_imagelist.proofs.Looking.{looks_only}
 use Rattle.plcr_script.specs.declared.outcomes.Outcome.{Outcome}
 use Rattle.plcr_script.specs.declared.outcomes.Outcome.TheVariants as outcomes
 use Rattle.plcr_script.specs.Meanings.{Meanings}
-use Rattle.plcr_script.specs.RunChanges.{Plan, planned_load, planned_unload, made_outcome}
-use Rattle.plcr_script.specs.RunStates.{Opened, Place, State, is_full, searched, stepped, steps, steps_in, steps_left}
-use Rattle.plcr_script.specs.RunTurns.{Turn, load_turn, unload_turn, where_open, comes_to, full, with_node, unless_refused, made_whole, left_open, stepped_through, stepped_on, step_turn}
+use Rattle.plcr_script.specs.RunChanges.{Plan, planned_load, planned_unload}
+use Rattle.plcr_script.specs.RunStates.{Opened, Place, State, is_full, searched, stepped, steps, steps_left}
+use Rattle.plcr_script.specs.RunTurns.{Turn, load_turn, unload_turn, comes_to, full, with_node, unless_refused, made_whole, left_open}
 use Rattle.plcr_run.specs.declared.slots.Slot.{Slot}
 use Rattle.plcr_run.specs.declared.writing.Writing.{Writing}
 use Rattle.plcr_run.specs.declared.writing.Writing.TheVariants.{Resting, Changing}
 use Rattle.plcr_run.specs.inner.Slots.{slot_at}
-use Rattle.plcr_run.specs.inner.Tokens.{writer_of, IsGoing, seen_in, IsPlaced, AreTokens, IsAll, place_in, opened_by, opened_in, StateIs, Goes, Turns}
-use Rattle.plcr_run.specs.inner.Changes.{MakesSteps, IsSteppedOn, IsSteppedThrough, WriterTurns, refused_load, said_by_load, refused_unload, said_by_unload, said_when_made}
+use Rattle.plcr_run.specs.inner.Tokens.{writer_of, IsGoing, seen_in, AreTokens, IsAll, opened_by, opened_in, StateIs}
+use Rattle.plcr_run.specs.inner.Changes.{WriterTurns, refused_load, said_by_load, refused_unload, said_by_unload}
 use Rattle.plcr_run.proofs.Between.{own_between}
 use Rattle.plcr_run.proofs.Still.{OwnerActs}
 use Rattle.plcr_run.proofs.Acting.{placed_later, placed_seen}
-use Rattle.plcr_run.proofs.Owning.{WriterWent, went_nowhere, went_twice, StepMade, stepped_store, stepped_change, stepped_count, counted_made, changed_went, changed_made, loaded_made, unloaded_made, step_went, step_made, LooksMade, looks_went, looks_made, full_none, full_free, counted_went, loaded_went, unloaded_went, looked-announced}
+use Rattle.plcr_run.proofs.Owning.{WriterWent, stepped_store, stepped_change, stepped_count, counted_made, loaded_made, unloaded_made, LooksMade, looks_went, looks_made, full_none, full_free, counted_went, loaded_went, looked-announced}
 use Rattle.plcr_nodes.proofs.Seeing.{grows_again}
-use Rattle.plcr_run.proofs.WriterWent.{went_same_writer, short_or_long, finds_went, loads_went, unloads_went, steps_went, stepped_known}
+use Rattle.plcr_run.proofs.WriterWent.{went_same_writer, short_or_long, finds_went, loads_went, unloads_went}
 use Rattle.plcr_run.proofs.Planned.{changes_known, planned_worn, planned_long, planned_fine, plan_of, first_header, unplanned_worn, unplanned_none, unplanned_one}
 
 -- the tokens after the writer went on
@@ -96,18 +95,20 @@ writer_turns table old new turn said w lists going exact slots tokens =
     let n : ℕ = (writer_of old).nodes in
     let p : ℕ = (writer_of old).passes in
     let at : (state : State) → StateIs old slots state → the_state old state.places ≡ state = λ state is. λ i. record { events = is.events i; opened = is.opened i; places = state.places } in
-    let does : IsAll new slots → (state : State) → TurnIs (turn n p (the_state old state.places)) new state.places said = λ all state. exact state.places (record { lists = tokens.lists; going = tokens.going; acts = (alone_writer table old new slots tokens w all).1 }) in
-    (tokens_writer table old new slots tokens w lists (going tokens.going), record {
-       goes = record {
-         sizes = (w.nodes, w.passes);
-         back = λ all. (alone_writer table old new slots tokens w all).0;
-         state = λ all state is.
-             let t = does all state in
-             let after : (turn n p state).state ≡ the_state new state.places = ap (λ (s : State). (turn n p s).state) (sym (at state is)) ∙ t.state in
-             subst (λ (s : State). StateIs new slots s) (sym after) (record { events = refl; opened = refl; places = λ k below. is.places k (subst (λ m. k < m) w.passes below) });
-       };
-       outcome = λ all state is. (does all state).outcome ∙ ap (λ (s : State). (turn n p s).outcome) (at state is);
-     })
+    let does : IsAll new slots → (state : State) → TurnIs (turn n p (the_state old state.places)) new state.places said = λ all state. exact state.places (record { lists = tokens.lists; going = tokens.going; acts = (alone_writer table old new slots tokens w all).1 }) in (
+      tokens_writer table old new slots tokens w lists (going tokens.going),
+      record {
+        goes = record {
+          sizes = (w.nodes, w.passes);
+          back = λ all. (alone_writer table old new slots tokens w all).0;
+          state = λ all state is.
+              let t = does all state in
+              let after : (turn n p state).state ≡ the_state new state.places = ap (λ (s : State). (turn n p s).state) (sym (at state is)) ∙ t.state in
+              subst (λ (s : State). StateIs new slots s) (sym after) (record { events = refl; opened = refl; places = λ k below. is.places k (subst (λ m. k < m) w.passes below) });
+        };
+        outcome = λ all state is. (does all state).outcome ∙ ap (λ (s : State). (turn n p s).outcome) (at state is);
+      },
+    )
 
 -- all steps of a change
 steps_none : (plan : Plan) (more : ℕ) (events : List Event) → more ≤ plan.before → steps (record { plan = plan; made = 0 }) more events ≡ events
@@ -379,7 +380,6 @@ begin_err table process old new header name refused said none a rest is =
     planned_turn old.nodes old.passes left_open _ _ s (Resting new) places (refused_load refused) (planned_fine old header name k.going fresh short) (begins_turn old new header name refused places k.lists (a.begins fresh short) k.acts))
     (short_or_long (length name)))
     (cases_eq (changes old.history) MOST_CHANGES))))
-
 
 -- what a writer answers to an unload
 pub record UnloadAnswers (old : WriterState) (header : ℕ) (new : WriterState) (answer : Result ℕ UnloadRefused) : Type 0 where

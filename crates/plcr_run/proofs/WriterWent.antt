@@ -1,22 +1,18 @@
 -- That the writer only goes on, in each of its statements.
-use Rattle.std.proofs.Common.{◌≡◌, ◌≢◌, ◌⊎◌, ℕ, zero, suc, ◌+◌, ◌<◌, ◌≤◌, true, false, List, leb, Option, Some, None, Result, Ok, Err, refl, sym, ap, ◌∙◌, subst, ⊎_elim, inl, inr, arith}
+use Rattle.std.proofs.Common.{◌≡◌, ◌⊎◌, ℕ, zero, suc, ◌<◌, ◌≤◌, true, false, List, leb, Option, Some, None, Result, Ok, Err, sym, ap, subst, ⊎_elim, inl, inr}
 use Rattle.std.proofs.lemmas.Bool.{cases_eq, cases_Bool, leb-true, leb-false}
 use Rattle.plcr_base.specs.declared.limits.TheConstants.{IMAGE_NAME_BYTES}
-use Rattle.plcr_machine.specs.declared.limits.TheConstants.{MOST_CHANGES}
 use Rattle.plcr_machine.specs.declared.image.Image.{Image}
-use Rattle.plcr_machine.specs.Lists.{changes, live}
 use Rattle.plcr_machine.specs.Histories.{IsHistory}
 use Rattle.plcr_imagelist.specs.declared.refusals.LoadRefused.{LoadRefused}
 use Rattle.plcr_imagelist.specs.declared.refusals.LoadRefused.TheVariants.{Full, NameTooLong, Worn}
 use Rattle.plcr_imagelist.specs.declared.refusals.UnloadRefused.{UnloadRefused}
-use Rattle.plcr_imagelist.specs.declared.refusals.UnloadRefused.TheVariants as unload_refusals
 use Rattle.plcr_imagelist.specs.declared.change.Progress.{Progress}
 use Rattle.plcr_imagelist.specs.declared.change.Progress.TheVariants.{More, Done}
-use Rattle.plcr_imagelist.specs.Finding.{first_with}
-use Rattle.plcr_imagelist.specs.States.{WriterState, Doing, Loads, Unloads, ChangeState, steps_of, change_step}
+use Rattle.plcr_imagelist.specs.States.{WriterState, Doing, Loads, Unloads, ChangeState, change_step}
 use Rattle.plcr_imagelist.specs.Changes.{FindsNode, AtOnce, AfterLooks, IsChangedAt}
 use Rattle.plcr_imagelist.specs.Loading.{LoadsOrRefuses, UnloadsOrRefuses}
-use Rattle.plcr_imagelist.specs.Steps.{BeginsLoad, BeginsUnload, IsStepped}
+use Rattle.plcr_imagelist.specs.Steps.{IsStepped}
 use Rattle.plcr_imagelist.specs.Listing.{writer_of as left_of}
 use Rattle.plcr_run.specs.inner.Changes.{MakesSteps}
 use Rattle.plcr_run.proofs.Owning.{WriterWent, went_nowhere, went_twice, looks_went, counted_went, loaded_went, unloaded_went, step_went, stored_is}

@@ -38,11 +38,7 @@ pub(crate) fn load<P: Process>(
 }
 
 /// Unloads the first image with the header, unless that is refused: all steps of it.
-pub(crate) fn unload(
-    list: &ImageList,
-    writing: Writing,
-    header: u64,
-) -> (Writing, Outcome<'static>)
+pub(crate) fn unload(list: &ImageList, writing: Writing, header: u64) -> (Writing, Outcome<'static>)
     requires list { (writer_of writing).table ≡ list.now }
     ensures turns { WriterTurns list.now writing (λ nodes passes. unload_turn made_whole header) result.0 result.1 }
     ensures list { (writer_of result.0).table ≡ list.now }

@@ -49,12 +49,7 @@ pub fn save_walk<P: Process, D: Desk>(
 }
 
 /// The pass goes in, if it is out.
-pub(crate) fn enter_if_out(
-    list: &ImageList,
-    writing: &mut Writing,
-    slots: &mut [Slot],
-    pass: u32,
-)
+pub(crate) fn enter_if_out(list: &ImageList, writing: &mut Writing, slots: &mut [Slot], pass: u32)
     requires tokens { AreTokens list.now writing.old slots.old }
     requires place { pass < length slots.old }
     ensures tokens { AreTokens list.now writing.new slots.new }

@@ -197,7 +197,16 @@ fn report<P: Process, D: Desk, L: Sink>(
     ensures mark { L.mark lines.new ≡ L.mark lines.old }
 {
     enter_if_out(list, writing, slots, pass);
-    match save(process, context, list, writing, slots, pass, file_name(file), desk) {
+    match save(
+        process,
+        context,
+        list,
+        writing,
+        slots,
+        pass,
+        file_name(file),
+        desk,
+    ) {
         Err(Unsaved) => {
             print_unwritten(lines, file);
             Err(Stop::Unwritten)

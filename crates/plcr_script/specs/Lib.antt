@@ -12,9 +12,7 @@ pub mod Log
 pub mod Contexts
 pub mod Lawful
 pub mod Laws
-pub mod Changes
 pub mod Meanings
-pub mod Runs
 pub mod RunChanges
 pub mod RunStates
 pub mod RunTurns

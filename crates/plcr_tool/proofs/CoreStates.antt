@@ -25,8 +25,8 @@ use Rattle.plcr_core.specs.Cores.{thread_of, core_trouble, parts_in}
 use Rattle.plcr_core.specs.Reading.{IsAnswer}
 use Rattle.plcr_core.proofs.LaidOut.{cores_lie}
 use Rattle.plcr_tool.specs.Laws.{IsHandedState}
-use Rattle.plcr_tool.proofs.Stored.{dropped_bytes, four_small}
-use Rattle.plcr_tool.proofs.Threaded.{all_mapped, word_small}
+use Rattle.plcr_tool.proofs.Stored.{dropped_bytes, four_small, eight_small}
+use Rattle.plcr_tool.proofs.Threaded.{all_mapped}
 
 -- the first of some bytes are bytes
 taken_bytes : (n : ℕ) (xs : List ℕ) → IsBytes xs → IsBytes (take n xs)
@@ -45,6 +45,10 @@ file_piece file at n xs bytes h = of (leb (at + n) (length file)) h
     of false e = absurd cc
 
 -- the numbers of a state
+word_small : (at : ℕ) (xs : List ℕ) → IsBytes xs → u64_in xs at < 2 ^ 64
+unfolding u64_in number
+word_small at xs bytes = eight_small at xs bytes
+
 half_small : (at : ℕ) (xs : List ℕ) → IsBytes xs → u32_in xs at < 2 ^ 64
 unfolding u32_in number
 half_small at xs bytes = let small = four_small at xs bytes in omega (arith, small)

@@ -1,5 +1,5 @@
 -- A run that begins after the files were taken, as seen from before that.
-use Rattle.std.proofs.Common.{inl, inr, ◌≡◌, ◌≢◌, ℕ, List, [], ◌∷◌, Option, Some, None, refl, sym, ap, subst, ◌∙◌, arith, lit<}
+use Rattle.std.proofs.Common.{inl, inr, ◌≡◌, ℕ, List, Option, sym, ap, subst, ◌∙◌, arith}
 use Rattle.plcr_base.proofs.Appended.{append_nothing}
 use Rattle.plcr_io.specs.Desk.{Told}
 use Rattle.plcr_imagelist.specs.States.{WriterState}
@@ -11,15 +11,14 @@ use Rattle.plcr_command.specs.declared.refusals.Refusal.TheVariants.{CannotRead,
 use Rattle.plcr_command.specs.Seen.{Seen, seen}
 use Rattle.plcr_command.specs.Taking.{MadeNothing, TookSome}
 use Rattle.plcr_command.specs.Refusals.{IsRead}
-use Rattle.plcr_command.specs.Jobs.{IsJob, JobMisread}
+use Rattle.plcr_command.specs.Jobs.{IsJob}
 use Rattle.plcr_command.specs.Endings.{status_of}
 use Rattle.plcr_command.proofs.Kept.{kept_since, unwritten_since, unprinted_since}
 use Rattle.plcr_command.proofs.Takings.{read_after, read_some}
 use Rattle.plcr_run.specs.Runs.{IsStopped, line_of}
-use Rattle.plcr_run.specs.Past.{LeavesWhole, LeavesPart}
 use Rattle.plcr_tool.specs.declared.report.TheConstants.{ALONE}
 use Rattle.plcr_tool.specs.Report.{Reports, report_files}
-use Rattle.plcr_tool.specs.Past.{FilesLeft, ReportLeaves}
+use Rattle.plcr_tool.specs.Past.{ReportLeaves}
 use Rattle.plcr_tool.specs.inner.Report.{RunEnds, Leaves}
 
 stopped_since : (run : List NumberedTurn) (old mid new : Told) (lines lines' : Option (List ℕ)) (faults faults' : ℕ) → MadeNothing old mid → IsStopped run (seen mid lines faults) (seen new lines' faults') → IsStopped run (seen old lines faults) (seen new lines' faults')

@@ -38,7 +38,13 @@ fn main(rt: HostRuntime) -> ExitCode {
         Err(_) => Vec::new(rt.alloc()),
     };
     let mut past = None;
-    ExitCode::from(top::top(rt.alloc(), words.as_slice(), &mut desk, &mut lines, &mut past))
+    ExitCode::from(top::top(
+        rt.alloc(),
+        words.as_slice(),
+        &mut desk,
+        &mut lines,
+        &mut past,
+    ))
 }
 
 /// The words behind the program's name. An error that isn't want of memory, as for a word that isn't text,

@@ -1,5 +1,5 @@
 -- How the tokens of a script end.
-use Rattle.std.specs.Prelude.{◌≡◌, ◌≢◌, ℕ, ◌<◌, ◌≤◌, Bool, true, List, None, length, nat_lt, if◌then◌else◌}
+use Rattle.std.specs.Prelude.{◌≡◌, ℕ, ◌<◌, true, List, None, nat_lt, if◌then◌else◌}
 use Rattle.plcr_machine.specs.Lists.{Grows}
 use Rattle.plcr_machine.specs.Parts.{own_entries, owner_entries}
 use Rattle.plcr_machine.specs.Events.{events_of}

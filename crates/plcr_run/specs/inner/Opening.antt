@@ -1,5 +1,5 @@
 -- The list that is opened for a run, and how the run ends.
-use Rattle.std.specs.Prelude.{◌≡◌, ℕ, List, Option, map}
+use Rattle.std.specs.Prelude.{◌≡◌, ℕ, Option, map}
 use Rattle.plcr_imagelist.specs.States.{WriterState}
 use Rattle.plcr_imagelist.specs.Opening.{opened_writer, opened_walkers}
 use Rattle.plcr_script.specs.Lawful.{AreSizes}
@@ -7,7 +7,6 @@ use Rattle.plcr_script.specs.Scripts.{ScriptValue}
 use Rattle.plcr_script.specs.Meanings.{Meanings}
 use Rattle.plcr_command.specs.declared.endings.Ending.{Ending}
 use Rattle.plcr_command.specs.declared.endings.Ending.TheVariants.{Done, Misused, Refused, Stopped}
-use Rattle.plcr_command.specs.declared.refusals.Refusal.{Refusal}
 use Rattle.plcr_command.specs.declared.refusals.Refusal.TheVariants.{OutOfMemory}
 use Rattle.plcr_command.specs.Seen.{Seen}
 use Rattle.plcr_run.specs.declared.scripts.Opened.{Opened}

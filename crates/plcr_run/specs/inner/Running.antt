@@ -1,5 +1,5 @@
 -- The statements of a script so far.
-use Rattle.std.specs.Prelude.{◌≡◌, ℕ, ◌<◌, false, List, ◌++◌, take}
+use Rattle.std.specs.Prelude.{◌≡◌, ℕ, false, List, ◌++◌}
 use Rattle.plcr_base.specs.Told.{Gains}
 use Rattle.plcr_script.specs.Scripts.{ScriptValue}
 use Rattle.plcr_script.specs.declared.statements.NumberedStatement.{NumberedStatement}

@@ -1,5 +1,5 @@
 -- How one step of a run ends.
-use Rattle.std.specs.Prelude.{◌≡◌, ◌⊎◌, ℕ, ◌<◌, List, [], ◌∷◌, None, Result, Ok, Err, length, ⊤}
+use Rattle.std.specs.Prelude.{◌≡◌, ℕ, ◌<◌, List, [], ◌∷◌, None, Result, Ok, Err, length, ⊤}
 use Rattle.plcr_machine.specs.declared.change.Change.{Change}
 use Rattle.plcr_machine.specs.Events.{changes_in}
 use Rattle.plcr_script.specs.declared.statements.Statement.{Statement}

@@ -1,5 +1,5 @@
 -- How the run of a job ends.
-use Rattle.std.specs.Prelude.{◌≡◌, ◌≢◌, ℕ, List, [], ◌∷◌, Option, None}
+use Rattle.std.specs.Prelude.{◌≡◌, ℕ, List, [], ◌∷◌, Option, None}
 use Rattle.plcr_imagelist.specs.States.{WriterState}
 use Rattle.plcr_script.specs.Scripts.{ScriptValue}
 use Rattle.plcr_command.specs.declared.jobs.Job.{Job}

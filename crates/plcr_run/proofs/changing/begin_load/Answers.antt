@@ -1,8 +1,6 @@
-use Rattle.std.proofs.Common.{◌≡◌, ℕ, Option, None, Result, Ok, Err, sym, ◌∙◌, ap, subst}
+use Rattle.std.proofs.Common.{◌≡◌, None, Ok, Err, sym, ◌∙◌, subst}
 use Rattle.plcr_script.specs.Meanings.{meanings}
 use Rattle.plcr_script.specs.RunTurns.{load_turn, left_open}
-use Rattle.plcr_imagelist.specs.States.{WriterState, ChangeState}
-use Rattle.plcr_imagelist.specs.declared.refusals.LoadRefused.{LoadRefused}
 use Rattle.plcr_run.specs.declared.writing.Writing.{Writing}
 use Rattle.plcr_run.specs.declared.writing.Writing.TheVariants.{Resting}
 use Rattle.plcr_run.specs.inner.Changes.{WriterTurns}

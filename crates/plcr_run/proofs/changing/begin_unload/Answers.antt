@@ -1,4 +1,4 @@
-use Rattle.std.proofs.Common.{◌≡◌, Ok, Err, sym, ◌∙◌, ap, subst}
+use Rattle.std.proofs.Common.{Ok, Err, sym, subst}
 use Rattle.plcr_script.specs.RunTurns.{unload_turn, left_open}
 use Rattle.plcr_run.specs.declared.writing.Writing.{Writing}
 use Rattle.plcr_run.specs.declared.writing.Writing.TheVariants.{Resting}

@@ -1,4 +1,4 @@
-use Rattle.std.proofs.Common.{◌≡◌, ℕ, Option, None, sym, ◌∙◌, ap, subst}
+use Rattle.std.proofs.Common.{◌≡◌, None, sym, ◌∙◌, subst}
 use Rattle.plcr_script.specs.Meanings.{meanings}
 use Rattle.plcr_script.specs.RunTurns.{load_turn, made_whole}
 use Rattle.plcr_run.specs.declared.writing.Writing.{Writing}

@@ -1,4 +1,4 @@
-use Rattle.std.proofs.Common.{refl, ◌∙◌, add-one, ap}
+use Rattle.std.proofs.Common.{◌∙◌, add-one}
 use Rattle.plcr_run.proofs.changing.step_on.Goals as goal
 
 pub loop-turn-preserved : goal.loop-turn-preserved

@@ -1,7 +1,5 @@
-use Rattle.std.proofs.Common.{◌≡◌, ℕ, ◌<◌, refl, sym, ap, ◌∙◌, subst, length, List}
-use Rattle.plcr_imagelist.specs.States.{WriterState}
+use Rattle.std.proofs.Common.{◌≡◌, ◌<◌, sym, ap, ◌∙◌, subst, length, List}
 use Rattle.plcr_run.specs.declared.slots.Slot.{Slot}
-use Rattle.plcr_run.specs.declared.writing.Writing.TheVariants.{Resting}
 use Rattle.plcr_run.specs.inner.Tokens.{Goes}
 use Rattle.plcr_run.specs.inner.Ending.{left_below, HasMet}
 use Rattle.plcr_run.proofs.Meetings.{ends_in, take_front}

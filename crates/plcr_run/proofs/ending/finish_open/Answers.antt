@@ -1,7 +1,7 @@
 use Rattle.std.proofs.Common.{sym, subst, List}
 use Rattle.plcr_run.specs.declared.slots.Slot.{Slot}
 use Rattle.plcr_run.specs.declared.writing.Writing.{Writing}
-use Rattle.plcr_run.specs.declared.writing.Writing.TheVariants.{Resting, Changing}
+use Rattle.plcr_run.specs.declared.writing.Writing.TheVariants.{Resting}
 use Rattle.plcr_run.specs.inner.Tokens.{AreTokens, Goes}
 use Rattle.plcr_run.specs.inner.Ending.{finished_state}
 use Rattle.plcr_run.proofs.Meetings.{finish_goes, rest_goes}

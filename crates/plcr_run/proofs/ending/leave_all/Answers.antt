@@ -1,10 +1,6 @@
-use Rattle.std.proofs.Common.{◌≡◌, ℕ, suc, ◌<◌, false, true, not, Bool, add-one, refl, sym, ap, ◌∙◌, subst, length, List, arith, ⊎_elim}
-use Rattle.std.proofs.lemmas.Bool.{cases_eq}
-use Rattle.plcr_run.specs.declared.slots.Slot.{Slot}
-use Rattle.plcr_run.specs.declared.writing.Writing.{Writing}
-use Rattle.plcr_run.specs.inner.Slots.{slot_at, is_out_slot, IsOutSlot, IsOutAt}
-use Rattle.plcr_run.specs.inner.Tokens.{writer_of, AreTokens, Goes}
-use Rattle.plcr_run.specs.inner.Ending.{left_below, AreOut}
+use Rattle.std.proofs.Common.{◌<◌, add-one, refl, sym, ◌∙◌, arith}
+use Rattle.plcr_run.specs.inner.Slots.{slot_at}
+use Rattle.plcr_run.specs.inner.Tokens.{writer_of}
 use Rattle.plcr_run.proofs.Leaving.{goes_nowhere, none_left, leave_more, out_more, out_slot, slot_cases, slots_more}
 use Rattle.plcr_run.proofs.ending.leave_all.Goals as goal
 use Rattle.plcr_run.proofs.ending.leave_all.Goals.{then-not-is_out, else-not-is_out}

@@ -1,8 +1,7 @@
-use Rattle.std.proofs.Common.{◌≡◌, ℕ, suc, ◌<◌, ◌≤◌, ◌∷◌, [], ◌++◌, length, length-append, take, refl, sym, ap, ◌∙◌, subst, List, arith}
+use Rattle.std.proofs.Common.{◌≡◌, suc, ◌∷◌, [], ◌++◌, length, length-append, refl, sym, ap, ◌∙◌, subst, List, arith}
 use Rattle.std.proofs.Math.Seq.{take-length}
 use Rattle.plcr_run.specs.declared.slots.Slot.{Slot}
-use Rattle.plcr_run.specs.declared.slots.Slot.TheVariants.{Out, In, Away}
-use Rattle.plcr_run.specs.inner.Slots.{slot_at, IsOutSlot}
+use Rattle.plcr_run.specs.inner.Slots.{IsOutSlot}
 use Rattle.plcr_run.proofs.Meetings.{LastSlot, met_none, last_slot, met_one}
 use Rattle.plcr_run.proofs.ending.meet_all.Goals as goal
 

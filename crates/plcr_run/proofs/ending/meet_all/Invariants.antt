@@ -1,4 +1,4 @@
-use Rattle.std.proofs.Common.{◌≡◌, ℕ, ◌<◌, ◌≤◌, length, take, vec_len}
+use Rattle.std.proofs.Common.{◌≡◌, ◌<◌, ◌≤◌, length, take, vec_len}
 use Rattle.plcr_imagelist.specs.States.{IsAtRest}
 use Rattle.plcr_run.specs.inner.Ending.{HasMet}
 use Rattle.plcr_run.proofs.ending.meet_all.Given as goal

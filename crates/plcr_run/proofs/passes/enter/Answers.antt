@@ -1,9 +1,8 @@
-use Rattle.std.proofs.Common.{◌≡◌, refl, sym, ap, ◌∙◌, subst}
+use Rattle.std.proofs.Common.{◌≡◌, ap, ◌∙◌, subst}
 use Rattle.plcr_nodes.specs.Tokens.{NoteState}
 use Rattle.plcr_imagelist.specs.Holds.{HoldState}
 use Rattle.plcr_imagelist.specs.Tellings.{IsWriterTold, IsWalkerTold, note_of_walker}
-use Rattle.plcr_run.specs.declared.slots.Slot.{Slot}
-use Rattle.plcr_run.specs.declared.slots.Slot.TheVariants.{Out, In, Away}
+use Rattle.plcr_run.specs.declared.slots.Slot.TheVariants.{In}
 use Rattle.plcr_run.specs.declared.writing.Writing.{Writing}
 use Rattle.plcr_run.specs.inner.Slots.{IsPut}
 use Rattle.plcr_run.specs.inner.Tokens.{writer_of, with_writer}

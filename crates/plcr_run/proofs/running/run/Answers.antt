@@ -1,10 +1,10 @@
-use Rattle.std.proofs.Common.{◌≡◌, Result, Ok, Err, refl, sym, ap, subst, ◌∙◌, arith, List, length}
+use Rattle.std.proofs.Common.{Result, refl, subst, ◌∙◌, arith}
 use Rattle.std.specs.Prelude.{OnOk}
-use Rattle.plcr_script.specs.Meanings.{Meanings, meanings}
+use Rattle.plcr_script.specs.Meanings.{meanings}
 use Rattle.plcr_command.specs.Seen.{seen}
 use Rattle.plcr_run.specs.declared.stepping.Stop.{Stop}
 use Rattle.plcr_run.specs.inner.Stepping.{Steps, MovesOnly}
-use Rattle.plcr_run.proofs.Composed.{SoFar, so_far_none, so_far_next, all_done, stopped_at, numbered_at}
+use Rattle.plcr_run.proofs.Composed.{so_far_none, so_far_next, all_done, stopped_at, numbered_at}
 use Rattle.plcr_run.proofs.Standing.{fit_at, may_stand}
 use Rattle.plcr_run.proofs.running.run.Goals as goal
 
@@ -28,15 +28,15 @@ take_step-next-requires-clause-stands g c =
 pub returns-in-Err-clause-stopped : goal.returns-in-Err-clause-stopped
 returns-in-Err-clause-stopped g c =
     let P : Result (Unit {0}) Stop → Type 0 = λ r. Steps (meanings (g.P.Process.image_fault c.args.process.now) (g.P.Process.report c.args.process.now c.args.context.now)) c.line.result c.statement.result.now c.loop-i.writing c.loop-i.slots
-        (seen (g.D.Desk.told c.loop-i.desk) (g.L.Sink.written c.loop-i.lines) (g.L.Sink.faults c.loop-i.lines)) c.take_step-next.result.0 c.take_step-next.new.slots
-        (seen (g.D.Desk.told c.take_step-next.new.desk) (g.L.Sink.written c.take_step-next.new.lines) (g.L.Sink.faults c.take_step-next.new.lines)) r in
+    (seen (g.D.Desk.told c.loop-i.desk) (g.L.Sink.written c.loop-i.lines) (g.L.Sink.faults c.loop-i.lines)) c.take_step-next.result.0 c.take_step-next.new.slots
+    (seen (g.D.Desk.told c.take_step-next.new.desk) (g.L.Sink.written c.take_step-next.new.lines) (g.L.Sink.faults c.take_step-next.new.lines)) r in
     stopped_at _ _ c.loop-i.i c.line.result c.statement.result.now _ _ _ c.loop-i.writing _ c.loop-i.slots _ c.in-Err.stop c.line.ensures c.statement.ensures c.loop-i.invariant.so_far (subst P c.in-Err.is c.take_step-next.ensures.steps)
 
 pub loop-i-preserved : goal.loop-i-preserved
 loop-i-preserved g c =
     let P : Result (Unit {0}) Stop → Type 0 = λ r. Steps (meanings (g.P.Process.image_fault c.args.process.now) (g.P.Process.report c.args.process.now c.args.context.now)) c.line.result c.statement.result.now c.loop-i.writing c.loop-i.slots
-        (seen (g.D.Desk.told c.loop-i.desk) (g.L.Sink.written c.loop-i.lines) (g.L.Sink.faults c.loop-i.lines)) c.take_step-next.result.0 c.take_step-next.new.slots
-        (seen (g.D.Desk.told c.take_step-next.new.desk) (g.L.Sink.written c.take_step-next.new.lines) (g.L.Sink.faults c.take_step-next.new.lines)) r in
+    (seen (g.D.Desk.told c.loop-i.desk) (g.L.Sink.written c.loop-i.lines) (g.L.Sink.faults c.loop-i.lines)) c.take_step-next.result.0 c.take_step-next.new.slots
+    (seen (g.D.Desk.told c.take_step-next.new.desk) (g.L.Sink.written c.take_step-next.new.lines) (g.L.Sink.faults c.take_step-next.new.lines)) r in
     let Q : Result (Unit {0}) Stop → Type 0 = λ r. OnOk r (MovesOnly c.statement.result.now c.loop-i.slots c.take_step-next.new.slots) in
     record {
       tokens = c.take_step-next.ensures.tokens;

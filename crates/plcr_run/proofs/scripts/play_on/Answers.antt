@@ -1,4 +1,4 @@
-use Rattle.std.proofs.Common.{◌≡◌, Result, Ok, Err, refl, sym, ap, subst, ◌∙◌, arith, List, length}
+use Rattle.std.proofs.Common.{Result, sym, subst, List}
 use Rattle.std.specs.Prelude.{OnOk, OnErr}
 use Rattle.plcr_script.specs.Meanings.{meanings}
 use Rattle.plcr_script.proofs.PrefixRuns.{stopped_prefix}
@@ -29,7 +29,7 @@ returns-in-Ok-clause-played g c =
     let same = slots_left _ c.args.script.now _ _ c.args.opened c.args.opened.slots.len c.run-writing.result.0 c.run-writing.new.slots c.run-writing.result.1 c.requires.opened c.run-writing.ensures.tokens c.run-writing.ensures.done c.run-writing.ensures.stopped (sym c.args.opened.slots.ok.0) in
     let ends = subst (λ (l : List Slot). EndsIn c.run-writing.result.0 l c.end_script.result) same c.end_script.ensures.ends in
     let P : Result (Unit {0}) Stop → Type 0 = λ r. OnOk r (RunDone (meanings (g.P.Process.image_fault c.args.process.now) (g.P.Process.report c.args.process.now c.args.context.now)) c.args.script.now (seen (g.D.Desk.told c.args.desk.now) (g.L.Sink.written c.args.lines.now) (g.L.Sink.faults c.args.lines.now)) c.run-writing.result.0 c.run-writing.new.slots
-        (seen (g.D.Desk.told c.run-writing.new.desk) (g.L.Sink.written c.run-writing.new.lines) (g.L.Sink.faults c.run-writing.new.lines))) in
+    (seen (g.D.Desk.told c.run-writing.new.desk) (g.L.Sink.written c.run-writing.new.lines) (g.L.Sink.faults c.run-writing.new.lines))) in
     ran_whole _ c.args.script.now _ _ c.run-writing.result.0 c.run-writing.new.slots c.end_script.result (subst P c.in-Ok.is c.run-writing.ensures.done) ends
 
 pub returns-clause-played : goal.returns-clause-played
@@ -37,5 +37,5 @@ returns-clause-played g c =
     let same = slots_left _ c.args.script.now _ _ c.args.opened c.args.opened.slots.len c.run-writing.result.0 c.run-writing.new.slots c.run-writing.result.1 c.requires.opened c.run-writing.ensures.tokens c.run-writing.ensures.done c.run-writing.ensures.stopped (sym c.args.opened.slots.ok.0) in
     let ends = subst (λ (l : List Slot). EndsIn c.run-writing.result.0 l c.end_script.result) same c.end_script.ensures.ends in
     let P : Result (Unit {0}) Stop → Type 0 = λ r. OnErr r (RunStopped (meanings (g.P.Process.image_fault c.args.process.now) (g.P.Process.report c.args.process.now c.args.context.now)) c.args.script.now (seen (g.D.Desk.told c.args.desk.now) (g.L.Sink.written c.args.lines.now) (g.L.Sink.faults c.args.lines.now)) c.run-writing.result.0 c.run-writing.new.slots
-        (seen (g.D.Desk.told c.run-writing.new.desk) (g.L.Sink.written c.run-writing.new.lines) (g.L.Sink.faults c.run-writing.new.lines))) in
+    (seen (g.D.Desk.told c.run-writing.new.desk) (g.L.Sink.written c.run-writing.new.lines) (g.L.Sink.faults c.run-writing.new.lines))) in
     ran_part _ c.args.script.now _ _ c.run-writing.result.0 c.run-writing.new.slots c.end_script.result stopped_prefix (subst P c.in-Err.is c.run-writing.ensures.stopped) ends

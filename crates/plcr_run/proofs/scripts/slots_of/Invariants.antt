@@ -1,4 +1,4 @@
-use Rattle.std.proofs.Common.{◌≡◌, ◌++◌, map, reverse, ℕ, ◌+◌, ◌≤◌, length, vec_len, vec_capacity}
+use Rattle.std.proofs.Common.{◌≡◌, ◌++◌, map, reverse, vec_len}
 use Rattle.plcr_run.specs.declared.slots.Slot.TheVariants.{Out}
 use Rattle.plcr_run.proofs.scripts.slots_of.Given as goal
 

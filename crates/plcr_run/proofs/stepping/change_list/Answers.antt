@@ -1,4 +1,3 @@
-use Rattle.std.proofs.Common.{sym, ◌∙◌}
 use Rattle.plcr_script.specs.RunTurns.{turn_of}
 use Rattle.plcr_run.proofs.stepping.change_list.Goals as goal
 

@@ -1,4 +1,4 @@
-use Rattle.std.proofs.Common.{refl, sym, ◌∙◌}
+use Rattle.std.proofs.Common.{refl}
 use Rattle.plcr_script.specs.declared.outcomes.Outcome.TheVariants.{Left}
 use Rattle.plcr_script.specs.RunTurns.{turn_of}
 use Rattle.plcr_run.proofs.stepping.move_pass.Goals as goal

@@ -1,4 +1,4 @@
-use Rattle.std.proofs.Common.{◌≡◌, ◌<◌, refl, sym, ◌∙◌, arith}
+use Rattle.std.proofs.Common.{◌<◌, arith}
 use Rattle.plcr_script.specs.Meanings.{Meanings, meanings}
 use Rattle.plcr_run.specs.inner.Tokens.{writer_of}
 use Rattle.plcr_run.proofs.Taken.{Saves, saves, report_unwritten, report_done, report_unprinted}

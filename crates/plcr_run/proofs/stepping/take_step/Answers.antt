@@ -1,4 +1,4 @@
-use Rattle.std.proofs.Common.{◌≡◌, rules, refl, sym, ◌∙◌, arith}
+use Rattle.std.proofs.Common.{rules, refl, arith}
 use Rattle.plcr_script.specs.Meanings.{Meanings, meanings}
 use Rattle.plcr_script.specs.RunTurns.{turn_of}
 use Rattle.plcr_run.specs.inner.Tokens.{writer_of}

@@ -1,7 +1,7 @@
 use Rattle.std.proofs.Common.{refl, ◌∙◌, suc, ap, arith}
 use Rattle.plcr_imagelist.specs.Holds.{WalkerState}
 use Rattle.plcr_imagelist.proofs.Sees.{sees_again}
-use Rattle.plcr_run.proofs.Walked.{walk_starts, met_more, met_end}
+use Rattle.plcr_run.proofs.Walked.{walk_starts, met_more}
 use Rattle.plcr_run.proofs.walking.walk_to_end.Goals as goal
 
 pub loop-init : goal.loop-init

@@ -1,7 +1,6 @@
 use Rattle.std.proofs.Common.{◌≡◌, ◌^◌, ◌<◌, List, [], ◌∷◌, Option, lit<, subst, arith}
 use Rattle.std.specs.Prelude.{All, ℕ}
 use Rattle.plcr_macho.specs.Images.{Listed}
-use Rattle.plcr_imagelist.specs.States.{WriterState}
 use Rattle.plcr_regs.specs.declared.arch.Arch.{Arch}
 use Rattle.plcr_encode.specs.declared.context.Context.{Context}
 use Rattle.plcr_encode.specs.Conditions.{IsWritable}
@@ -11,7 +10,7 @@ use Rattle.plcr_script.specs.Meanings.{Meanings, meanings}
 use Rattle.plcr_script.specs.Scripts.{ScriptValue}
 use Rattle.plcr_script.proofs.SameContexts.{same_writable}
 use Rattle.plcr_command.specs.Seen.{seen}
-use Rattle.plcr_command.specs.Process.{fault_at, meanings_of}
+use Rattle.plcr_command.specs.Process.{fault_at}
 use Rattle.plcr_command.proofs.Reported.{report_is, threads_writable}
 use Rattle.plcr_run.specs.inner.Opening.{PlayIs}
 use Rattle.plcr_tool.specs.Laws.{IsHandedContext}

@@ -1,0 +1,9 @@
+pub mod Choosing
+pub mod Emptied
+pub mod Fields
+pub mod Founded
+pub mod Naming
+pub mod Orders
+pub mod Pairs
+pub mod Searched
+pub mod Standing

@@ -1,0 +1,7 @@
+pub mod Callers
+pub mod Encodings
+pub mod Laws
+pub mod Permutations
+pub mod Sections
+pub mod Tables
+pub mod inner
