@@ -1,5 +1,5 @@
 -- Files that are kept one after the other, up to one that isn't.
-use Rattle.std.proofs.Common.{◌≡◌, ℕ, List, [], ◌∷◌, ◌++◌, Option, inl, inr, refl, sym, subst}
+use Rattle.std.proofs.Common.{ℕ, List, [], ◌∷◌, ◌++◌, Option, refl, sym, subst}
 use Rattle.plcr_base.specs.Told.{Prints}
 use Rattle.plcr_base.proofs.Appended.{append_nothing}
 use Rattle.plcr_io.specs.Desk.{Told}
