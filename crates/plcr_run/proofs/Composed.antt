@@ -4,6 +4,7 @@ use Rattle.std.specs.Prelude.{slice_get, All}
 use Rattle.std.specs.Option.{option_map}
 use Rattle.std.proofs.Math.Seq.{take-length}
 use Rattle.std.proofs.lemmas.Grind.{flat_map-append}
+use Rattle.plcr_base.specs.Told.{Gains}
 use Rattle.plcr_machine.specs.Events.{changes_in}
 use Rattle.plcr_script.specs.declared.statements.Statement.{Statement}
 use Rattle.plcr_script.specs.declared.statements.NumberedStatement.{NumberedStatement}
@@ -30,7 +31,7 @@ use Rattle.plcr_run.specs.inner.Slots.{slot_at}
 use Rattle.plcr_run.specs.inner.Tokens.{writer_of, IsAll, place_in, StateIs}
 use Rattle.plcr_run.specs.inner.Stepping.{IsUnwritten, StepEnds, StepLeaves, StepIs, Takes, Steps, MovesOnly, will_change}
 use Rattle.plcr_run.specs.inner.Running.{IsFresh, RunDone, RunStopped, StoppedBehind}
-use Rattle.plcr_run.specs.Runs.{IsDone, IsStopped, CannotKeep, CannotLog, line_of}
+use Rattle.plcr_run.specs.Runs.{run_behind, IsDone, IsStopped, CannotKeep, CannotLog, line_of}
 
 -- the files and the log of turns and of one more
 kept_more : (run : List NumberedTurn) (x : NumberedTurn) → kept_by (run ++ x ∷ []) ≡ kept_by run ++ x.turn.kept
@@ -158,25 +159,52 @@ all_done process script i old now writing slots all so = record {
   state = λ a. subst (λ (l : List NumberedStatement). StateIs writing slots (state_behind process script l)) (ap (λ n. take n script.statements) all ∙ take-length script.statements) (so.state a);
 }
 
+-- the first turns are those of the first statements
+first_turns : (process : Meanings) (nodes passes : ℕ) (s : State) (i : ℕ) (xs : List NumberedStatement) → take i (turns_from process nodes passes s xs) ≡ turns_from process nodes passes s (take i xs)
+first_turns process nodes passes s zero xs = refl
+first_turns process nodes passes s (suc i) [] = refl
+first_turns process nodes passes s (suc i) (x ∷ xs) = ap (λ l. record { line = x.line; turn = turn_of process nodes passes s x.statement } ∷ l) (first_turns process nodes passes (turn_of process nodes passes s x.statement).state i xs)
+
+first_run : (process : Meanings) (script : ScriptValue) (i : ℕ) → take i (run_of process script) ≡ run_behind process script (take i script.statements)
+unfolding run_of
+first_run process script i = first_turns process script.nodes script.passes first_state i script.statements
+
+-- what was kept where the run stops: all files before the turn, and its own where only its line wasn't printed
+unwritten_kept : (run : List NumberedTurn) (i : ℕ) (x : NumberedTurn) (old mid new : Seen) → IsDone (take i run) old mid → GoesOn old mid → IsUnwritten x.turn.kept mid new → Gains old.desk.kept new.desk.kept (kept_by (take i run))
+unwritten_kept run i x old mid new before goes write =
+    (unwritten_after (kept_by (take i run)) (log_of (take i run)) write.name write.bytes old mid new before goes write.stop).kept
+
+unprinted_kept : (run : List NumberedTurn) (i : ℕ) (x : NumberedTurn) (old mid new : Seen) → slice_get run i ≡ Some x → IsDone (take i run) old mid → GoesOn old mid → CannotPrint x.turn.kept [] (line_of x) mid new → Gains old.desk.kept new.desk.kept (kept_by (take (i + 1) run))
+unprinted_kept run i x old mid new is before goes print =
+    let P : List NumberedTurn → Type 0 = λ l. Gains old.desk.kept new.desk.kept (kept_by l) in
+    let all = (unprinted_after (kept_by (take i run)) x.turn.kept (log_of (take i run)) (line_of x) old mid new before goes print).kept in
+    subst P (sym (take_next run i x is)) (rw (kept_more (take i run) x) all)
+
 -- the run stops at a statement
-stop_left : (process : Meanings) (script : ScriptValue) (i number : ℕ) (statement : Statement) (stop : Stop) (next : Writing) (nexts : List Slot) → slice_get script.statements i ≡ Some (record { line = number; statement = statement })
-    → StepLeaves (Err stop) (state_at process script i) (turn_of process script.nodes script.passes (state_at process script i) statement).state next nexts → StoppedBehind process script next nexts
-stop_left process script i number statement Unprinted next nexts at leaves = record {
+stop_left : (process : Meanings) (script : ScriptValue) (i number : ℕ) (statement : Statement) (stop : Stop) (old mid new : Seen) (next : Writing) (nexts : List Slot) → slice_get script.statements i ≡ Some (record { line = number; statement = statement })
+    → slice_get (run_of process script) i ≡ Some (record { line = number; turn = turn_of process script.nodes script.passes (state_at process script i) statement })
+    → IsDone (take i (run_of process script)) old mid → GoesOn old mid
+    → StepIs (turn_of process script.nodes script.passes (state_at process script i) statement) number (state_at process script i) mid new next nexts (Err stop) → StoppedBehind process script old next nexts new
+stop_left process script i number statement Unprinted old mid new next nexts at turn before goes step = record {
   done = take (i + 1) script.statements;
   others = drop (i + 1) script.statements;
   parts = sym (take-append-drop (i + 1) script.statements);
+  kept = subst (λ (l : List NumberedTurn). Gains old.desk.kept new.desk.kept (kept_by l)) (first_run process script (i + 1)) (unprinted_kept (run_of process script) i _ old mid new turn before goes step.ends);
   state = (turn_of process script.nodes script.passes (state_at process script i) statement).state;
-  is = leaves;
+  is = step.leaves;
   changes = ap will_change (sym (state_more process script i number statement at));
 }
-stop_left process script i number statement Unwritten next nexts at leaves = record {
-  done = take i script.statements;
-  others = drop i script.statements;
-  parts = sym (take-append-drop i script.statements);
-  state = leaves.0;
-  is = leaves.1;
-  changes = leaves.2;
-}
+stop_left process script i number statement Unwritten old mid new next nexts at turn before goes step =
+    let x : NumberedTurn = record { line = number; turn = turn_of process script.nodes script.passes (state_at process script i) statement } in
+    record {
+      done = take i script.statements;
+      others = drop i script.statements;
+      parts = sym (take-append-drop i script.statements);
+      kept = subst (λ (l : List NumberedTurn). Gains old.desk.kept new.desk.kept (kept_by l)) (first_run process script i) (unwritten_kept (run_of process script) i x old mid new before goes step.ends);
+      state = step.leaves.0;
+      is = step.leaves.1;
+      changes = step.leaves.2;
+    }
 
 stop_how : (stop : Stop) (files : List (List ℕ × List ℕ)) (line : List ℕ) (old new : Seen) → StepEnds (Err stop) files line old new → IsUnwritten files old new ⊎ CannotPrint files [] line old new
 stop_how Unwritten files line old new ends = inl ends
@@ -192,5 +220,5 @@ stopped_at process script i number statement old mid new writing next slots next
       passes = steps.sizes.1 ∙ before.passes;
       stopped = λ all. let s = step_at process script i number statement old mid new writing next slots nexts (Err stop) before steps all in
           stops (run_of process script) i _ old mid new turn (before.done (steps.back all)) before.goes (stop_how stop _ _ mid new s.ends);
-      behind = λ all. stop_left process script i number statement stop next nexts at (step_at process script i number statement old mid new writing next slots nexts (Err stop) before steps all).leaves;
+      behind = λ all. stop_left process script i number statement stop old mid new next nexts at turn (before.done (steps.back all)) before.goes (step_at process script i number statement old mid new writing next slots nexts (Err stop) before steps all);
     }

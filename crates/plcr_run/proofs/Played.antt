@@ -34,6 +34,10 @@ met_by script writing slots writer nodes passes e = record {
   met = λ k below. e.joined k (let sized = e.passes in omega (arith, passes, sized));
 }
 
+known_by : (script : ScriptValue) (writing : Writing) (slots : List Slot) (writer : WriterState) → (writer_of writing).nodes ≡ script.nodes → (writer_of writing).passes ≡ script.passes → EndsIn writing slots writer → IsHistory script.nodes script.passes writer.history writer.names
+known_by script writing slots writer nodes passes e =
+    subst (λ n. IsHistory n script.passes writer.history writer.names) (e.nodes ∙ nodes) (subst (λ p. IsHistory writer.nodes p writer.history writer.names) (e.passes ∙ passes) e.lists.known)
+
 -- where it ended, the sizes are the script's
 pub sized_as : (process : Meanings) (script : ScriptValue) (old new : Seen) (writing : Writing) (slots : List Slot) (result : Result (Unit {0}) Stop) → OnOk result (RunDone process script old writing slots new) → OnErr result (RunStopped process script old writing slots new) → (writer_of writing).passes ≡ script.passes
 sized_as process script old new writing slots (Ok x) done stopped = done.passes
@@ -60,7 +64,7 @@ ran_whole process script old new writing slots writer done e =
         all = met_by script writing slots writer done.nodes done.passes e;
         may = record {
           are = events;
-          legal = subst (λ n. IsHistory n script.passes writer.history writer.names) (e.nodes ∙ done.nodes) (subst (λ p. IsHistory writer.nodes p writer.history writer.names) (e.passes ∙ done.passes) e.lists.known);
+          legal = known_by script writing slots writer done.nodes done.passes e;
           first = e.lists.first;
         };
       };
@@ -77,11 +81,16 @@ ran_part process script old new writing slots writer prefixes stopped e =
     record {
       stopped = stopped.stopped e.all;
       past_is = record {
+        done = b.done;
+        others = b.others;
+        parts = b.parts;
         writer = writer;
         all = met_by script writing slots writer stopped.nodes stopped.passes e;
-        legal = e.lists.known;
+        legal = known_by script writing slots writer stopped.nodes stopped.passes e;
         first = e.lists.first;
+        made = mine;
         later = p.0;
         changes = p.1 ∙ ap (λ (cs : List Change). p.0 ++ cs) (sym mine);
       };
+      kept = b.kept;
     }

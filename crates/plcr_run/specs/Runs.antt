@@ -1,9 +1,17 @@
 -- What a run of a script did to the desk and to the lines, turn by turn.
 use Rattle.std.specs.Prelude.{◌≡◌, ◌⊎◌, ℕ, List, [], ◌∷◌, ◌++◌, None}
+use Rattle.plcr_script.specs.declared.statements.NumberedStatement.{NumberedStatement}
 use Rattle.plcr_script.specs.Log.{log_line}
-use Rattle.plcr_script.specs.Run.{NumberedTurn, kept_by, log_of}
+use Rattle.plcr_script.specs.Scripts.{ScriptValue}
+use Rattle.plcr_script.specs.Meanings.{Meanings}
+use Rattle.plcr_script.specs.RunStates.{first_state}
+use Rattle.plcr_script.specs.Run.{NumberedTurn, turns_from, kept_by, log_of}
 use Rattle.plcr_command.specs.Seen.{Seen}
 use Rattle.plcr_command.specs.Endings.{HasKept, CannotWrite, CannotPrint}
+
+-- the turns of the first statements of a script
+abbrev pub run_behind : Meanings → ScriptValue → List NumberedStatement → List NumberedTurn
+run_behind process script statements = turns_from process script.nodes script.passes first_state statements
 
 -- the line of the log for a turn
 abbrev pub line_of : NumberedTurn → List ℕ

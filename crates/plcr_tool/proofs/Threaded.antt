@@ -39,7 +39,7 @@ use Rattle.plcr_tool.specs.Laws.{IsHandedState, AreHandedStates, IsHandedFrame, 
 use Rattle.plcr_tool.proofs.Stored.{piece_there, eight_small}
 
 -- what holds of each that a function gives
-all_mapped : {A B : Type 0} (P : B → Type 0) (f : A → B) → ((x : A) → P (f x)) → (xs : List A) → AllByRecursion P (map f xs)
+pub all_mapped : {A B : Type 0} (P : B → Type 0) (f : A → B) → ((x : A) → P (f x)) → (xs : List A) → AllByRecursion P (map f xs)
 all_mapped P f holds [] = tt
 all_mapped P f holds (x ∷ xs) = (holds x, all_mapped P f holds xs)
 
@@ -96,7 +96,7 @@ cut_small frame None small = tt
 cut_small frame (Some n) small = address_small frame.registers.arch frame.bits n small
 
 -- the number in 8 bytes
-word_small : (at : ℕ) (xs : List ℕ) → IsBytes xs → u64_in xs at < 2 ^ 64
+pub word_small : (at : ℕ) (xs : List ℕ) → IsBytes xs → u64_in xs at < 2 ^ 64
 unfolding u64_in number
 word_small at xs bytes = eight_small at xs bytes
 

@@ -1,5 +1,7 @@
 pub mod Complete
+pub mod Headline
 pub mod Laws
+pub mod Past
 pub mod Report
 pub mod Show
 pub mod Top

@@ -1,4 +1,4 @@
-use crate::fixtures::{desk_with, lines, thread_core};
+use crate::fixtures::{desk_of, lines, thread_core};
 use crate::report::report_command;
 use plcr_decode::decode;
 use plcr_regs::Arch;
@@ -13,9 +13,9 @@ fn an_arm64_thread_is_reported(rt: HostRuntime) -> Result<(), Fail> {
     let alloc = rt.alloc();
     let core = thread_core(alloc, Arch::Arm64, PC, 0, &[])?;
     assert_eq!(rt; core.len(), 392);
-    let mut desk = desk_with(alloc, core, b"report 0 a\n")?;
+    let mut desk = desk_of(alloc, core, b"report 0 a\n", 20_000, Vec::new(alloc))?;
     let mut lines = lines(alloc)?;
-    assert_eq!(rt; report_command(alloc, "c", "s", &mut desk, &mut lines), 0);
+    assert_eq!(rt; report_command(alloc, "c", "s", &mut desk, &mut lines, &mut None), 0);
     assert_eq!(rt; lines.bytes(), b"1 report a 377 0 0 0\n".as_slice());
     Ok(())
 }
@@ -27,9 +27,9 @@ fn the_bytes_of_frames(rt: HostRuntime) -> Result<(), Fail> {
     let alloc = rt.alloc();
     let words = [0x7120, 0x2000, 0, 0, 0, 0x1000];
     let core = thread_core(alloc, Arch::Arm64, PC, 0x7100, &words)?;
-    let mut desk = desk_with(alloc, core, b"report 0 a\n")?;
+    let mut desk = desk_of(alloc, core, b"report 0 a\n", 20_000, Vec::new(alloc))?;
     let mut lines = lines(alloc)?;
-    assert_eq!(rt; report_command(alloc, "c", "s", &mut desk, &mut lines), 0);
+    assert_eq!(rt; report_command(alloc, "c", "s", &mut desk, &mut lines, &mut None), 0);
     assert_eq!(rt; lines.bytes(), b"1 report a 384 0 0 0\n".as_slice());
     let file = desk.file("a").ok_or("not kept")?;
     assert!(rt; file.len() == 384);
@@ -50,9 +50,9 @@ fn frames_told(
     words: &[u64],
 ) -> Result<(Vec<u64>, Option<u64>), Fail> {
     let core = thread_core(alloc, arch, pc, 0x7100, words)?;
-    let mut desk = desk_with(alloc, core, script)?;
+    let mut desk = desk_of(alloc, core, script, 20_000, Vec::new(alloc))?;
     let mut lines = lines(alloc)?;
-    let status = report_command(alloc, "c", "s", &mut desk, &mut lines);
+    let status = report_command(alloc, "c", "s", &mut desk, &mut lines, &mut None);
     if status != 0 {
         return Err("not reported".into());
     }
