@@ -22,7 +22,7 @@ use Rattle.plcr_make.specs.declared.constants.TheConstants.{MOST_IMAGES, UNLOAD_
 use Rattle.plcr_make.specs.Numbers.{joined}
 use Rattle.plcr_make.specs.Images.{image_address}
 use Rattle.plcr_make.specs.Scripts.{hexadecimal, load_line, unload_line, unload_lines, script_of}
-use Rattle.plcr_make.specs.MadeScripts.{image_name, loads, unloads, MadeScriptsAreRead}
+use Rattle.plcr_make.specs.MadeScripts.{image_name, loads, unloads, made_script, MadeScriptsAreRead}
 use Rattle.plcr_make.proofs.Texts.{IsFree, free-append, free_by, line_first, first_of, one_part, hex_read, hex_free, decimal_free}
 
 -- an address is a number of 64 bits
@@ -161,6 +161,16 @@ unloads_files images (suc k) = of (unloads_files images k) (k % UNLOAD_STRIDE ==
     of none false = none
     of none true = rw (files_more (unloads images k) (record { line = images + 2 + length (unloads images k); statement = Unload (image_address k) }), none) refl
 
+-- nor do they together
+no_files : (images : ℕ) → files_of (loads images ++ unloads images images) ≡ []
+no_files images = filter_map-append (λ x. file_of x.statement) (loads images) (unloads images images) ∙ ap (λ (fs : List (List ℕ)). fs ++ files_of (unloads images images)) (loads_files images) ∙ unloads_files images images
+
+-- so the script writes one file
+pub made_script_files : (images : ℕ) → files_of (made_script images).statements ≡ codes "made.plcrash" ∷ []
+made_script_files images =
+    let last : NumberedStatement = record { line = images + 2 + length (unloads images images); statement = Report 0 (codes "made.plcrash") } in
+    ap files_of (sym (append_assoc (loads images) (unloads images images) (last ∷ []))) ∙ files_more (loads images ++ unloads images images) last ∙ ap (λ (fs : List (List ℕ)). fs ++ codes "made.plcrash" ∷ []) (no_files images)
+
 -- the report
 abbrev report_text : List ℕ
 report_text = codes "report 0 made.plcrash"
@@ -174,10 +184,7 @@ report_free = free_by 10 report_text refl
 
 report_placed : (images : ℕ) → is_out_of_place (so_far (loads images ++ unloads images images)) (States (Report 0 (codes "made.plcrash"))) ≡ false
 unfolding is_named
-report_placed images = rw (none images) refl
-  where
-    none : (n : ℕ) → files_of (loads n ++ unloads n n) ≡ []
-    none n = filter_map-append (λ x. file_of x.statement) (loads n) (unloads n n) ∙ ap (λ (fs : List (List ℕ)). fs ++ files_of (unloads n n)) (loads_files n) ∙ unloads_files n n
+report_placed images = rw (no_files images) refl
 
 sizes_said : saying_in 16 (codes "table 4096 1") ≡ Ok (Sizes 4096 1)
 unfolding saying_of table_in first_word

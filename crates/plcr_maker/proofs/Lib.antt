@@ -1,1 +1,4 @@
-
+pub mod Saved
+pub mod Counted
+pub mod Played
+pub mod Whole

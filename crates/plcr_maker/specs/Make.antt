@@ -1,5 +1,5 @@
 -- What `make N CORE SCRIPT` does, by its status.
-use Rattle.std.specs.Prelude.{◌≡◌, ◌⊎◌, ℕ, List, [], ◌∷◌, ◌++◌, Option, Some, None, Ok, length}
+use Rattle.std.specs.Prelude.{◌≡◌, ◌⊎◌, ℕ, List, [], ◌∷◌, ◌++◌, Option, None, Ok, length}
 use Rattle.plcr_report.specs.declared.messages.Report.{Report}
 use Rattle.plcr_core.specs.declared.read.Core.{Core}
 use Rattle.plcr_decode.specs.Reads.{reads}

@@ -1,13 +1,17 @@
 //! What is made, in memory.
-ghost use Rattle.std.specs.Prelude.{◌≡◌, ◌≤◌, IfSome};
+ghost use Rattle.std.specs.Prelude.{◌≡◌, ◌≤◌, Ok, IfSome};
+ghost use Rattle.plcr_report.specs.declared.messages.Report.{Report};
+ghost use Rattle.plcr_decode.specs.Reads.{reads};
 ghost use Rattle.plcr_core.specs.Cores.{AreThreads};
 ghost use Rattle.plcr_core.specs.declared.read.Core.{Core};
+ghost use Rattle.plcr_script.specs.Lawful.{IsLawful};
 ghost use Rattle.plcr_command.specs.Jobs.{IsCore};
 ghost use Rattle.plcr_make.specs.declared.constants.TheConstants.{MOST_IMAGES};
 ghost use Rattle.plcr_make.specs.Cores.{core_of};
+ghost use Rattle.plcr_make.specs.Scripts.{script_of};
 ghost use Rattle.plcr_make.specs.MadeScripts.{made_script};
 ghost use Rattle.plcr_make.specs.MadeScripts as scripts;
-ghost use Rattle.plcr_maker.specs.Making.{IsRun, IsMade};
+ghost use Rattle.plcr_maker.specs.Making.{AreCounts, IsRun, IsMade};
 
 use crate::counts::{Counts, counts_of};
 use crate::runs::{Ran, run_made};
@@ -35,10 +39,9 @@ pub(crate) fn make(alloc: Global, images: u32) -> Option<Made>
     ensures { IfSome result (IsMade images) }
 {
     let ran = ran_of(alloc, images)?;
-    let report = decode(alloc, &ran.report).ok()?;
-    let counts = counts_of(&report)?;
-    let core = core_bytes(alloc, images).ok()?;
-    let script = script_bytes(alloc, images).ok()?;
+    let counts = counts_in(alloc, &ran.report)?;
+    let core = core_in(alloc, images)?;
+    let script = script_in(alloc, images)?;
     let Ran { report, writer } = ran;
     Some(Made {
         core,
@@ -47,6 +50,38 @@ pub(crate) fn make(alloc: Global, images: u32) -> Option<Made>
         counts,
         writer,
     })
+}
+
+/// The bytes of the core.
+fn core_in(alloc: Global, images: u32) -> Option<Vec<u8>>
+    requires { (1 ≤ images) × (images ≤ MOST_IMAGES) }
+    ensures { IfSome result (λ bytes. bytes.items ≡ core_of images) }
+{
+    match core_bytes(alloc, images) {
+        Ok(bytes) => Some(bytes),
+        Err(_) => None,
+    }
+}
+
+/// The bytes of the script.
+fn script_in(alloc: Global, images: u32) -> Option<Vec<u8>>
+    requires { images ≤ MOST_IMAGES }
+    ensures { IfSome result (λ bytes. bytes.items ≡ script_of images) }
+{
+    match script_bytes(alloc, images) {
+        Ok(bytes) => Some(bytes),
+        Err(_) => None,
+    }
+}
+
+/// The counts of the report that these bytes spell; none where they spell none.
+fn counts_in(alloc: Global, bytes: &[u8]) -> Option<Counts>
+    ensures { IfSome result (λ counts. (report : Report) × (reads bytes.now ≡ Ok report) × AreCounts report counts) }
+{
+    match decode(alloc, bytes) {
+        Ok(report) => counts_of(&report),
+        Err(_) => None,
+    }
 }
 
 /// The run of the made script on the made core.
@@ -65,9 +100,7 @@ fn made_core(alloc: Global, images: u32) -> Option<Core>
     ensures core { IfSome result (IsCore (core_of images)) }
     ensures threads { IfSome result (λ core. AreThreads core.arch core.threads) }
 {
-    let Ok(bytes) = core_bytes(alloc, images) else {
-        return None;
-    };
+    let bytes = core_in(alloc, images)?;
     match read_core(alloc, bytes) {
         Ok(core) => Some(core),
         Err(_) => None,
@@ -77,11 +110,10 @@ fn made_core(alloc: Global, images: u32) -> Option<Core>
 /// The script that is made.
 fn made_script(alloc: Global, images: u32) -> Option<Script>
     requires { images ≤ MOST_IMAGES }
-    ensures { IfSome result (λ script. script ≡ scripts.made_script images) }
+    ensures is { IfSome result (λ script. script ≡ scripts.made_script images) }
+    ensures lawful { IfSome result IsLawful }
 {
-    let Ok(bytes) = script_bytes(alloc, images) else {
-        return None;
-    };
+    let bytes = script_in(alloc, images)?;
     if bytes.len() as u64 > SCRIPT_LIMIT {
         return None;
     }
