@@ -9,14 +9,15 @@ mod frame_tests;
 #[cfg(test)]
 mod image_tests;
 mod laws;
-mod report;
-mod show;
 #[cfg(test)]
 mod long_tests;
+mod report;
 #[cfg(test)]
 mod run_tests;
+mod show;
 #[cfg(test)]
 mod show_tests;
+mod statuses;
 #[cfg(test)]
 mod tests;
 mod top;
