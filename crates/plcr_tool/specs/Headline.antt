@@ -1,4 +1,5 @@
--- The headline: what the captures of a run leave, whatever script of loads, unloads and captures is run on whatever core.
+-- The headline: what the captures of a run leave, whatever script of loads, unloads and captures is
+-- run on whatever core.
 use Rattle.std.specs.Prelude.{◌≡◌, ◌⊎◌, ℕ, ◌≤◌, List, [], ◌∷◌, ◌++◌, All, Option, Ok, length}
 use Rattle.plcr_base.specs.Causes.{Rose}
 use Rattle.plcr_base.specs.Told.{Gains}
@@ -27,10 +28,11 @@ use Rattle.plcr_tool.specs.declared.report.TheConstants.{ALONE}
 use Rattle.plcr_tool.specs.Report.{report_files}
 use Rattle.plcr_tool.specs.Top.{Form, Report, Show, Usage, form_of}
 
--- A file tells truly of the core's process and of what happened on the image list. There was a hold of a pass, in which the
--- images were met by a lawful walk through the lists that the changes made: from the list as the pass entered to one that
--- stood before it left. The numbers of their loads rise; each was in one of those lists; each that was in all of them is
--- there; and where the list did not change, they are the list. The file decodes to the report that has each thread's
+-- A file tells truly of the core's process and of what happened on the image list. There was a hold
+-- of a pass, in which the images were met by a lawful walk through the lists that the changes made:
+-- from the list as the pass entered to one that stood before it left. The numbers of their loads
+-- rise; each was in one of those lists; each that was in all of them is there; and where the list
+-- did not change, they are the list. The file decodes to the report that has each thread's
 -- registers, the frames that the unwinding rules give for them, and these images.
 pub record TellsTruly (core : Core) (script : ScriptValue) (happened : List Event) (file : List ℕ × List ℕ) : Type 0 where
   pub pass : ℕ
@@ -39,12 +41,15 @@ pub record TellsTruly (core : Core) (script : ScriptValue) (happened : List Even
   pub met : List Named
   pub end : ℕ
   pub within : end ≤ length (changes_in inside)
-  pub lawful : IsLawfulWalk load_of (list_after_changes (changes_in happened)) (changes_before pass inside) end met
-  pub decodes : reads file.1 ≡ Ok (process_report (context_of script core.arch) core.threads core.memory (listed met))
+  pub lawful : IsLawfulWalk load_of (list_after_changes (changes_in happened))
+      (changes_before pass inside) end met
+  pub decodes : reads file.1
+      ≡ Ok (process_report (context_of script core.arch) core.threads core.memory (listed met))
 
 -- a count of faults rose: that of the outputs of the desk, or that of the sink of the lines
 abbrev pub SinkFailed : Seen → Seen → Type 0
-SinkFailed old new = Rose old.desk.out_faults new.desk.out_faults ⊎ Rose old.line_faults new.line_faults
+SinkFailed old new =
+    Rose old.desk.out_faults new.desk.out_faults ⊎ Rose old.line_faults new.line_faults
 
 -- What a run of the job's script came to.
 pub record RanTruly (past : Option WriterState) (status : ℕ) (job : Job) (old new : Seen) : Type 0 where
@@ -56,7 +61,8 @@ pub record RanTruly (past : Option WriterState) (status : ℕ) (job : Job) (old 
   pub history : IsHistory script.nodes script.passes writer.history writer.names
   -- no node that a reader inside can reach is given again
   pub kept : IsKept writer.history
-  -- each capture returned, and its file was kept, in the order of the script; unless the count of faults of a sink rose
+  -- each capture returned, and its file was kept, in the order of the script; unless the count of
+  -- faults of a sink rose
   pub files : List (List ℕ × List ℕ)
   pub gained : Gains old.desk.kept new.desk.kept files
   pub others : List (List ℕ)
@@ -66,14 +72,18 @@ pub record RanTruly (past : Option WriterState) (status : ℕ) (job : Job) (old 
   -- each file tells truly of this history
   pub truly : All (TellsTruly job.core script (events_of writer.names writer.history)) files
 
--- For every core and every script of loads, unloads and captures, in which a change may stand frozen between any two of its
--- steps: where the run began, it ended so. No capture takes memory, since none is passed an allocator
+-- For every core and every script of loads, unloads and captures, in which a change may stand
+-- frozen between any two of its steps: where the run began, it ended so. No capture takes memory,
+-- since none is passed an allocator
 abbrev pub ReportsTellTruly : List ℕ → List ℕ → Seen → Seen → Option WriterState → ℕ → Type 0
-ReportsTellTruly core script old new past status = (status ≡ 0) ⊎ (status ≡ 5) → HasRead (IsJob ALONE) (report_files core script) (RanTruly past status) old new
+ReportsTellTruly core script old new past status =
+    (status ≡ 0) ⊎ (status ≡ 5)
+    → HasRead (IsJob ALONE) (report_files core script) (RanTruly past status) old new
 
 -- the same for the words of the command line
 abbrev pub FormTellsTruly : Form → Seen → Seen → Option WriterState → ℕ → Type 0
-FormTellsTruly (Report core script) old new past status = ReportsTellTruly core script old new past status
+FormTellsTruly (Report core script) old new past status =
+    ReportsTellTruly core script old new past status
 FormTellsTruly (Show report) old new past status = Unit {0}
 FormTellsTruly Usage old new past status = Unit {0}
 
