@@ -1,0 +1,4 @@
+pub mod Saved
+pub mod Counted
+pub mod Played
+pub mod Whole

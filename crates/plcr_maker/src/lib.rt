@@ -1,0 +1,14 @@
+//! The command `make N CORE SCRIPT`: it makes a core and a script by rule, runs the script on the core, and keeps the
+//! three files.
+#![tactic(auto)]
+
+mod command;
+mod counts;
+mod ignored;
+mod making;
+mod runs;
+mod saving;
+#[cfg(test)]
+mod tests;
+
+pub use command::make_command;
