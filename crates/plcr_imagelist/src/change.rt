@@ -7,7 +7,7 @@ ghost use Rattle.plcr_imagelist.specs.States.{IsAtRest, Loads, is_load, change_s
 ghost use Rattle.plcr_imagelist.specs.Changes.{IsCountedAt};
 ghost use Rattle.plcr_imagelist.specs.Steps.{word_stored, value_stored, IsStepped, Advances, table_of, history_of};
 ghost use Rattle.plcr_imagelist.specs.Listing.{HasLists, AddsChanges, made_by_step, writer_of};
-ghost use Rattle.plcr_imagelist.specs.inner.Making.{doing_of, IsMaking, MakesStep, IsFinished};
+ghost use Rattle.plcr_imagelist.specs.inner.Making.{doing_of, IsMaking, MakesStep, HasCome, IsFinished};
 
 use crate::books::Books;
 use crate::list::ImageList;
@@ -184,11 +184,22 @@ impl Change {
         ensures list { result.table ≡ self.writer.table }
     {
         let mut change = self;
-        let last = change_step(&change.task, &change.name);
-        for made in 0..last {
-            change.advance(list);
-        }
+        change.store_all(list);
+        change.advance(list);
         change.count(list)
+    }
+
+    // All steps before the change itself: the stores of a load.
+    fn store_all(&mut self, list: &ImageList)
+        requires table { self.old.writer.table ≡ list.now }
+        requires begun { self.old.made ≡ 0 }
+        ensures come { HasCome self.old self.new }
+        ensures last { suc self.new.made ≡ change_step self.old.doing }
+    {
+        if let Task::Load { header } = self.task {
+            self.books.fill_whole(&list.nodes, header, &self.name);
+            self.made = words_of(self.name.len()) as u32 + 3;
+        }
     }
 
     // The last step, which counts the change.

@@ -5,7 +5,7 @@ use lib.ListN.{get_elem?}
 use Rattle.atomic_table.specs.Table.{State}
 use Rattle.plcr_machine.specs.declared.entry.Entry.{Entry}
 use Rattle.plcr_machine.specs.Histories.{IsLegal}
-use Rattle.plcr_machine.specs.Lists.{loads, loaded, name_of}
+use Rattle.plcr_machine.specs.Lists.{loads}
 use Rattle.plcr_machine.specs.Passes.{counts, stamp_of}
 use Rattle.plcr_machine.specs.Nodes.{is_free}
 use Rattle.plcr_machine.specs.Links.{link_of}
@@ -17,20 +17,9 @@ use Rattle.plcr_nodes.specs.declared.view.Heard.{Heard}
 use Rattle.plcr_nodes.specs.declared.words.TheConstants.{GATE, NUMBERS, NODE_WORDS, PAYLOAD_WORDS}
 use Rattle.plcr_nodes.specs.Entries.{among, WentOn}
 use Rattle.plcr_nodes.specs.Seeing.{AddsOthers}
-use Rattle.plcr_nodes.specs.Names.{payload_word, words_of, stored, AreNames}
-use Rattle.plcr_nodes.specs.Words.{base, stamp_place, table_words}
-
--- the name of the last image that was loaded on the node
-abbrev pub name_on : ℕ → List Entry → List (List ℕ) → List ℕ
-name_on n h names = name_of (loaded n h).load names
-
--- payload word k of the last image that was loaded on the node
-abbrev pub image_word : ℕ → List Entry → List (List ℕ) → ℕ → ℕ
-image_word n h names = payload_word (loaded n h).header (name_on n h names)
-
--- how many payload words that image has
-abbrev pub image_words : ℕ → List Entry → List (List ℕ) → ℕ
-image_words n h names = 2 + words_of (length (name_on n h names))
+use Rattle.plcr_nodes.specs.Names.{stored, AreNames}
+use Rattle.plcr_nodes.specs.Payload.{image_word, image_words}
+use Rattle.plcr_nodes.specs.inner.Words.{base, stamp_place, table_words}
 
 -- what there is: the words, the history with its names, how many pass numbers were given, which seat owns the list, and which seat has a pass number
 pub record Truth : Type 0 where
