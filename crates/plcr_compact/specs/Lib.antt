@@ -1,0 +1,6 @@
+pub mod Callers
+pub mod Encodings
+pub mod Laws
+pub mod Permutations
+pub mod Sections
+pub mod Tables

@@ -1,0 +1,16 @@
+//! The frame of a caller by an image's compact unwind information (compact_unwind_encoding.h).
+#![tactic(auto)]
+
+mod bad;
+mod caller;
+mod encoding;
+mod layout;
+mod masks;
+mod section;
+
+pub use bad::{
+    DWARF_MODE, FALLING_OFFSETS, MISSING_WORD, NO_ENCODING, NO_ENTRY, NO_REGISTERS, NO_UNWIND_INFO,
+    NOT_MAPPED, OTHER_PAGE, OTHER_VERSION, OUT_OF_RANGE, UNKNOWN_MODE,
+};
+pub use encoding::{Encoding, Permutation, SavedRegister};
+pub use section::{Entry, Found, PageHeader, SectionHeader, Table};
