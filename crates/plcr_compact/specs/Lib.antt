@@ -4,3 +4,4 @@ pub mod Laws
 pub mod Permutations
 pub mod Sections
 pub mod Tables
+pub mod inner

@@ -4,9 +4,12 @@
 mod bad;
 mod caller;
 mod encoding;
+mod entry_kind;
 mod layout;
 mod masks;
+mod reading;
 mod section;
+mod words;
 
 pub use bad::{
     DWARF_MODE, FALLING_OFFSETS, MISSING_WORD, NO_ENCODING, NO_ENTRY, NO_REGISTERS, NO_UNWIND_INFO,
