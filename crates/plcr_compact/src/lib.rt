@@ -8,6 +8,7 @@ mod entry_kind;
 mod layout;
 mod masks;
 mod reading;
+mod search;
 mod section;
 mod words;
 

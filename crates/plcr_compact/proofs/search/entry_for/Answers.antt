@@ -1,0 +1,34 @@
+use Rattle.std.proofs.Common.{◌≡◌, ◌+◌, ◌-◌, ◌/◌, ℕ, List, Ok, arith}
+use Rattle.plcr_compact.specs.declared.section.Entry.{Entry}
+use Rattle.plcr_compact.specs.inner.Searches.{lawful_in}
+use Rattle.plcr_compact.proofs.Searched.{halved_down, halved_end, halved_up, lawful_rises}
+use Rattle.plcr_compact.proofs.search.entry_for.Goals as goal
+
+pub loop-low-preserved-then-entry-offset : goal.loop-low-preserved-then-entry-offset
+loop-low-preserved-then-entry-offset g c =
+    let l = c.loop-low in
+    let middle = l.low + (l.high - l.low) / 2 in
+    record {
+      ordered = omega arith;
+      within = l.invariant.within;
+      halved = λ es h.
+          halved_up c.args.offset c.args.count es l.low l.high middle l.best c.entry_at-entry.result
+          (lawful_rises (g.C.Cells.cells c.args.section.now) c.args.kind c.args.table.now es h) (l.invariant.halved es h) (c.entry_at-entry.ensures es h) c.if-entry-offset.true;
+    }
+
+pub loop-low-preserved : goal.loop-low-preserved
+loop-low-preserved g c =
+    let l = c.loop-low in
+    let middle = l.low + (l.high - l.low) / 2 in
+    record {
+      ordered = omega arith;
+      within = omega (arith, l.invariant.within);
+      halved = λ es h.
+          halved_down c.args.offset c.args.count es l.low l.high middle l.best c.entry_at-entry.result
+          (lawful_rises (g.C.Cells.cells c.args.section.now) c.args.kind c.args.table.now es h) (l.invariant.halved es h) (c.entry_at-entry.ensures es h) c.if-entry-offset.false;
+    }
+
+pub returns : goal.returns
+returns g c es h =
+    let l = c.loop-low in
+    halved_end c.args.offset c.args.count es l.low l.high l.best (l.invariant.halved es h) c.loop-low-test.false (omega (arith, l.invariant.ordered, l.invariant.within))
