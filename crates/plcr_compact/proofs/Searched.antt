@@ -131,6 +131,18 @@ lawful_ok (Ok fs) es h = by_test (falls fs) fs es refl h
     by_test true fs es t h = let e = h in cc
     by_test false fs es t h = let same : fs ≡ es = cc in (ap Ok same, subst (λ (xs : List Entry). falls xs ≡ false) same t)
 
+entries_count : (read : ℕ → Answer Entry) (size count place : ℕ) (es : List Entry) → entries_at read size count place ≡ Ok es → length es ≡ count
+entries_count read size zero place es h =
+    let none : [] ≡ es = cc in
+    sym (ap length none)
+entries_count read size (suc count) place es h =
+    let c = chain_ok (read place) (entries_at read size count (place + size)) es h in
+    ap length c.4 ∙ ap (λ (n : ℕ). suc n) (entries_count read size count (place + size) c.1 c.3)
+
+pub lawful_count : (section : Source) (kind : EntryKind) (table : Table) (es : List Entry) → lawful_in section kind table ≡ Ok es → length es ≡ table.count
+unfolding entries_in
+lawful_count section kind table es h = entries_count (entry_by kind section) (size_by kind) table.count table.at es (lawful_ok (entries_in section kind table) es h).0
+
 pub lawful_rises : (section : Source) (kind : EntryKind) (table : Table) (es : List Entry) → lawful_in section kind table ≡ Ok es → falls es ≡ false
 lawful_rises section kind table es h = (lawful_ok (entries_in section kind table) es h).1
 

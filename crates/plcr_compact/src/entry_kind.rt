@@ -1,6 +1,6 @@
 //! The entries of tables.
 ghost use Rattle.std.specs.Prelude.{◌≡◌, ◌≤◌, ◌<◌, ◌+◌, ◌*◌, ◌^◌, IfOk};
-ghost use Rattle.plcr_compact.specs.inner.Searches.{IsNear, IsTold, entry_by, size_by};
+ghost use Rattle.plcr_compact.specs.inner.Searches.{IsNear, IsSmall, IsTold, entry_by, size_by};
 ghost use Rattle.plcr_compact.specs.Sections.{compressed_entry, index_entry, regular_entry};
 
 use crate::layout::{
@@ -27,7 +27,7 @@ pub enum EntryKind {
 fn index_entry<C: Cells>(section: &C, place: u64) -> Result<Entry, u8>
     requires { place < 2 ^ 62 }
     ensures entry { result ≡ index_entry (C.cells section.now) place }
-    ensures told { IfOk result (λ entry. entry.function < 2 ^ 32) }
+    ensures small { IfOk result (λ entry. entry.function < 2 ^ 32) }
 {
     let function = word(section, place + FUNCTION_OFFSET)?;
     let page = word(section, place + SECOND_LEVEL_PAGES_SECTION_OFFSET)?;
@@ -41,7 +41,8 @@ fn index_entry<C: Cells>(section: &C, place: u64) -> Result<Entry, u8>
 #[tactic(auto, unfolding(crate::specs::Sections::regular_entry))]
 fn regular_entry<C: Cells>(section: &C, place: u64) -> Result<Entry, u8>
     requires { place < 2 ^ 62 }
-    ensures { result ≡ regular_entry (C.cells section.now) place }
+    ensures entry { result ≡ regular_entry (C.cells section.now) place }
+    ensures small { IfOk result (λ entry. entry.function < 2 ^ 32) }
 {
     let function = word(section, place + FUNCTION_OFFSET)?;
     let encoding = word(section, place + ENCODING)?;
@@ -54,7 +55,8 @@ fn regular_entry<C: Cells>(section: &C, place: u64) -> Result<Entry, u8>
 #[tactic(auto, unfolding(crate::specs::Sections::compressed_entry))]
 fn compressed_entry<C: Cells>(first: u64, section: &C, place: u64) -> Result<Entry, u8>
     requires { first < 2 ^ 32 }
-    ensures { result ≡ compressed_entry first (C.cells section.now) place }
+    ensures entry { result ≡ compressed_entry first (C.cells section.now) place }
+    ensures small { IfOk result (λ entry. entry.function < first + 2 ^ 32) }
 {
     let entry = word(section, place)?;
     Ok(Entry {
@@ -96,7 +98,8 @@ impl EntryKind {
     pub fn read<C: Cells>(self, section: &C, place: u64) -> Result<Entry, u8>
         requires told { IsTold self }
         requires near { place < 2 ^ 62 }
-        ensures { result ≡ entry_by self (C.cells section.now) place }
+        ensures entry { result ≡ entry_by self (C.cells section.now) place }
+        ensures small { IfOk result (IsSmall self) }
     {
         match self {
             EntryKind::Index => index_entry(section, place),

@@ -5,6 +5,7 @@ mod bad;
 mod caller;
 mod encoding;
 mod entry_kind;
+mod finding;
 mod layout;
 mod masks;
 mod reading;

@@ -1,8 +1,8 @@
 //! Whether the entries of a table rise, and the search among those that do.
-ghost use Rattle.std.specs.Prelude.{◌≡◌, ◌≤◌, ◌<◌, List, Ok, Some, IsOk, slice_get, take};
+ghost use Rattle.std.specs.Prelude.{◌≡◌, ◌≤◌, ◌<◌, List, Ok, Some, IfSome, IsOk, slice_get, take};
 ghost use Rattle.plcr_base.specs.Chains.{result_map};
 ghost use Rattle.plcr_compact.specs.declared.section.Entry.{Entry};
-ghost use Rattle.plcr_compact.specs.inner.Searches.{IsNear, IsTold, lawful_in};
+ghost use Rattle.plcr_compact.specs.inner.Searches.{IsNear, IsSmall, IsTold, lawful_in};
 ghost use Rattle.plcr_compact.specs.Tables.{chosen};
 
 use crate::bad::FALLING_OFFSETS;
@@ -31,15 +31,16 @@ pub fn check<C: Cells>(section: &C, kind: EntryKind, table: &Table) -> Result<()
     if fell { Err(FALLING_OFFSETS) } else { Ok(()) }
 }
 
-// The entry at an index of a table that was checked.
+/// The entry at an index of a table that was checked.
 #[tactic(auto, using(crate::proofs::Searched::entry_stands, crate::proofs::Searched::entry_missing))]
-fn entry_at<C: Cells>(section: &C, kind: EntryKind, table: &Table, index: u32) -> Entry
+pub fn entry_at<C: Cells>(section: &C, kind: EntryKind, table: &Table, index: u32) -> Entry
     requires near { IsNear table.now }
     requires told { IsTold kind }
     requires lawful { IsOk (lawful_in (C.cells section.now) kind table.now) }
     requires within { index < table.now.count }
-    ensures { (es : List Entry) → lawful_in (C.cells section.now) kind table.now ≡ Ok es
+    ensures entry { (es : List Entry) → lawful_in (C.cells section.now) kind table.now ≡ Ok es
         → slice_get es index ≡ Some result }
+    ensures small { IsSmall kind result }
 {
     match kind.read(section, kind.place(table, index)) {
         Ok(entry) => entry,
@@ -60,8 +61,9 @@ pub fn entry_for<C: Cells>(
     requires told { IsTold kind }
     requires lawful { IsOk (lawful_in (C.cells section.now) kind table.now) }
     requires within { count ≤ table.now.count }
-    ensures { (es : List Entry) → lawful_in (C.cells section.now) kind table.now ≡ Ok es
+    ensures entry { (es : List Entry) → lawful_in (C.cells section.now) kind table.now ≡ Ok es
         → result ≡ chosen offset (take count es) }
+    ensures small { IfSome result (IsSmall kind) }
 {
     let mut low = 0;
     let mut high = count;
