@@ -1,3 +1,4 @@
 pub mod Fields
 pub mod Founded
+pub mod Naming
 pub mod Searched

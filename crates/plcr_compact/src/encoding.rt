@@ -1,8 +1,9 @@
 //! Encodings by their modes (compact_unwind_encoding.h).
 
 /// A register of x86-64 that a function saves for its caller.
-#[derive(Clone, Copy, Debug, PartialEq, Eq)]
+#[derive(Clone, Copy, Debug, Default, PartialEq, Eq)]
 pub enum SavedRegister {
+    #[default]
     Rbx,
     R12,
     R13,
@@ -19,6 +20,9 @@ pub struct Permutation {
     pub number: u32,
 }
 
+/// How many these registers are.
+pub const SAVED_REGISTERS: usize = 6;
+
 /// Pairs of arm64's registers, from x19 and x20 to x27 and x28: whether each was saved.
 pub const PAIRS: usize = 5;
 
@@ -30,20 +34,20 @@ pub const FRAME_REGISTERS: usize = 5;
 pub enum Encoding {
     /// x86-64: the function keeps its frame in rbp, and saved these registers from `offset` bytes below it upwards.
     RbpFrame {
-        offset: u32,
+        offset: u64,
         registers: [Option<SavedRegister>; FRAME_REGISTERS],
     },
     /// x86-64: the function keeps no frame pointer, and its stack has `size` bytes, the return address among them.
-    StackImmediate { size: u32, saved: Permutation },
+    StackImmediate { size: u64, saved: Permutation },
     /// The same, where the size is the sum of `adjust` and the word that stands in the code so far from the function's
     /// start.
     StackIndirect {
         size_at: u32,
-        adjust: u32,
+        adjust: u64,
         saved: Permutation,
     },
     /// arm64: the function keeps no frame pointer, and its stack has `size` bytes. lr has the return address.
-    Frameless { size: u32, pairs: [bool; PAIRS] },
+    Frameless { size: u64, pairs: [bool; PAIRS] },
     /// arm64: the function keeps its frame in fp.
     Frame { pairs: [bool; PAIRS] },
 }

@@ -3,11 +3,13 @@
 
 mod bad;
 mod caller;
+mod decoding;
 mod encoding;
 mod entry_kind;
 mod finding;
 mod layout;
 mod masks;
+mod permutation;
 mod reading;
 mod search;
 mod section;
