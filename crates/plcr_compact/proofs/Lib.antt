@@ -1,4 +1,5 @@
 pub mod Fields
 pub mod Founded
 pub mod Naming
+pub mod Pairs
 pub mod Searched

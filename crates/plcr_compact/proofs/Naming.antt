@@ -19,19 +19,19 @@ named_start digits = plain (named all_registers digits)
     plain None = refl
     plain (Some registers) = refl
 
-pub named_past : (found left : List SavedRegister) (digits : List ℕ) (i place : ℕ) → i < length digits → place ≡ get_or digits i place → length left ≤ place
-    → named_on found left (drop i digits) ≡ None
+pub named_past : (found left : List SavedRegister) (digits : List ℕ) (i : ℕ) → i < length digits → length left ≤ get_or digits i 0 → named_on found left (drop i digits) ≡ None
 unfolding named_on
-named_past found left digits i place within is past =
-    let d : drop i digits ≡ place ∷ drop (i + 1) digits = drop_more digits i place within ∙ ap (λ (x : ℕ). x ∷ drop (i + 1) digits) (sym is) in
-    rw (d, slice_get_past left place past) refl
+named_past found left digits i within past =
+    let d : drop i digits ≡ get_or digits i 0 ∷ drop (i + 1) digits = drop_more digits i 0 within in
+    rw (d, slice_get_past left (get_or digits i 0) past) refl
 
-pub named_more : (found left : List SavedRegister) (digits : List ℕ) (i place : ℕ) (register : SavedRegister) → i < length digits → place ≡ get_or digits i place → place < length left
-    → register ≡ get_or left place register
-    → named_on found left (drop i digits) ≡ named_on (found ++ register ∷ []) (remove left place) (drop (i + 1) digits)
+pub named_more : (found left : List SavedRegister) (digits : List ℕ) (i : ℕ) (register : SavedRegister) → i < length digits → get_or digits i 0 < length left
+    → register ≡ get_or left (get_or digits i 0) register
+    → named_on found left (drop i digits) ≡ named_on (found ++ register ∷ []) (remove left (get_or digits i 0)) (drop (i + 1) digits)
 unfolding named_on
-named_more found left digits i place register within is inside read =
-    let d : drop i digits ≡ place ∷ drop (i + 1) digits = drop_more digits i place within ∙ ap (λ (x : ℕ). x ∷ drop (i + 1) digits) (sym is) in
+named_more found left digits i register within inside read =
+    let place = get_or digits i 0 in
+    let d : drop i digits ≡ place ∷ drop (i + 1) digits = drop_more digits i 0 within in
     let there : slice_get left place ≡ Some register = slice_get_read left (length left) place register refl inside read in
     rw (d, there) (moved (named (remove left place) (drop (i + 1) digits)))
   where

@@ -66,7 +66,7 @@ field_words at (None ∷ registers) = field_words (at +ℤ pos 8) registers
 field_words at (Some register ∷ registers) = saved_word at (saved_place register) ∷ field_words (at +ℤ pos 8) registers
 
 -- the places of arm64's pairs of registers that functions save
-abbrev pub pair_places : List (ℕ × ℕ)
+unfoldable pub pair_places : List (ℕ × ℕ)
 pair_places =
     (place_of Arm64 (codes "x19"), place_of Arm64 (codes "x20")) ∷
     (place_of Arm64 (codes "x21"), place_of Arm64 (codes "x22")) ∷

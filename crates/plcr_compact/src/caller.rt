@@ -1,9 +1,25 @@
+use arrayvec::ArrayVec;
 use plcr_regs::MOST_REGISTERS;
 
 /// A word on the stack that a function saved: where it stands, counted without modulo, and the place of the register
 /// whose value it is.
-#[derive(Clone, Copy, Debug, PartialEq, Eq)]
+#[derive(Clone, Copy, Debug, Default, PartialEq, Eq)]
 pub struct SavedWord {
     pub at: i128,
     pub place: usize,
+}
+
+/// A function saves at most so many words: ten of pairs, the frame pointer and the return address.
+pub const MOST_WORDS: usize = 12;
+
+/// The words that a function saved.
+pub type Words = ArrayVec<SavedWord, MOST_WORDS>;
+
+/// What is known of a caller before the stack is read: its registers, its stack pointer, counted without modulo, and the
+/// words that hold others.
+#[derive(Drop)]
+pub struct Caller {
+    pub value: [Option<u64>; MOST_REGISTERS],
+    pub stack: i128,
+    pub words: Words,
 }

@@ -67,17 +67,17 @@ fn x86_64_encoding(word: u32) -> Result<Encoding, u8>
         UNWIND_X86_64_MODE_RBP_FRAME => {
             let registers = frame_registers(field(word, UNWIND_X86_64_RBP_FRAME_REGISTERS))?;
             Ok(Encoding::RbpFrame {
-                offset: 8 * u64::from(field(word, UNWIND_X86_64_RBP_FRAME_OFFSET)),
+                offset: 8 * field(word, UNWIND_X86_64_RBP_FRAME_OFFSET),
                 registers,
             })
         }
         UNWIND_X86_64_MODE_STACK_IMMD => Ok(Encoding::StackImmediate {
-            size: 8 * u64::from(field(word, UNWIND_X86_64_FRAMELESS_STACK_SIZE)),
+            size: 8 * field(word, UNWIND_X86_64_FRAMELESS_STACK_SIZE),
             saved: permutation(word),
         }),
         UNWIND_X86_64_MODE_STACK_IND => Ok(Encoding::StackIndirect {
             size_at: field(word, UNWIND_X86_64_FRAMELESS_STACK_SIZE),
-            adjust: 8 * u64::from(field(word, UNWIND_X86_64_FRAMELESS_STACK_ADJUST)),
+            adjust: 8 * field(word, UNWIND_X86_64_FRAMELESS_STACK_ADJUST),
             saved: permutation(word),
         }),
         UNWIND_X86_64_MODE_DWARF => Err(DWARF_MODE),
@@ -105,7 +105,7 @@ fn arm64_encoding(word: u32) -> Result<Encoding, u8>
 {
     match word & UNWIND_ARM64_MODE_MASK {
         UNWIND_ARM64_MODE_FRAMELESS => Ok(Encoding::Frameless {
-            size: 16 * u64::from(field(word, UNWIND_ARM64_FRAMELESS_STACK_SIZE_MASK)),
+            size: 16 * field(word, UNWIND_ARM64_FRAMELESS_STACK_SIZE_MASK),
             pairs: pairs(word),
         }),
         UNWIND_ARM64_MODE_FRAME => Ok(Encoding::Frame { pairs: pairs(word) }),

@@ -34,20 +34,20 @@ pub const FRAME_REGISTERS: usize = 5;
 pub enum Encoding {
     /// x86-64: the function keeps its frame in rbp, and saved these registers from `offset` bytes below it upwards.
     RbpFrame {
-        offset: u64,
+        offset: u32,
         registers: [Option<SavedRegister>; FRAME_REGISTERS],
     },
     /// x86-64: the function keeps no frame pointer, and its stack has `size` bytes, the return address among them.
-    StackImmediate { size: u64, saved: Permutation },
+    StackImmediate { size: u32, saved: Permutation },
     /// The same, where the size is the sum of `adjust` and the word that stands in the code so far from the function's
     /// start.
     StackIndirect {
         size_at: u32,
-        adjust: u64,
+        adjust: u32,
         saved: Permutation,
     },
     /// arm64: the function keeps no frame pointer, and its stack has `size` bytes. lr has the return address.
-    Frameless { size: u64, pairs: [bool; PAIRS] },
+    Frameless { size: u32, pairs: [bool; PAIRS] },
     /// arm64: the function keeps its frame in fp.
     Frame { pairs: [bool; PAIRS] },
 }

@@ -3,6 +3,7 @@
 
 mod bad;
 mod caller;
+mod calling;
 mod decoding;
 mod encoding;
 mod entry_kind;

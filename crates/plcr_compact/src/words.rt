@@ -22,10 +22,11 @@ pub fn half<C: Cells>(section: &C, place: u64) -> Result<u16, u8>
 }
 
 /// The bits of a word under a mask that has some, as a number.
-#[tactic(auto, unfolding(crate::specs::Sections::field), using(crate::proofs::Fields::lowest_within))]
+#[tactic(auto, unfolding(crate::specs::Sections::field), using(crate::proofs::Fields::lowest_within, crate::proofs::Fields::field_most))]
 pub fn field(word: u32, mask: u32) -> u32
     requires { 0 < mask }
-    ensures { result ≡ field word mask }
+    ensures field { result ≡ field word mask }
+    ensures most { result ≤ mask }
 {
     (word & mask) >> mask.trailing_zeros()
 }

@@ -1,0 +1,277 @@
+//! What an encoding says of the caller, before the stack is read.
+ghost use Rattle.std.specs.Prelude.{◌≡◌, ◌≤◌, ◌<◌, ◌+◌, ◌^◌, ◌++◌, ℤ, pos, ◌-ℤ◌, int_lt, length, slice_index_or, IsTrue};
+ghost use Rattle.plcr_base.specs.Chains.{result_map};
+ghost use Rattle.plcr_compact.specs.Callers.{caller_by, field_words, framed, frameless, frameless_by, kept_in, leaf, link, needed, pair_places, pair_words, register_words, saved_place, size_at};
+ghost use Rattle.plcr_compact.specs.inner.Carrying.{caller_of, field_word, pair_top, pair_word};
+ghost use Rattle.plcr_compact.specs.declared.caller.TheConstants.{MOST_WORDS};
+ghost use Rattle.plcr_compact.specs.declared.encoding.TheConstants.{PAIRS};
+ghost use Rattle.plcr_regs.specs.declared.limits.TheConstants.{MOST_REGISTERS};
+
+use crate::bad::{NO_REGISTERS, NOT_MAPPED, OUT_OF_RANGE};
+use crate::caller::{Caller, SavedWord, Words};
+use crate::encoding::{Encoding, FRAME_REGISTERS, PAIRS, Permutation, SavedRegister};
+use crate::permutation::saved_registers;
+use arrayvec::ArrayVec;
+use plcr_memory::Memory;
+use plcr_regs::{Frame, MOST_REGISTERS, fp_place, lr_place, pc_place, sp_place};
+
+/// How many bytes a register has on the stack.
+const WORD: i128 = 8;
+
+// The place of a register that x86-64's functions save.
+#[tactic(auto, unfolding(crate::specs::Callers::saved_place))]
+fn saved_place(register: SavedRegister) -> usize
+    ensures place { result ≡ saved_place register }
+    ensures within { result < MOST_REGISTERS }
+{
+    match register {
+        SavedRegister::Rbx => 1,
+        SavedRegister::R12 => 12,
+        SavedRegister::R13 => 13,
+        SavedRegister::R14 => 14,
+        SavedRegister::R15 => 15,
+        SavedRegister::Rbp => 6,
+    }
+}
+
+// Registers one behind the other from an address upwards.
+fn push_registers(words: &mut Words, at: i128, registers: &[SavedRegister])
+    requires room { length words.old.items + length registers.now ≤ MOST_WORDS }
+    requires near { IsTrue (int_lt at (pos (2 ^ 70))) }
+    ensures words { words.new.items ≡ words.old.items ++ register_words at registers.now }
+    ensures size { length words.new.items ≡ length words.old.items + length registers.now }
+{
+    let mut at = at;
+    for register in registers {
+        words.push(SavedWord {
+            at,
+            place: saved_place(*register),
+        });
+        at += WORD;
+    }
+}
+
+// The word of a register, where one was saved.
+fn push_field(words: &mut Words, at: i128, register: Option<SavedRegister>)
+    requires { length words.old.items < MOST_WORDS }
+    ensures words { words.new.items ≡ words.old.items ++ field_word at register }
+    ensures size { length words.new.items ≤ length words.old.items + 1 }
+{
+    if let Some(register) = register {
+        words.push(SavedWord {
+            at,
+            place: saved_place(register),
+        });
+    }
+}
+
+// The same, with words among them that hold none.
+fn push_fields(words: &mut Words, at: i128, registers: &[Option<SavedRegister>])
+    requires room { length words.old.items + length registers.now ≤ MOST_WORDS }
+    requires near { IsTrue (int_lt at (pos (2 ^ 70))) }
+    ensures words { words.new.items ≡ words.old.items ++ field_words at registers.now }
+    ensures size { length words.new.items ≤ length words.old.items + length registers.now }
+{
+    let mut at = at;
+    for register in registers {
+        push_field(words, at, *register);
+        at += WORD;
+    }
+}
+
+// The words of a pair from an address downwards, where it was saved. The answer is where the next pair stands.
+fn push_pair(words: &mut Words, top: i128, saved: bool, places: (usize, usize)) -> i128
+    requires room { length words.old.items + 2 ≤ MOST_WORDS }
+    requires near { IsTrue (int_lt (pos 0 -ℤ pos (2 ^ 70)) top) }
+    ensures words { words.new.items ≡ words.old.items ++ pair_word top saved places }
+    ensures size { length words.new.items ≤ length words.old.items + 2 }
+    ensures top { result ≡ pair_top top saved }
+{
+    if !saved {
+        return top;
+    }
+    words.push(SavedWord {
+        at: top,
+        place: places.0,
+    });
+    words.push(SavedWord {
+        at: top - WORD,
+        place: places.1,
+    });
+    top - 2 * WORD
+}
+
+// The places of a pair of arm64's registers.
+#[tactic(auto, using(crate::proofs::Pairs::pair_table))]
+fn pair_places(pair: usize) -> (usize, usize)
+    requires { pair < PAIRS }
+    ensures { result ≡ slice_index_or pair_places pair (0, 0) }
+{
+    match pair {
+        0 => (19, 20),
+        1 => (21, 22),
+        2 => (23, 24),
+        3 => (25, 26),
+        _ => (27, 28),
+    }
+}
+
+// The pairs that were saved, from an address downwards.
+fn push_pairs(words: &mut Words, top: i128, pairs: &[bool; PAIRS])
+    requires room { length words.old.items + 10 ≤ MOST_WORDS }
+    requires near { IsTrue (int_lt (pos 0 -ℤ pos (2 ^ 69)) top) }
+    ensures words { words.new.items ≡ words.old.items ++ pair_words top pairs.now pair_places }
+    ensures size { length words.new.items ≤ length words.old.items + 10 }
+{
+    let mut top = top;
+    for pair in 0..PAIRS {
+        top = push_pair(words, top, pairs[pair], pair_places(pair));
+    }
+}
+
+// The register at a place, which is needed.
+fn needed(frame: &Frame, place: usize) -> Result<u64, u8>
+    requires { place < MOST_REGISTERS }
+    ensures { result ≡ needed frame.now place }
+{
+    frame.registers.value[place].ok_or(OUT_OF_RANGE)
+}
+
+// The registers that functions keep, as the frame has them.
+fn kept(frame: &Frame) -> [Option<u64>; MOST_REGISTERS]
+    ensures { result ≡ kept_in frame.now }
+{
+    let registers = frame.registers.kept();
+    registers.value
+}
+
+// The caller of a frame with a frame pointer, with these words besides.
+#[tactic(auto, using(std::proofs::lemmas::List::append_assoc))]
+fn framed(frame: &Frame, pointer: u64, words: Words) -> Caller
+    requires { length words.items + 2 ≤ MOST_WORDS }
+    ensures { caller_of result ≡ framed frame.now pointer words.items }
+{
+    let arch = frame.registers.arch;
+    let at = i128::from(pointer);
+    let mut words = words;
+    words.push(SavedWord {
+        at,
+        place: fp_place(arch),
+    });
+    words.push(SavedWord {
+        at: at + WORD,
+        place: pc_place(arch),
+    });
+    let value = kept(frame);
+    Caller {
+        value,
+        stack: at + 2 * WORD,
+        words,
+    }
+}
+
+// The caller of a frame without one on x86-64.
+fn frameless(frame: &Frame, pointer: u64, size: u64, registers: &[SavedRegister]) -> Caller
+    requires { length registers.now < MOST_WORDS }
+    ensures { caller_of result ≡ frameless frame.now pointer size registers.now }
+{
+    let stack = i128::from(pointer) + i128::from(size);
+    let mut words = Words::new();
+    push_registers(&mut words, stack - (8 + 8 * registers.len() as i128), registers);
+    words.push(SavedWord {
+        at: stack - WORD,
+        place: pc_place(frame.registers.arch),
+    });
+    let value = kept(frame);
+    Caller {
+        value,
+        stack,
+        words,
+    }
+}
+
+// The same, where the stack has room for what was saved.
+#[tactic(auto, unfolding(crate::specs::Callers::frameless_by))]
+fn frameless_by(frame: &Frame, size: Option<u64>, saved: Permutation) -> Result<Caller, u8>
+    ensures { result_map caller_of result ≡ frameless_by frame.now size saved }
+{
+    let registers = saved_registers(saved).ok_or(NO_REGISTERS)?;
+    let least = 8 + 8 * registers.len() as u64;
+    if matches!(size, Some(size) if size < least) {
+        return Err(NO_REGISTERS);
+    }
+    let pointer = needed(frame, sp_place(frame.registers.arch))?;
+    let size = size.ok_or(NOT_MAPPED)?;
+    Ok(frameless(frame, pointer, size, registers.as_slice()))
+}
+
+// What lr has.
+fn link(frame: &Frame) -> Option<u64>
+    ensures { result ≡ link frame.now }
+{
+    let place = lr_place(frame.registers.arch)?;
+    frame.registers.value[place]
+}
+
+// The caller of a frame without one on arm64.
+fn leaf(frame: &Frame, pointer: u64, back: u64, size: u32, pairs: &[bool; PAIRS]) -> Caller
+    ensures { caller_of result ≡ leaf frame.now pointer back size pairs.now }
+{
+    let stack = i128::from(pointer) + i128::from(size);
+    let mut words = Words::new();
+    push_pairs(&mut words, stack - WORD, pairs);
+    let mut value = kept(frame);
+    value[pc_place(frame.registers.arch)] = Some(back);
+    Caller {
+        value,
+        stack,
+        words,
+    }
+}
+
+// The size that stands in the code so far from a function's start, and what is added to it.
+fn size_at(memory: &Memory, start: u64, place: u32, adjust: u32) -> Option<u64>
+    ensures { result ≡ size_at memory.now start place adjust }
+{
+    let size = memory.read_u32(start.wrapping_add(u64::from(place)))?;
+    Some(u64::from(size) + u64::from(adjust))
+}
+
+/// The caller by an encoding of a function that starts at an address.
+#[tactic(auto, unfolding(crate::specs::Callers::caller_by))]
+pub fn caller_by(
+    memory: &Memory,
+    start: u64,
+    frame: &Frame,
+    encoding: &Encoding,
+) -> Result<Caller, u8>
+    ensures { result_map caller_of result ≡ caller_by memory.now start frame.now encoding.now }
+{
+    let arch = frame.registers.arch;
+    let mut words = Words::new();
+    match encoding {
+        Encoding::RbpFrame { offset, registers } => {
+            let pointer = needed(frame, fp_place(arch))?;
+            push_fields(&mut words, i128::from(pointer) - i128::from(*offset), registers);
+            Ok(framed(frame, pointer, words))
+        }
+        Encoding::StackImmediate { size, saved } => {
+            frameless_by(frame, Some(u64::from(*size)), *saved)
+        }
+        Encoding::StackIndirect {
+            size_at: place,
+            adjust,
+            saved,
+        } => frameless_by(frame, size_at(memory, start, *place, *adjust), *saved),
+        Encoding::Frameless { size, pairs } => {
+            let pointer = needed(frame, sp_place(arch))?;
+            let back = link(frame).ok_or(OUT_OF_RANGE)?;
+            Ok(leaf(frame, pointer, back, *size, pairs))
+        }
+        Encoding::Frame { pairs } => {
+            let pointer = needed(frame, fp_place(arch))?;
+            push_pairs(&mut words, i128::from(pointer) - WORD, pairs);
+            Ok(framed(frame, pointer, words))
+        }
+    }
+}
