@@ -1,6 +1,6 @@
 -- How a section is searched, step by step.
-use Rattle.std.proofs.Common.{◌≡◌, ◌≤◌, ◌<◌, ℕ, zero, suc, ◌+◌, ◌-◌, Bool, true, false, List, [], ◌∷◌, length, take, Option, Some, None, Result, Ok, Err, refl, sym, ap, subst, ◌∙◌, arith}
-use Rattle.std.specs.Prelude.{◌≢◌, ◌==◌, slice_get, nat_lt, nat_le, IsOk, IfSome, if◌then◌else◌, ok_or}
+use Rattle.std.proofs.Common.{◌≡◌, ◌≤◌, ◌<◌, ℕ, ◌-◌, true, false, List, length, take, Option, Some, None, Ok, Err, refl, sym, ap, subst, ◌∙◌, arith}
+use Rattle.std.specs.Prelude.{◌≢◌, ◌==◌, slice_get, nat_lt, IsOk}
 use Rattle.std.proofs.lemmas.Bool.Decides.{nat_tests}
 use Rattle.std.proofs.lemmas.List.{take_all}
 use Rattle.std.proofs.lemmas.Option.{slice_get_past}
@@ -10,7 +10,6 @@ use Rattle.plcr_compact.specs.declared.entry_kind.EntryKind.{EntryKind}
 use Rattle.plcr_compact.specs.declared.entry_kind.EntryKind.TheVariants as kinds
 use Rattle.plcr_compact.specs.declared.bad.TheConstants.{NO_ENTRY}
 use Rattle.plcr_compact.specs.declared.section.Entry.{Entry}
-use Rattle.plcr_compact.specs.declared.section.Found.{Found}
 use Rattle.plcr_compact.specs.declared.section.PageHeader.{PageHeader}
 use Rattle.plcr_compact.specs.declared.section.PageHeader.TheVariants as pages
 use Rattle.plcr_compact.specs.declared.section.SectionHeader.{SectionHeader}

@@ -3,3 +3,4 @@ pub mod Founded
 pub mod Naming
 pub mod Pairs
 pub mod Searched
+pub mod Standing

@@ -1,5 +1,5 @@
 -- Encodings: how the frame of a function is laid out, by the words of compact_unwind_encoding.h.
-use Rattle.std.specs.Prelude.{ℕ, zero, suc, ◌*◌, ◌/◌, ◌%◌, ◌==◌, Bool, not, if◌then◌else◌, List, [], ◌∷◌, map, Option, Some, None, Result, Ok, Err}
+use Rattle.std.specs.Prelude.{ℕ, zero, suc, ◌*◌, ◌/◌, ◌%◌, ◌==◌, Bool, not, if◌then◌else◌, List, [], ◌∷◌, map, Option, Some, None, Ok, Err}
 use Rattle.std.specs.Int.Bits.{bit_and}
 use Rattle.plcr_base.specs.Chains.{◌>>=◌}
 use Rattle.plcr_regs.specs.declared.arch.Arch.{Arch}

@@ -1,5 +1,5 @@
 -- What the choice among entries and the numbers of orders mean, above how they are computed.
-use Rattle.std.specs.Prelude.{◌≡◌, ◌≢◌, ◌<◌, ◌≤◌, ℕ, List, length, slice_get, Some}
+use Rattle.std.specs.Prelude.{◌≡◌, ◌<◌, ◌≤◌, ℕ, List, length, slice_get, Some}
 use Rattle.plcr_compact.specs.declared.section.Entry.{Entry}
 use Rattle.plcr_compact.specs.declared.encoding.SavedRegister.{SavedRegister}
 

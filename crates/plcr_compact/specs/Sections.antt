@@ -1,5 +1,5 @@
 -- The section `__unwind_info` of an image (compact_unwind_encoding.h): a header, an index of functions by their offsets, and pages with their encodings. Places are counted from the section's start.
-use Rattle.std.specs.Prelude.{ℕ, ◌+◌, ◌-◌, ◌*◌, ◌/◌, ◌^◌, ◌==◌, nat_lt, false, not, if◌then◌else◌, List, [], length, take, slice_get, Option, Some, None, ok_or, Result, Ok, Err}
+use Rattle.std.specs.Prelude.{ℕ, ◌+◌, ◌-◌, ◌*◌, ◌/◌, ◌^◌, ◌==◌, nat_lt, false, not, if◌then◌else◌, List, length, take, slice_get, Option, Some, None, ok_or, Ok, Err}
 use Rattle.std.specs.Option.{option_map_or}
 use Rattle.std.specs.Int.{w32, trailing_zeros}
 use Rattle.std.specs.Int.Bits.{bit_and}

@@ -4,6 +4,7 @@
 mod bad;
 mod caller;
 mod calling;
+mod carrying;
 mod decoding;
 mod encoding;
 mod entry_kind;
@@ -14,6 +15,7 @@ mod permutation;
 mod reading;
 mod search;
 mod section;
+mod step;
 mod words;
 
 pub use bad::{

@@ -1,5 +1,5 @@
 -- What is known of a caller, as the code keeps it.
-use Rattle.std.specs.Prelude.{ℕ, ◌<◌, ℤ, pos, ◌-ℤ◌, Bool, true, false, if◌then◌else◌, List, [], ◌∷◌, All, Option, Some, None}
+use Rattle.std.specs.Prelude.{ℕ, ◌<◌, ℤ, pos, ◌-ℤ◌, Bool, true, false, List, [], ◌∷◌, All, Option, Some, None}
 use Rattle.plcr_regs.specs.declared.limits.TheConstants.{MOST_REGISTERS}
 use Rattle.plcr_compact.specs.declared.caller.SavedWord.{SavedWord}
 use Rattle.plcr_compact.specs.declared.caller.Caller as kept

@@ -1,5 +1,5 @@
 -- The tables of a section, as they are searched.
-use Rattle.std.specs.Prelude.{ℕ, ◌+◌, ◌*◌, ◌^◌, ◌<◌, List}
+use Rattle.std.specs.Prelude.{ℕ, ◌+◌, ◌^◌, ◌<◌, List}
 use Rattle.plcr_base.specs.Chains.{◌>>=◌, result_map}
 use Rattle.plcr_leb128.specs.Cells.{Source}
 use Rattle.plcr_compact.specs.declared.entry_kind.EntryKind.{EntryKind}

@@ -1,5 +1,5 @@
 use Rattle.std.proofs.Common.{◌≡◌, ◌≤◌, ◌+◌, ◌*◌, ◌++◌, length, drop}
-use Rattle.std.specs.Prelude.{ℤ, pos, ◌+ℤ◌}
+use Rattle.std.specs.Prelude.{pos, ◌+ℤ◌}
 use Rattle.plcr_compact.specs.Callers.{field_words}
 use Rattle.plcr_compact.proofs.calling.push_fields.Given as goal
 

@@ -1,6 +1,6 @@
-use Rattle.std.proofs.Common.{◌≡◌, ◌∙◌, ◌++◌, ◌+◌, ◌<◌, false, List, length, drop, get_or, ap, sym, arith, rules}
+use Rattle.std.proofs.Common.{◌<◌, false, length, get_or, arith, rules}
 use Rattle.std.proofs.lemmas.Int.{to_z-of_z}
-use Rattle.plcr_compact.specs.Callers.{pair_places, pair_words}
+use Rattle.plcr_compact.specs.Callers.{pair_places}
 use Rattle.plcr_compact.proofs.Pairs.{lower, pair_more, table_long}
 use Rattle.plcr_compact.proofs.calling.push_pairs.Goals as goal
 

@@ -1,5 +1,5 @@
 use Rattle.std.proofs.Common.{◌≡◌, ◌≤◌, ◌+◌, ◌*◌, ◌++◌, length, drop}
-use Rattle.std.specs.Prelude.{ℤ, pos, ◌-ℤ◌, int_le, IsTrue}
+use Rattle.std.specs.Prelude.{pos, ◌-ℤ◌, int_le, IsTrue}
 use Rattle.plcr_compact.specs.Callers.{pair_places, pair_words}
 use Rattle.plcr_compact.proofs.calling.push_pairs.Given as goal
 

@@ -1,7 +1,6 @@
-use Rattle.std.proofs.Common.{◌≡◌, ◌≤◌, ◌+◌, ◌*◌, ◌++◌, length, drop}
-use Rattle.std.specs.Prelude.{ℤ, pos, ◌+ℤ◌}
+use Rattle.std.proofs.Common.{◌≡◌, ◌+◌, ◌*◌, ◌++◌, length, drop}
+use Rattle.std.specs.Prelude.{pos, ◌+ℤ◌}
 use Rattle.plcr_compact.specs.Callers.{register_words}
-use Rattle.plcr_compact.specs.declared.caller.TheConstants.{MOST_WORDS}
 use Rattle.plcr_compact.proofs.calling.push_registers.Given as goal
 
 abbrev pub invariant-loop-register : goal.invariant-loop-register

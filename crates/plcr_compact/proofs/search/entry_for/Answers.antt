@@ -1,6 +1,4 @@
-use Rattle.std.proofs.Common.{◌≡◌, ◌+◌, ◌-◌, ◌/◌, ℕ, List, Ok, arith}
-use Rattle.plcr_compact.specs.declared.section.Entry.{Entry}
-use Rattle.plcr_compact.specs.inner.Searches.{lawful_in}
+use Rattle.std.proofs.Common.{◌+◌, ◌-◌, ◌/◌, arith}
 use Rattle.plcr_compact.proofs.Searched.{halved_down, halved_end, halved_up, lawful_rises}
 use Rattle.plcr_compact.proofs.search.entry_for.Goals as goal
 

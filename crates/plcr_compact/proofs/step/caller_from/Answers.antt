@@ -1,0 +1,10 @@
+use Rattle.std.proofs.Common.{◌∙◌, ◌+◌, ◌%◌, ◌^◌, ap, sym}
+use Rattle.plcr_base.specs.Chains.{result_map}
+use Rattle.plcr_compact.specs.inner.Carrying.{caller_of}
+use Rattle.plcr_compact.proofs.Standing.{words_stand}
+use Rattle.plcr_compact.proofs.step.caller_from.Goals as goal
+
+pub read_caller-requires : goal.read_caller-requires
+read_caller-requires c =
+    words_stand c.args.memory.now ((c.args.image.now.header + c.args.found.now.function) % 2 ^ 64) c.args.frame.now c.in_ok-encoding.encoding (caller_of c.in_ok-caller.caller)
+    (sym c.caller_by.ensures ∙ ap (result_map caller_of) c.in_ok-caller.was)
