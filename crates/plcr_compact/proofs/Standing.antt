@@ -22,7 +22,8 @@ use Rattle.plcr_compact.specs.declared.encoding.Permutation.{Permutation}
 use Rattle.plcr_compact.specs.Callers.{Caller, caller_by, field_words, frame_words, framed, frameless, frameless_by, leaf, link, needed, pair_places, pair_words, register_words, saved_place, saved_word, size_at}
 use Rattle.plcr_compact.specs.Permutations.{saved_registers}
 use Rattle.plcr_compact.specs.Tables.{Answer}
-use Rattle.plcr_compact.specs.Sections.{found_in}
+use Rattle.plcr_macho.specs.declared.image.Part.{Part}
+use Rattle.plcr_compact.specs.Sections.{found_in, section_at}
 use Rattle.plcr_compact.specs.inner.Carrying.{AreRegisters}
 use Rattle.plcr_compact.proofs.Pairs.{pair_table}
 
@@ -30,6 +31,10 @@ use Rattle.plcr_compact.proofs.Pairs.{pair_table}
 pub stored_found : (memory : Contents) (at size : ℕ) (bytes : List ℕ) (offset : ℕ) → bytes_at memory at size ≡ Some bytes → at + size ≤ 2 ^ 64
     → found_in (list_bytes bytes) offset ≡ found_in (piece_bytes memory at size) offset
 stored_found memory at size bytes offset there within = ap (λ (section : Source). found_in section offset) (stored_bytes memory at size bytes within there)
+
+pub stored_section : (memory : Contents) (part : Part) (bytes : List ℕ) → bytes_at memory part.at part.size ≡ Some bytes → part.at + part.size ≤ 2 ^ 64
+    → list_bytes bytes ≡ section_at memory part
+stored_section memory part bytes there within = stored_bytes memory part.at part.size bytes within there
 
 -- each word that a function saves is a register's
 abbrev IsPlace : SavedWord → Type 0

@@ -9,6 +9,7 @@ mod decoding;
 mod encoding;
 mod entry_kind;
 mod finding;
+mod known;
 mod layout;
 mod masks;
 mod permutation;
