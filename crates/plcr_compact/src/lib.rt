@@ -24,4 +24,13 @@ pub use bad::{
     NOT_MAPPED, OTHER_PAGE, OTHER_VERSION, OUT_OF_RANGE, UNKNOWN_MODE,
 };
 pub use encoding::{Encoding, Permutation, SavedRegister};
+pub use known::{KNOWN_INDEXES, KNOWN_PAGES, KnownSections};
 pub use section::{Entry, Found, PageHeader, SectionHeader, Table};
+pub use step::{find, step, step_from};
+
+#[cfg(test)]
+mod fixtures;
+#[cfg(test)]
+mod section_tests;
+#[cfg(test)]
+mod tests;
