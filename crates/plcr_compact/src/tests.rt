@@ -1,8 +1,9 @@
 use crate::fixtures::*;
-use crate::{find, step_from};
+use crate::{find, step, step_from};
 use plcr_macho::Image;
-use plcr_memory::Memory;
-use plcr_regs::{Arch, Frame, Registers, Step};
+use plcr_memory::{Memory, MemoryFault};
+use plcr_regs::{Arch, Frame, Registers, Step, fp_place, sp_place};
+use std::alloc::Global;
 use std::test::*;
 
 const RAX: usize = 0;
@@ -147,5 +148,168 @@ fn frames_of_arm64(rt: HostRuntime) -> Result<(), Fail> {
         &[(19, 1), (21, 2), (FP, 0x7100), (PC, 0x5000), (SP, 0x7120)],
     );
     assert!(rt; stepped(&leaf, &image_with(68), &frame, 0x100) == want);
+    Ok(())
+}
+
+// What the reader says of a function with this encoding and a frame of which these registers are known.
+fn said(
+    alloc: Global,
+    arch: Arch,
+    encoding: u32,
+    known: &[(usize, u64)],
+) -> Result<Step, MemoryFault> {
+    let memory = memory_with(alloc, &one_function(encoding))?;
+    let frame = frame_at(arch, 64, 0x100, known);
+    Ok(stepped(&memory, &image_with(68), &frame, 0x100))
+}
+
+// Encodings and registers that give a number, in the order in which they are judged.
+#[test]
+fn encodings_that_tell_no_caller(rt: HostRuntime) -> Result<(), Fail> {
+    let alloc = rt.alloc();
+    let (x86_64, arm64) = (Arch::X86_64, Arch::Arm64);
+    // The encoding, the register that is known and its number, and the number of what is bad. The stack is mapped from
+    // 0x7000 to 0x7200.
+    let cases = [
+        // Modes.
+        (x86_64, 0, (RSP, 0x7100), 8),
+        (x86_64, 0x0500_0000, (RSP, 0x7100), 8),
+        (x86_64, 0x0f00_0000, (RSP, 0x7100), 8),
+        (x86_64, 0xf0ff_ffff, (RSP, 0x7100), 8),
+        (x86_64, 0x0400_0000, (RSP, 0x7100), 9),
+        (arm64, 0, (SP, 0x7100), 8),
+        (arm64, 0x0100_0000, (SP, 0x7100), 8),
+        (arm64, 0x0300_0000, (SP, 0x7100), 9),
+        // Registers that no field names, before those that aren't known.
+        (x86_64, 0x0101_0006, (RAX, 0), 10),
+        (x86_64, 0x0101_7000, (RAX, 0), 10),
+        (x86_64, 0x0101_0e00, (RAX, 0), 10),
+        (x86_64, 0x0101_0001, (RAX, 0), 11),
+        // A seventh register, orders that aren't, and stacks without room.
+        (x86_64, 0x02ff_1c00, (RAX, 0), 10),
+        (x86_64, 0x0202_0406, (RAX, 0), 10),
+        (x86_64, 0x0203_081e, (RAX, 0), 10),
+        (x86_64, 0x0207_1ad0, (RAX, 0), 10),
+        (x86_64, 0x0200_0000, (RAX, 0), 10),
+        (x86_64, 0x0201_0400, (RAX, 0), 10),
+        (x86_64, 0x0202_0400, (RAX, 0), 11),
+        (x86_64, 0x0206_1800, (RAX, 0), 10),
+        (x86_64, 0x0207_1800, (RAX, 0), 11),
+        // A size in the code, which isn't mapped there.
+        (x86_64, 0x0307_1c00, (RAX, 0), 10),
+        (x86_64, 0x0300_0000, (RAX, 0), 11),
+        (x86_64, 0x0300_0000, (RSP, 0x7100), 12),
+        // Words and stacks that pass the addresses.
+        (x86_64, 0x0101_0001, (RBP, 7), 11),
+        (x86_64, 0x0101_0001, (RBP, 8), 12),
+        (x86_64, 0x0101_0000, (RBP, 0), 12),
+        (x86_64, 0x0100_0000, (RBP, u64::MAX - 15), 12),
+        (x86_64, 0x0100_0000, (RBP, u64::MAX - 14), 11),
+        (x86_64, 0x0201_0000, (RSP, u64::MAX - 7), 12),
+        (x86_64, 0x0201_0000, (RSP, u64::MAX - 6), 11),
+        (arm64, 0x0400_0001, (FP, 15), 11),
+        (arm64, 0x0400_0001, (FP, 16), 12),
+        (arm64, 0x0400_0f00, (FP, 0), 12),
+        (arm64, 0x0400_0000, (SP, 0), 11),
+        (arm64, 0x0200_1000, (SP, 0x7100), 11),
+        // Words that aren't mapped.
+        (x86_64, 0x0101_0001, (RBP, 0x71f8), 12),
+        (x86_64, 0x0101_0001, (RBP, 0x7000), 12),
+        (x86_64, 0x0202_0400, (RSP, 0x71f8), 12),
+        (arm64, 0x0400_0001, (FP, 0x7008), 12),
+    ];
+    for (arch, encoding, known, bad) in cases {
+        let said = said(alloc, arch, encoding, &[known])?;
+        assert!(rt; said == Step::Bad(bad), "{encoding} {bad}");
+    }
+    Ok(())
+}
+
+// Of two fields that name one register both words are read, and the later one counts.
+#[test]
+fn a_register_that_is_named_twice(rt: HostRuntime) -> Result<(), Fail> {
+    let arch = Arch::X86_64;
+    let want = caller(
+        arch,
+        64,
+        &[(RBX, 0x70f8), (RBP, 0x7100), (RIP, 0x7108), (RSP, 0x7110)],
+    );
+    assert!(rt; said(rt.alloc(), arch, 0x0102_0009, &[(RBP, 0x7100)])? == want);
+    let outside = said(rt.alloc(), arch, 0x0102_0009, &[(RBP, 0x7008)])?;
+    assert!(rt; outside == Step::Bad(12));
+    Ok(())
+}
+
+// The stack may end where the addresses do; its caller's begins at 0.
+#[test]
+fn stacks_at_the_last_addresses(rt: HostRuntime) -> Result<(), Fail> {
+    let (x86_64, arm64) = (Arch::X86_64, Arch::Arm64);
+    let last = u64::MAX - 15;
+    // The architecture, the encoding, the stack pointer, and the caller's pc.
+    let cases = [
+        (x86_64, 0x0202_0000, last, 0x2222),
+        (x86_64, 0x0201_0000, last + 8, 0x2222),
+        (x86_64, 0x0101_0000, last, 0x2222),
+        (arm64, 0x0400_0000, last, 0x2222),
+        (arm64, 0x0200_1000, last, 0x3333),
+    ];
+    for (arch, encoding, pointer, pc) in cases {
+        let mut file = Vec::new(rt.alloc());
+        add_words(&mut file, &one_function(encoding))?;
+        file.extend_from_slice(&0x1111u64.to_le_bytes())?;
+        file.extend_from_slice(&0x2222u64.to_le_bytes())?;
+        let regions = [bytes(SECTION, 0, 68), bytes(last, 68, 16)];
+        let memory = memory_of(rt.alloc(), file, &regions)?;
+        let known = [
+            (sp_place(arch), pointer),
+            (fp_place(arch), pointer),
+            (LR, 0x3333),
+        ];
+        let frame = frame_at(arch, 64, 0x100, &known);
+        let Step::Frame(caller) = stepped(&memory, &image_with(68), &frame, 0x100) else {
+            return Err(Fail::from("no caller"));
+        };
+        assert_eq!(rt; caller.pc(), Some(pc), "{encoding}");
+        assert_eq!(rt; caller.registers.value[sp_place(arch)], Some(0), "{encoding}");
+    }
+    Ok(())
+}
+
+// The caller's pc is without signature, from the stack and from the link register.
+#[test]
+fn signatures_are_cut(rt: HostRuntime) -> Result<(), Fail> {
+    let arch = Arch::Arm64;
+    let signed = 0x002a_0001_0000_4100u64;
+    for (encoding, bits, pc) in [
+        (0x0200_0000, 47, 0x1_0000_4100),
+        (0x0200_0000, 64, signed),
+        (0x0400_0000, 47, 0x1_0000_4100),
+        (0x0400_0000, 64, signed),
+    ] {
+        let mut file = Vec::new(rt.alloc());
+        add_words(&mut file, &one_function(encoding))?;
+        file.extend_from_slice(&0x7200u64.to_le_bytes())?;
+        file.extend_from_slice(&signed.to_le_bytes())?;
+        let regions = [bytes(SECTION, 0, 68), bytes(STACK, 68, 16)];
+        let memory = memory_of(rt.alloc(), file, &regions)?;
+        let known = [(SP, STACK), (FP, STACK), (LR, signed)];
+        let frame = frame_at(arch, bits, 0x100, &known);
+        let Step::Frame(caller) = stepped(&memory, &image_with(68), &frame, 0x100) else {
+            return Err(Fail::from("no caller"));
+        };
+        assert_eq!(rt; caller.registers.value[PC], Some(pc), "{encoding} {bits}");
+    }
+    Ok(())
+}
+
+// The reader itself asks for the address before a return address, and for that of an exact frame.
+#[test]
+fn the_address_that_is_looked_up(rt: HostRuntime) -> Result<(), Fail> {
+    let memory = memory_with(rt.alloc(), &COMPRESSED)?;
+    let mut frame = frame_at(Arch::X86_64, 64, 0x1100, &[(RSP, 0x7100)]);
+    let want = caller(Arch::X86_64, 64, &[(RIP, 0x8100), (RSP, 0x8108)]);
+    assert!(rt; step(&memory, &image_with(84), &frame) == want);
+    frame.exact = false;
+    assert!(rt; step(&memory, &image_with(84), &frame) == Step::Bad(4));
     Ok(())
 }
