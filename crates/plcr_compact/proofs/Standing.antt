@@ -121,9 +121,9 @@ frameless_stands frame size saved = by_registers (saved_registers saved)
         by_needed (needed frame (sp_place frame.registers.arch)) (λ pointer. ok_or size NOT_MAPPED >>= λ s. Ok (frameless frame pointer s registers))
         (λ pointer. by_needed (ok_or size NOT_MAPPED) (λ s. Ok (frameless frame pointer s registers))
         (λ s.
-            let stack = pos pointer +ℤ pos s in
-            All-append IsPlace (register_words (stack -ℤ pos (8 + 8 * length registers)) registers) (saved_word (stack -ℤ pos 8) (pc_place frame.registers.arch) ∷ [])
-            (registers_stand (stack -ℤ pos (8 + 8 * length registers)) registers) (one_stands (stack -ℤ pos 8) frame.registers.arch)))
+        let stack = pos pointer +ℤ pos s in
+        All-append IsPlace (register_words (stack -ℤ pos (8 + 8 * length registers)) registers) (saved_word (stack -ℤ pos 8) (pc_place frame.registers.arch) ∷ [])
+        (registers_stand (stack -ℤ pos (8 + 8 * length registers)) registers) (one_stands (stack -ℤ pos 8) frame.registers.arch)))
 
     by_registers : (o : Option (List SavedRegister))
         → IfCaller (ok_or o NO_REGISTERS >>= λ registers.

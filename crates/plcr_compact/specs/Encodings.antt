@@ -46,12 +46,12 @@ unfoldable pub x86_64_encoding : ℕ → Answer Encoding
 x86_64_encoding word =
     let mode = bit_and word UNWIND_X86_64_MODE_MASK in
     if mode == UNWIND_X86_64_MODE_RBP_FRAME then
-      (frame_registers FRAME_REGISTERS (field word UNWIND_X86_64_RBP_FRAME_REGISTERS) >>= λ registers.
-      Ok (RbpFrame (8 * field word UNWIND_X86_64_RBP_FRAME_OFFSET) registers)) else
+    (frame_registers FRAME_REGISTERS (field word UNWIND_X86_64_RBP_FRAME_REGISTERS) >>= λ registers.
+    Ok (RbpFrame (8 * field word UNWIND_X86_64_RBP_FRAME_OFFSET) registers)) else
     if mode == UNWIND_X86_64_MODE_STACK_IMMD then
-      Ok (StackImmediate (8 * field word UNWIND_X86_64_FRAMELESS_STACK_SIZE) (permutation_of word)) else
+    Ok (StackImmediate (8 * field word UNWIND_X86_64_FRAMELESS_STACK_SIZE) (permutation_of word)) else
     if mode == UNWIND_X86_64_MODE_STACK_IND then
-      Ok (StackIndirect (field word UNWIND_X86_64_FRAMELESS_STACK_SIZE) (8 * field word UNWIND_X86_64_FRAMELESS_STACK_ADJUST) (permutation_of word)) else
+    Ok (StackIndirect (field word UNWIND_X86_64_FRAMELESS_STACK_SIZE) (8 * field word UNWIND_X86_64_FRAMELESS_STACK_ADJUST) (permutation_of word)) else
     if mode == UNWIND_X86_64_MODE_DWARF then Err DWARF_MODE else Err UNKNOWN_MODE
 
 -- the bits that tell of arm64's pairs of registers whether they were saved. Those of pairs of d registers aren't among them: these stand below all others, and aren't read
@@ -68,7 +68,7 @@ unfoldable pub arm64_encoding : ℕ → Answer Encoding
 arm64_encoding word =
     let mode = bit_and word UNWIND_ARM64_MODE_MASK in
     if mode == UNWIND_ARM64_MODE_FRAMELESS then
-      Ok (Frameless (16 * field word UNWIND_ARM64_FRAMELESS_STACK_SIZE_MASK) (pairs_of word)) else
+    Ok (Frameless (16 * field word UNWIND_ARM64_FRAMELESS_STACK_SIZE_MASK) (pairs_of word)) else
     if mode == UNWIND_ARM64_MODE_FRAME then Ok (Frame (pairs_of word)) else
     if mode == UNWIND_ARM64_MODE_DWARF then Err DWARF_MODE else Err UNKNOWN_MODE
 

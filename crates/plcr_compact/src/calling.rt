@@ -177,7 +177,11 @@ fn frameless(frame: &Frame, pointer: u64, size: u64, registers: &[SavedRegister]
 {
     let stack = i128::from(pointer) + i128::from(size);
     let mut words = Words::new();
-    push_registers(&mut words, stack - (8 + 8 * registers.len() as i128), registers);
+    push_registers(
+        &mut words,
+        stack - (8 + 8 * registers.len() as i128),
+        registers,
+    );
     words.push(SavedWord {
         at: stack - WORD,
         place: pc_place(frame.registers.arch),
@@ -252,7 +256,11 @@ pub fn caller_by(
     match encoding {
         Encoding::RbpFrame { offset, registers } => {
             let pointer = needed(frame, fp_place(arch))?;
-            push_fields(&mut words, i128::from(pointer) - i128::from(*offset), registers);
+            push_fields(
+                &mut words,
+                i128::from(pointer) - i128::from(*offset),
+                registers,
+            );
             Ok(framed(frame, pointer, words))
         }
         Encoding::StackImmediate { size, saved } => {

@@ -38,7 +38,10 @@ pub enum Encoding {
         registers: [Option<SavedRegister>; FRAME_REGISTERS],
     },
     /// x86-64: the function keeps no frame pointer, and its stack has `size` bytes, the return address among them.
-    StackImmediate { size: u32, saved: Permutation },
+    StackImmediate {
+        size: u32,
+        saved: Permutation,
+    },
     /// The same, where the size is the sum of `adjust` and the word that stands in the code so far from the function's
     /// start.
     StackIndirect {
@@ -47,7 +50,12 @@ pub enum Encoding {
         saved: Permutation,
     },
     /// arm64: the function keeps no frame pointer, and its stack has `size` bytes. lr has the return address.
-    Frameless { size: u32, pairs: [bool; PAIRS] },
+    Frameless {
+        size: u32,
+        pairs: [bool; PAIRS],
+    },
     /// arm64: the function keeps its frame in fp.
-    Frame { pairs: [bool; PAIRS] },
+    Frame {
+        pairs: [bool; PAIRS],
+    },
 }

@@ -25,11 +25,7 @@ pub fn index<C: Cells>(section: &C) -> Result<SectionHeader, u8>
 
 /// The entry of the index for an offset, where the index was read.
 #[tactic(auto, using(crate::proofs::Founded::index_lawful))]
-pub fn page_for<C: Cells>(
-    section: &C,
-    header: &SectionHeader,
-    offset: u64,
-) -> Result<Entry, u8>
+pub fn page_for<C: Cells>(section: &C, header: &SectionHeader, offset: u64) -> Result<Entry, u8>
     requires near { IsNear header.now.index }
     requires lawful { index_header (C.cells section.now) ≡ Ok header.now }
     ensures entry { result ≡ page_at (C.cells section.now) offset }

@@ -23,11 +23,26 @@ pub const fn one_function(encoding: u32) -> [u32; 17] {
 /// A section with two common encodings and a compressed page with two of its own, of which the one function at 0x1100
 /// has the last.
 pub const COMPRESSED: [u32; 21] = [
-    1, 28, 2, 0, 0, 36, 2, // the header
-    0, 0, // common encodings
-    0x1000, 60, 0, 0x4000, 0, 0, // the index and its sentinel
-    3, 0x1_0014, 0x2_000c, // the page
-    0, 0x0303_2000, // its own encodings
+    1,
+    28,
+    2,
+    0,
+    0,
+    36,
+    2, // the header
+    0,
+    0, // common encodings
+    0x1000,
+    60,
+    0,
+    0x4000,
+    0,
+    0, // the index and its sentinel
+    3,
+    0x1_0014,
+    0x2_000c, // the page
+    0,
+    0x0303_2000, // its own encodings
     0x0300_0100,
 ];
 

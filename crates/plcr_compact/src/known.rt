@@ -4,10 +4,10 @@ ghost use Rattle.plcr_compact.specs.inner.Keeping.{IndexHolds, IndexIs, PageHold
 ghost use Rattle.plcr_compact.specs.Sections.{found_at, found_in, section_at};
 
 use crate::bad::NO_ENTRY;
+use crate::compact::section;
 use crate::finding::{entry_of, index, page, page_for};
 use crate::layout::MOST_OFFSET;
 use crate::section::{Entry, Found, PageHeader, SectionHeader};
-use crate::step::section;
 use plcr_leb128::{Cells, Piece, Stored};
 use plcr_macho::{Image, Part};
 use plcr_memory::Memory;
@@ -151,12 +151,7 @@ impl<'m> KnownSections<'m> {
     }
 
     // The header of a section with its index.
-    fn index<C: Cells>(
-        &mut self,
-        slot: usize,
-        part: Part,
-        words: &C,
-    ) -> Result<SectionHeader, u8>
+    fn index<C: Cells>(&mut self, slot: usize, part: Part, words: &C) -> Result<SectionHeader, u8>
         requires { C.cells words.now ≡ section_at self.old part }
         ensures header { IndexIs self.old part result }
         ensures same { self.new ≡ self.old }
@@ -165,7 +160,12 @@ impl<'m> KnownSections<'m> {
             return answer;
         }
         let answer = index(words);
-        keep_index(self.memory, &mut self.indexes, slot, KnownIndex { part, answer });
+        keep_index(
+            self.memory,
+            &mut self.indexes,
+            slot,
+            KnownIndex { part, answer },
+        );
         answer
     }
 

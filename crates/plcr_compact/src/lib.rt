@@ -5,6 +5,7 @@ mod bad;
 mod caller;
 mod calling;
 mod carrying;
+mod compact;
 mod decoding;
 mod encoding;
 mod entry_kind;
@@ -16,17 +17,16 @@ mod permutation;
 mod reading;
 mod search;
 mod section;
-mod step;
 mod words;
 
 pub use bad::{
     DWARF_MODE, FALLING_OFFSETS, MISSING_WORD, NO_ENCODING, NO_ENTRY, NO_REGISTERS, NO_UNWIND_INFO,
     NOT_MAPPED, OTHER_PAGE, OTHER_VERSION, OUT_OF_RANGE, UNKNOWN_MODE,
 };
+pub use compact::{find, step, step_from};
 pub use encoding::{Encoding, Permutation, SavedRegister};
 pub use known::{KNOWN_INDEXES, KNOWN_PAGES, KnownSections};
 pub use section::{Entry, Found, PageHeader, SectionHeader, Table};
-pub use step::{find, step, step_from};
 
 #[cfg(test)]
 mod fixtures;

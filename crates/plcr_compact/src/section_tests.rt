@@ -119,7 +119,11 @@ fn sections_in_pieces(rt: HostRuntime) -> Result<(), Fail> {
         let Ok(found) = find(&memory, &image_with(84), 0x1105) else {
             return Err(Fail::from("not found"));
         };
-        assert_eq!(rt; (found.function, found.encoding), (0x1100, 0x0303_2000), "{cut}");
+        assert_eq!(rt;
+            (found.function, found.encoding),
+            (0x1100, 0x0303_2000),
+            "{cut}"
+        );
     }
     Ok(())
 }

@@ -139,7 +139,11 @@ fn frames_of_arm64(rt: HostRuntime) -> Result<(), Fail> {
     let pairs = [(19, 0x70f8), (20, 0x70f0), (21, 0x70e8), (22, 0x70e0)];
     let framed = memory_with(rt.alloc(), &one_function(0x0400_0003))?;
     let ends = [(FP, 0x7100), (PC, 0x7108), (SP, 0x7110)];
-    let want = caller(arch, 64, &[pairs.as_slice(), ends.as_slice()].concat(rt.alloc())?);
+    let want = caller(
+        arch,
+        64,
+        &[pairs.as_slice(), ends.as_slice()].concat(rt.alloc())?,
+    );
     assert!(rt; stepped(&framed, &image_with(68), &frame, 0x100) == want);
     let leaf = memory_with(rt.alloc(), &one_function(0x0200_2000))?;
     let want = caller(
@@ -270,7 +274,11 @@ fn stacks_at_the_last_addresses(rt: HostRuntime) -> Result<(), Fail> {
             return Err(Fail::from("no caller"));
         };
         assert_eq!(rt; caller.pc(), Some(pc), "{encoding}");
-        assert_eq!(rt; caller.registers.value[sp_place(arch)], Some(0), "{encoding}");
+        assert_eq!(rt;
+            caller.registers.value[sp_place(arch)],
+            Some(0),
+            "{encoding}"
+        );
     }
     Ok(())
 }

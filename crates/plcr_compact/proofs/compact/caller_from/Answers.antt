@@ -2,7 +2,7 @@ use Rattle.std.proofs.Common.{◌∙◌, ◌+◌, ◌%◌, ◌^◌, ap, sym}
 use Rattle.plcr_base.specs.Chains.{result_map}
 use Rattle.plcr_compact.specs.inner.Carrying.{caller_of}
 use Rattle.plcr_compact.proofs.Standing.{words_stand}
-use Rattle.plcr_compact.proofs.step.caller_from.Goals as goal
+use Rattle.plcr_compact.proofs.compact.caller_from.Goals as goal
 
 pub read_caller-requires : goal.read_caller-requires
 read_caller-requires c =
