@@ -1,16 +1,19 @@
 //! What was found of the sections of a memory, kept so that each index and each page is read whole once.
-ghost use Rattle.std.specs.Prelude.{◌≡◌, ◌<◌, ◌^◌, All, IfOk, IfSome};
+ghost use Rattle.std.specs.Prelude.{◌≡◌, ◌≤◌, ◌<◌, ◌^◌, All, IfOk, IfSome, IsSomeAnd};
+ghost use Rattle.plcr_regs.specs.Frames.{IfFrame, IsOfThread, frame_lookup};
+ghost use Rattle.plcr_compact.specs.Callers.{compact_frame};
 ghost use Rattle.plcr_compact.specs.inner.Keeping.{IndexHolds, IndexIs, PageHolds, PageIs};
 ghost use Rattle.plcr_compact.specs.Sections.{found_at, found_in, section_at};
 
 use crate::bad::NO_ENTRY;
-use crate::compact::section;
+use crate::compact::{section, step_from};
 use crate::finding::{entry_of, index, page, page_for};
 use crate::layout::MOST_OFFSET;
 use crate::section::{Entry, Found, PageHeader, SectionHeader};
 use plcr_leb128::{Cells, Piece, Stored};
 use plcr_macho::{Image, Part};
 use plcr_memory::Memory;
+use plcr_regs::{Frame, Step};
 use std::marker::Model;
 
 /// The indexes of so many images are kept.
@@ -226,6 +229,24 @@ impl<'m> KnownSections<'m> {
                 let words = Piece::new(memory, part.at, part.size);
                 self.find_in(place, part, &words, offset)
             }
+        }
+    }
+
+    /// What `step` says, where the image stands at this place of a list.
+    #[tactic(auto, unfolding(crate::specs::Callers::compact_frame))]
+    pub fn step(&mut self, place: usize, image: &Image, frame: &Frame) -> Step
+        requires { IsSomeAnd (frame_lookup frame.now) (λ address. image.now.header ≤ address) }
+        ensures caller { result ≡ compact_frame self.old image.now frame.now }
+        ensures thread { IfFrame result (IsOfThread frame.now) }
+        ensures same { self.new ≡ self.old }
+    {
+        let Some(address) = frame.lookup() else {
+            unreachable!()
+        };
+        let memory = self.memory;
+        match self.find(place, image, address - image.header) {
+            Ok(found) => step_from(memory, image, frame, &found),
+            Err(bad) => Step::Bad(bad),
         }
     }
 }
