@@ -3,7 +3,8 @@
     python3 bench/imagelist.py [PROGRAM [EARLIER]]
 
 PROGRAM is the proved program, by default crates/plcr_race/out/plcr_race (`rt run` in crates/plcr_race leaves it), and
-EARLIER that of an earlier commit, to stand beside it. The yardsticks are a Mutex round a Vec, and a Vec that each change
+EARLIER that of an earlier commit, to stand beside it: one that has no word for the nodes of a walk walks a list of 128
+nodes alone. The yardsticks are a Mutex round a Vec, and a Vec that each change
 copies, behind an `RwLock` round an `Arc`: plain Rust, compiled by `rustc -O` into a temporary folder, and skipped where
 rustc is missing. Each line tells the best of five runs of each program, which are run by turns, and in brackets the
 least of them.
@@ -18,6 +19,7 @@ import tempfile
 from measuring import HERE, measured
 
 NODES = [1, 100, 4096]
+WALK_NODES = [128, 4096]
 READERS = [1, 2, 4]
 CHANGE_ROUNDS = 200000
 WALK_ROUNDS = 1000000
@@ -117,8 +119,8 @@ fn change_until<L: List>(list: &L, ended: &AtomicBool) -> u64 {
     made
 }
 
-fn walks<L: List>(readers: u64, rounds: u64) {
-    let list = L::open(128);
+fn walks<L: List>(nodes: u64, readers: u64, rounds: u64) {
+    let list = L::open(nodes as usize);
     for header in 1..101 { list.load(header); }
     let ended = AtomicBool::new(false);
     let start = Instant::now();
@@ -134,12 +136,17 @@ fn walks<L: List>(readers: u64, rounds: u64) {
 }
 
 fn run<L: List>(words: &[String]) {
-    let (count, rounds) = (words[1].parse().unwrap(), words[2].parse().unwrap());
-    if words[0] == "changes" { changes::<L>(count, rounds) } else { walks::<L>(count, rounds) }
+    let numbers: Vec<u64> = words[1..].iter().map(|word| word.parse().unwrap()).collect();
+    match numbers[..] {
+        [nodes, rounds] => changes::<L>(nodes, rounds),
+        [nodes, readers, rounds] => walks::<L>(nodes, readers, rounds),
+        _ => panic!("two or three numbers"),
+    }
 }
 
 fn main() {
     let words: Vec<String> = std::env::args().skip(1).collect();
+    if words.len() == 1 { return println!("walks NODES READERS ROUNDS"); }
     if words[0] == "locked" { run::<Mutex<Vec<Image>>>(&words[1..]) } else { run::<RwLock<Arc<Vec<Image>>>>(&words[1..]) }
 }
 """
@@ -177,19 +184,33 @@ def changes(program, folder, nodes):
     return [a_second(made, changing), a_second(loads, filling)]
 
 
-def walks(program, folder, readers):
+def walks_of(program, folder, nodes, readers):
+    """The program's words for so many readers of a list of so many nodes, or None where it has none."""
+    rounds = str(WALK_ROUNDS // readers)
+    _, _, _, said = measured(program, folder, keeps=True)
+    if "walks NODES" in said:
+        return ["walks", str(nodes), str(readers), rounds]
+    return ["walks", str(readers), rounds] if nodes == 128 else None
+
+
+def walks(program, folder, counts):
     """Walks a second of all readers, and changes a second meanwhile."""
-    made, walking, met, changed = run(program + ["walks", str(readers), str(WALK_ROUNDS // readers)], folder)
-    # a walk meets each image that stays while it is inside, and while it is, at most 28 nodes are loaded
-    if met < made * 72 or met > made * 128:
+    nodes, readers = counts
+    words = walks_of(program, folder, nodes, readers)
+    if words is None:
+        return None
+    made, walking, met, changed = run(program + words, folder)
+    # no walk meets more images than there are nodes, nor fewer than the 100 without those for which there are nodes
+    if met < made * max(0, 200 - nodes) or met > made * nodes:
         sys.exit("%s: %d images met in %d walks" % (program, met, made))
     return [a_second(made, walking), a_second(changed, walking)]
 
 
 def runs(measure, programs, folder, count):
-    """For each program the numbers of its best run, by the first of them, and that first number of its worst."""
+    """For each program the numbers of its best run, by the first of them, and that first number of its worst; None where
+    it has none."""
     rows = [[measure(program, folder, count) for program in programs] for _ in range(TIMES)]
-    return [max(found) + [min(found)[0]] for found in zip(*rows)]
+    return [max(found) + [min(found)[0]] if all(found) else None for found in zip(*rows)]
 
 
 def tell_changes(nodes, name, made, loads, least):
@@ -197,9 +218,9 @@ def tell_changes(nodes, name, made, loads, least):
         nodes, name, made, least, ", %9.0f loads a second while it fills" % loads if loads else ""))
 
 
-def tell_walks(readers, name, made, changed, least):
-    print("%4d readers  %-11s  %9.0f (%9.0f) walks a second, %9.0f changes a second meanwhile" % (
-        readers, name, made, least, changed))
+def tell_walks(counts, name, made, changed, least):
+    print("%4d nodes, %d readers  %-11s  %9.0f (%9.0f) walks a second, %9.0f changes a second meanwhile" % (
+        *counts, name, made, least, changed))
 
 
 def main():
@@ -211,10 +232,12 @@ def main():
             rows += [("Mutex<Vec>", [yardstick, "locked"]), ("Arc<Vec>", [yardstick, "copied"])]
         names, programs = zip(*rows)
         print("%d cores, load %.1f" % (os.cpu_count(), os.getloadavg()[0]))
-        for measure, tell, counts in [(changes, tell_changes, NODES), (walks, tell_walks, READERS)]:
+        both = [(nodes, readers) for nodes in WALK_NODES for readers in READERS]
+        for measure, tell, counts in [(changes, tell_changes, NODES), (walks, tell_walks, both)]:
             for count in counts:
                 for name, row in zip(names, runs(measure, programs, folder, count)):
-                    tell(count, name, *row)
+                    if row:
+                        tell(count, name, *row)
         print("load %.1f at the end" % os.getloadavg()[0])
 
 

@@ -36,10 +36,14 @@ def measured(command, folder, source=None, keeps=False):
     return seconds, peak, child.returncode, (said or b"").decode("latin1").strip()
 
 
+def ratios(before, count, seconds, peak):
+    """By how much time and memory grew per doubling since the line before."""
+    doublings = math.log2(count / before[0])
+    return (seconds / before[1]) ** (1 / doublings), (peak / before[2]) ** (1 / doublings)
+
+
 def growth(before, count, seconds, peak):
-    """Time and memory per doubling since the line before, where there is one."""
+    """The same in words, where there is a line before."""
     if not before or count <= before[0] or before[0] < 2:
         return ""
-    doublings = math.log2(count / before[0])
-    return ", per doubling time x%.2f, memory x%.2f" % (
-        (seconds / before[1]) ** (1 / doublings), (peak / before[2]) ** (1 / doublings))
+    return ", per doubling time x%.2f, memory x%.2f" % ratios(before, count, seconds, peak)

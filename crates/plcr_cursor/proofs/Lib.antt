@@ -1,1 +1,3 @@
 pub mod Chained
+pub mod Answered
+pub mod Located

@@ -1,14 +1,19 @@
 -- The frames of a thread, by the readers of frames in their order.
-use Rattle.std.specs.Prelude.{ℕ, zero, suc, nat_lt, Bool, true, false, not, if◌then◌else◌, List, [], ◌∷◌, find, Option, Some, None, option_map}
+use Rattle.std.specs.Prelude.{ℕ, zero, suc, nat_lt, Bool, true, false, not, if◌then◌else◌, List, [], ◌∷◌, ◌++◌, find, Option, Some, None, option_map}
 use Rattle.std.specs.Option.{option_and_then, option_map_or}
 use Rattle.plcr_memory.specs.Regions.{Contents}
+use Rattle.plcr_macho.specs.declared.image.Image.{Image}
 use Rattle.plcr_macho.specs.Images.{Listed}
+use Rattle.plcr_macho.specs.Containing.{first_over}
 use Rattle.plcr_regs.specs.declared.frame.Frame.{Frame}
 use Rattle.plcr_regs.specs.declared.frame.Step.{Step}
 use Rattle.plcr_regs.specs.declared.frame.Step.TheVariants as steps
 use Rattle.plcr_regs.specs.declared.registers.Registers.{Registers}
 use Rattle.plcr_regs.specs.Frames.{frame_lookup, frame_pc}
+use Rattle.plcr_compact.specs.Callers.{compact_frame}
+use Rattle.plcr_dwarf_cfi.specs.Caller.{call_frame}
 use Rattle.plcr_frameptr.specs.Saved.{saved_frame}
+use Rattle.plcr_cursor.specs.declared.given.Answer.{Answer}
 use Rattle.plcr_cursor.specs.declared.given.Given.{Given}
 use Rattle.plcr_cursor.specs.declared.given.Reader.{Reader}
 use Rattle.plcr_cursor.specs.declared.given.Reader.TheVariants.{ThreadState, CompactUnwind, CallFrameInformation, FramePointer}
@@ -21,14 +26,29 @@ reader_number CompactUnwind = 1
 reader_number CallFrameInformation = 2
 reader_number FramePointer = 3
 
--- what a reader answers
-pub record Answer : Type 0 where
-  pub step : Step
-  pub by : Reader
+-- the first image of the list that has the address by which a frame's function is looked up
+abbrev pub image_over : Contents → List Listed → Frame → Option Image
+image_over memory images frame =
+    option_and_then (λ address. option_map (λ found. found.1) (first_over memory frame.registers.arch address 0 images)) (frame_lookup frame)
+
+-- the answer of each reader
+abbrev pub compact_answer : Contents → Frame → Image → Answer
+compact_answer memory frame image = record { step = compact_frame memory image frame; by = CompactUnwind }
+
+abbrev pub call_frame_answer : Contents → Frame → Image → Answer
+call_frame_answer memory frame image = record { step = call_frame memory image frame; by = CallFrameInformation }
+
+abbrev pub saved_answer : Contents → Frame → Answer
+saved_answer memory frame = record { step = saved_frame memory frame; by = FramePointer }
+
+-- the answers of the readers of an image's tables; they aren't asked where no image has the address
+abbrev pub image_answers : Contents → Frame → Option Image → List Answer
+image_answers memory frame None = []
+image_answers memory frame (Some image) = compact_answer memory frame image ∷ call_frame_answer memory frame image ∷ []
 
 -- the answers of the readers, in the order in which they are asked
 abbrev pub answers : Contents → List Listed → Frame → List Answer
-answers memory images frame = record { step = saved_frame memory frame; by = FramePointer } ∷ []
+answers memory images frame = image_answers memory frame (image_over memory images frame) ++ saved_answer memory frame ∷ []
 
 -- the reader can't tell
 abbrev pub is_bad : Step → Bool
@@ -36,16 +56,18 @@ is_bad (steps.Frame frame) = false
 is_bad steps.End = false
 is_bad (steps.Bad number) = true
 
--- the frame that an answer gives
+-- the frame that a reader's answer gives
 abbrev pub given_by : Reader → Step → Option Given
 given_by by (steps.Frame frame) = Some (record { frame = frame; by = by })
 given_by by steps.End = None
 given_by by (steps.Bad number) = None
 
+abbrev pub given_in : Answer → Option Given
+given_in answer = given_by answer.by answer.step
+
 -- the caller of a frame, by the first answer that isn't Bad
 unfoldable pub caller_in : Contents → List Listed → Frame → Option Given
-caller_in memory images frame =
-    option_and_then (λ answer. given_by answer.by answer.step) (find (λ answer. not (is_bad answer.step)) (answers memory images frame))
+caller_in memory images frame = option_and_then given_in (find (λ answer. not (is_bad answer.step)) (answers memory images frame))
 
 -- a frame is listed where its pc is known and, without signature, above the first address behind the page at 0
 abbrev pub is_listed : Frame → Bool

@@ -6,7 +6,9 @@ ghost use Rattle.plcr_regs.specs.Places.{pc_place};
 ghost use Rattle.plcr_cursor.specs.Frames.{frames_of, lookup_of, number_of};
 ghost use Rattle.plcr_cursor.specs.Walks.{Gives, IsIndex, arch_of, coming, given_last, start};
 
+use crate::asked::{Asked, Plain};
 use crate::given::{Given, Reader};
+use crate::known::Known;
 use crate::limits::MOST_FRAMES;
 use crate::readers::next_frame;
 use plcr_macho::Images;
@@ -60,13 +62,13 @@ impl Cursor {
         }
     }
 
-    /// The pc of the next frame, without signature. None after the last, and from then on whatever it is called with. The
-    /// images have to be indexed for this memory and the thread's architecture.
-    pub fn next<I: Images>(&mut self, memory: &Memory, images: &mut I) -> Option<u64>
-        requires index { IsIndex memory.now (arch_of self.old) (I.images images.old) (I.extents images.old) }
-        ensures gives { Gives (coming memory.now (I.images images.old) self.old) (coming memory.now (I.images images.old) self.new) (given_last self.old) (given_last self.new) result }
+    // The pc of the next frame.
+    fn advance<A: Asked, I: Images>(&mut self, asked: &mut A, images: &mut I) -> Option<u64>
+        requires index { IsIndex (A.memory asked.old) (arch_of self.old) (I.images images.old) (I.extents images.old) }
+        ensures gives { Gives (coming (A.memory asked.old) (I.images images.old) self.old) (coming (A.memory asked.old) (I.images images.old) self.new) (given_last self.old) (given_last self.new) result }
         ensures ended { IfNone result ((memory : Contents) (images : List Listed) → coming memory images self.new ≡ []) }
         ensures arch { arch_of self.new ≡ arch_of self.old }
+        ensures memory { A.memory asked.new ≡ A.memory asked.old }
         ensures same { I.images images.new ≡ I.images images.old }
         ensures index { I.extents images.new ≡ I.extents images.old }
         ensures follows { I.follows images.old images.new }
@@ -79,13 +81,41 @@ impl Cursor {
             self.left -= 1;
             return self.last.frame.pc();
         }
-        let Some(next) = next_frame(memory, images, &self.last.frame) else {
+        let Some(next) = next_frame(asked, images, &self.last.frame) else {
             self.left = 0;
             return None;
         };
         self.last = next;
         self.left -= 1;
         self.last.frame.pc()
+    }
+
+    /// The pc of the next frame, without signature. None after the last, and from then on whatever it is called with. The
+    /// images have to be indexed for this memory and the thread's architecture.
+    pub fn next<I: Images>(&mut self, memory: &Memory, images: &mut I) -> Option<u64>
+        requires index { IsIndex memory.now (arch_of self.old) (I.images images.old) (I.extents images.old) }
+        ensures gives { Gives (coming memory.now (I.images images.old) self.old) (coming memory.now (I.images images.old) self.new) (given_last self.old) (given_last self.new) result }
+        ensures ended { IfNone result ((memory : Contents) (images : List Listed) → coming memory images self.new ≡ []) }
+        ensures arch { arch_of self.new ≡ arch_of self.old }
+        ensures same { I.images images.new ≡ I.images images.old }
+        ensures index { I.extents images.new ≡ I.extents images.old }
+        ensures follows { I.follows images.old images.new }
+    {
+        self.advance(&mut Plain { memory }, images)
+    }
+
+    /// What `next` says, of a memory of which something may be kept, and where more of it is kept then.
+    pub fn next_with<I: Images>(&mut self, known: &mut Known, images: &mut I) -> Option<u64>
+        requires index { IsIndex known.old (arch_of self.old) (I.images images.old) (I.extents images.old) }
+        ensures gives { Gives (coming known.old (I.images images.old) self.old) (coming known.old (I.images images.old) self.new) (given_last self.old) (given_last self.new) result }
+        ensures ended { IfNone result ((memory : Contents) (images : List Listed) → coming memory images self.new ≡ []) }
+        ensures arch { arch_of self.new ≡ arch_of self.old }
+        ensures memory { known.new ≡ known.old }
+        ensures same { I.images images.new ≡ I.images images.old }
+        ensures index { I.extents images.new ≡ I.extents images.old }
+        ensures follows { I.follows images.old images.new }
+    {
+        self.advance(known, images)
     }
 
     /// The address by which the function of the frame given last is looked up. None before the first.

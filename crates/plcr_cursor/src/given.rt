@@ -1,7 +1,7 @@
 ghost use Rattle.std.specs.Prelude.{◌≡◌};
-ghost use Rattle.plcr_cursor.specs.Frames.{reader_number};
+ghost use Rattle.plcr_cursor.specs.Frames.{given_in, is_bad, reader_number};
 
-use plcr_regs::Frame;
+use plcr_regs::{Frame, Step};
 
 /// What tells a frame.
 #[derive(Clone, Copy, Debug, PartialEq, Eq)]
@@ -35,4 +35,30 @@ impl Reader {
 pub struct Given {
     pub frame: Frame,
     pub by: Reader,
+}
+
+/// What a reader answers.
+#[derive(Clone, Copy)]
+pub struct Answer {
+    pub step: Step,
+    pub by: Reader,
+}
+
+impl Answer {
+    /// Whether the reader can't tell.
+    pub fn is_bad(&self) -> bool
+        ensures { result ≡ is_bad self.now.step }
+    {
+        matches!(self.step, Step::Bad(_))
+    }
+
+    /// The frame that it gives.
+    pub fn given(&self) -> Option<Given>
+        ensures { result ≡ given_in self.now }
+    {
+        match self.step {
+            Step::Frame(frame) => Some(Given { frame, by: self.by }),
+            Step::End | Step::Bad(_) => None,
+        }
+    }
 }

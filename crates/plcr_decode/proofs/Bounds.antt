@@ -2,6 +2,7 @@
 use Rattle.std.proofs.Common.{◌≡◌, ℕ, ◌^◌, ◌<◌, ◌≤◌, List, [], ◌∷◌, ◌++◌, length, map, Option, Some, None, Ok, length-append, arith}
 use Rattle.std.specs.List.{AllByRecursion}
 use Rattle.std.specs.Option.{IfSome}
+use Rattle.plcr_base.proofs.Plain.{some_weaker}
 use Rattle.plcr_wire.specs.Varint.{varint, tag}
 use Rattle.plcr_wire.specs.Message.{Value, Number, Fixed64, Bytes, Fixed32, Field, value_bytes, wire_type, value_spelling, spelling, field_spelling}
 use Rattle.plcr_report.specs.Spelling.{file_head, spelling_of}
@@ -68,10 +69,6 @@ all_both P Q R f (x ∷ xs) p q = (f x p.0 q.0, all_both P Q R f xs p.1 q.1)
 some_both : {A : Type 0} (P Q R : A → Type 0) → ((x : A) → P x → Q x → R x) → (o : Option A) → IfSome o P → IfSome o Q → IfSome o R
 some_both P Q R f None p q = tt
 some_both P Q R f (Some x) p q = f x p q
-
-some_weaker : {A : Type 0} (P R : A → Type 0) → ((x : A) → P x → R x) → (o : Option A) → IfSome o P → IfSome o R
-some_weaker P R f None p = tt
-some_weaker P R f (Some x) p = f x p
 
 abbrev Short : {A : Type 0} → (A → List Field) → A → Type 0
 Short message x = length (spelling (message x)) < 2 ^ 64

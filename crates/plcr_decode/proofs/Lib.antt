@@ -1,6 +1,7 @@
 pub mod Scans
 pub mod Listed
 pub mod Kept
+pub mod Rowed
 pub mod Wholes
 pub mod Levels
 pub mod Marked

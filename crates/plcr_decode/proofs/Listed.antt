@@ -85,7 +85,7 @@ has_either false v n fs = refl
 pub has_step : (n : ℕ) (f : Field) (fs : List Field) → has n (f ∷ fs) ≡ cond (f.number == n) true (has n fs)
 has_step n f fs = has_either (f.number == n) f.value n fs
 
-same_number : (m n : ℕ) → m ≡ n → (m == n) ≡ true
+pub same_number : (m n : ℕ) → m ≡ n → (m == n) ≡ true
 same_number m n h = grind (arith, nat_tests)
 
 pub has_here : (n : ℕ) (f : Field) (fs : List Field) → f.number ≡ n → has n (f ∷ fs) ≡ true

@@ -157,10 +157,6 @@ pub held_is : (kind : Kind) (end : ℕ) (h g : Option Holds) (v : Value) (rest :
     → Ok tt ≡ scan (inside kind h v rest).kind end (inside kind h v rest).text
 held_is kind end h g v rest e none = sym (ap (λ h. scan (inside kind h v rest).kind end (inside kind h v rest).text) e ∙ none)
 
-pub nothing : (l : List ℕ) → length l ≡ 0 → l ≡ []
-nothing [] h = refl
-nothing (x ∷ l) h = absurd (omega arith)
-
 plain_whole : (kind : Kind) (fs : List Field) → is_joined kind ≡ true → whole kind fs ≡ has_all kind fs
 unfolding whole
 plain_whole kinds.Root fs j = absurd (cc)

@@ -1,7 +1,8 @@
 //! The check of a file: its first fault in reading order, or else the first field that lacks.
-ghost use Rattle.std.specs.Prelude.{◌≡◌, ◌≢◌, ◌≤◌, ◌<◌, ℕ, length, true, IfOk, IfErr, Ok, Err};
+ghost use Rattle.std.specs.Prelude.{◌≡◌, ◌≢◌, ◌≤◌, ◌<◌, ℕ, ◌∷◌, length, true, IfOk, IfErr, Ok, Err};
 ghost use Rattle.plcr_wire.specs.Reading.{field_slice, value_slice_len};
 ghost use Rattle.plcr_report.specs.Schema.{rule};
+ghost use Rattle.plcr_report.specs.declared.kinds.Kind.TheVariants as kinds;
 ghost use Rattle.plcr_decode.specs.Fields.{fields_of};
 ghost use Rattle.plcr_decode.specs.Required.{whole};
 ghost use Rattle.plcr_decode.specs.Scan as spec;
@@ -11,11 +12,14 @@ ghost use Rattle.plcr_decode.specs.inner.Marks.{told_lack, before, part, lack, S
 ghost use Rattle.plcr_decode.specs.inner.Views.{step_view};
 
 use crate::faults::DecodeFault;
+use crate::found::{Found, keep, keep_none};
 use crate::marks::{Lack, Marks, Seen};
 use crate::scanning::{Step, step_of, text_of};
 use plcr_report::{Holds, Kind};
+use plcr_wire::FieldSlice;
 
 /// Whether a message of this kind may stand in parts, in several fields. None of these holds another message.
+#[inline(always)]
 fn is_joined(kind: Kind) -> bool
     ensures { result ≡ view.is_joined kind }
 {
@@ -29,26 +33,27 @@ fn is_joined(kind: Kind) -> bool
     }
 }
 
-/// Passes a part of a message that may stand in parts: the numbers of its fields, with those of the parts before it.
-fn pass(kind: Kind, bytes: &[u8], end: usize, before: Seen) -> Result<Seen, DecodeFault>
+/// Passes a part of a message that may stand in parts, and notes the numbers of its fields beside those of the parts
+/// before it.
+fn pass(seen: &mut Seen, kind: Kind, bytes: &[u8], end: usize) -> Result<(), DecodeFault>
     requires within { length bytes.now ≤ end }
     requires joined { view.is_joined kind ≡ true }
     ensures fault { IfErr result (λ e. spec.scan kind end bytes.now ≡ Err e) }
     ensures real { IfErr result (λ e. e ≢ DecodeFault.Memory) }
-    ensures none { IfOk result (λ s. spec.scan kind end bytes.now ≡ Ok tt) }
-    ensures seen { IfOk result (λ s. SeesMore before s (fields_of bytes.now)) }
+    ensures none { IfOk result (λ u. spec.scan kind end bytes.now ≡ Ok tt) }
+    ensures seen { IfOk result (λ u. SeesMore seen.old seen.new (fields_of bytes.now)) }
 {
-    let mut fields = before;
     let mut rest = bytes;
     while rest.len() > 0 {
         let step = step_of(kind, rest, end)?;
-        fields = fields.and(step.piece.number);
+        seen.note(step.piece.number);
         rest = step.piece.rest;
     }
-    Ok(fields)
+    Ok(())
 }
 
 /// Passes a field, whose value ends at `end`.
+#[inline(always)]
 #[cycle(checking)]
 fn take(marks: &mut Marks, kind: Kind, step: Step<'_>, end: usize) -> Result<(), DecodeFault>
     requires within { value_slice_len step.piece.value ≤ end }
@@ -57,7 +62,7 @@ fn take(marks: &mut Marks, kind: Kind, step: Step<'_>, end: usize) -> Result<(),
     ensures real { IfErr result (λ e. e ≢ DecodeFault.Memory) }
     ensures marks { IfOk result (λ u. Takes kind (field_slice step.entry.piece).0 marks.old marks.new) }
 {
-    marks.fields = marks.fields.and(step.piece.number);
+    marks.fields.note(step.piece.number);
     match step.holds {
         None => Ok(()),
         Some(Holds::Number) => Ok(()),
@@ -75,6 +80,7 @@ fn take(marks: &mut Marks, kind: Kind, step: Step<'_>, end: usize) -> Result<(),
 }
 
 /// Passes a message in a field of this number, or a part of it.
+#[inline(always)]
 #[cycle(checking)]
 fn take_message(
     marks: &mut Marks,
@@ -93,7 +99,7 @@ fn take_message(
 {
     let place = number as usize;
     if is_joined(kind) {
-        marks.parts[place] = pass(kind, text, end, marks.parts[place])?;
+        pass(&mut marks.parts[place], kind, text, end)?;
     } else {
         let lack = check(kind, text, end)?;
         marks.lacks[place] = first_of(marks.lacks[place], lack);
@@ -102,6 +108,7 @@ fn take_message(
 }
 
 /// The first of two.
+#[inline(always)]
 fn first_of(first: Option<Lack>, next: Option<Lack>) -> Option<Lack>
     ensures { told_lack result ≡ before (told_lack first) (told_lack next) }
 {
@@ -111,10 +118,34 @@ fn first_of(first: Option<Lack>, next: Option<Lack>) -> Option<Lack>
     }
 }
 
+/// Passes the first field of a message, and the message in it.
+#[inline(always)]
+#[cycle(checking)]
+fn pass_field<'a>(
+    marks: &mut Marks,
+    kind: Kind,
+    bytes: &'a [u8],
+    end: usize,
+) -> Result<FieldSlice<'a>, DecodeFault>
+    requires some { 0 < length bytes.now }
+    requires within { length bytes.now ≤ end }
+    ensures fault { IfErr result (λ e. spec.scan kind end bytes.now ≡ Err e) }
+    ensures real { IfErr result (λ e. e ≢ DecodeFault.Memory) }
+    ensures more { IfOk result (λ p. spec.scan kind end bytes.now ≡ spec.scan kind end p.rest.now) }
+    ensures field { IfOk result (λ p. fields_of bytes.now ≡ (field_slice p).0 ∷ fields_of p.rest.now) }
+    ensures shorter { IfOk result (λ p. length p.rest.now < length bytes.now) }
+    ensures marks { IfOk result (λ p. Takes kind (field_slice p).0 marks.old marks.new) }
+{
+    let step = step_of(kind, bytes, end)?;
+    take(marks, kind, step, end - step.piece.rest.len())?;
+    Ok(step.piece)
+}
+
 /// Checks a message that ends at `end`: what it lacks, where it has no fault in reading order. Passes each of its bytes
 /// once, and takes no memory.
+#[inline(never)]
 #[cycle(checking)]
-pub(crate) fn check(kind: Kind, bytes: &[u8], end: usize) -> Result<Option<Lack>, DecodeFault>
+fn check(kind: Kind, bytes: &[u8], end: usize) -> Result<Option<Lack>, DecodeFault>
     requires { length bytes.now ≤ end }
     ensures fault { IfErr result (λ e. spec.scan kind end bytes.now ≡ Err e) }
     ensures real { IfErr result (λ e. e ≢ DecodeFault.Memory) }
@@ -124,9 +155,32 @@ pub(crate) fn check(kind: Kind, bytes: &[u8], end: usize) -> Result<Option<Lack>
     let mut marks = Marks::none();
     let mut rest = bytes;
     while rest.len() > 0 {
-        let step = step_of(kind, rest, end)?;
-        take(&mut marks, kind, step, end - step.piece.rest.len())?;
-        rest = step.piece.rest;
+        let piece = pass_field(&mut marks, kind, rest, end)?;
+        rest = piece.rest;
     }
     Ok(marks.lack(kind))
+}
+
+/// Checks the root message, which ends at `end`, as every message is checked, and keeps what its fields have: of each
+/// number the last value and how many there are.
+pub(crate) fn check_root<'a>(bytes: &'a [u8], end: usize) -> Result<Found<'a>, DecodeFault>
+    requires { length bytes.now ≤ end }
+    ensures fault { IfErr result (λ e. before (spec.scan kinds.Root end bytes.now) (whole kinds.Root (fields_of bytes.now)) ≡ Err e) }
+    ensures real { IfErr result (λ e. e ≢ DecodeFault.Memory) }
+    ensures none { IfOk result (λ f. spec.scan kinds.Root end bytes.now ≡ Ok tt) }
+    ensures whole { IfOk result (λ f. whole kinds.Root (fields_of bytes.now) ≡ Ok tt) }
+    ensures found { IfOk result (λ f. f ≡ fields_of bytes.now) }
+{
+    let mut marks = Marks::none();
+    let mut kept = keep_none();
+    let mut rest = bytes;
+    while rest.len() > 0 {
+        let piece = pass_field(&mut marks, Kind::Root, rest, end)?;
+        keep(&mut kept, piece);
+        rest = piece.rest;
+    }
+    match marks.lack(Kind::Root) {
+        None => Ok(Found::gathered(bytes, kept)),
+        Some(lack) => Err(lack.fault()),
+    }
 }

@@ -20,8 +20,9 @@ pub(crate) struct Fields<'a> {
 }
 
 /// The field that these bytes begin with; none at a fault.
+#[inline(always)]
 #[tactic(auto, using(crate::proofs::Listed::fields_step))]
-fn first(bytes: &[u8]) -> Option<FieldSlice<'_>>
+pub(crate) fn first(bytes: &[u8]) -> Option<FieldSlice<'_>>
     ensures first { MatchOption result (fields_of bytes.now ≡ []) (λ p. fields_of bytes.now ≡ (field_slice p).0 ∷ fields_of p.rest.now) }
     ensures shorter { IfSome result (λ p. value_slice_len p.value + length p.rest.now < length bytes.now) }
 {
@@ -32,6 +33,7 @@ fn first(bytes: &[u8]) -> Option<FieldSlice<'_>>
 }
 
 /// What stands in a field, if it is of this number.
+#[inline(always)]
 fn part_of<'a>(piece: FieldSlice<'a>, number: u32) -> &'a [u8]
     ensures part { result.now ≡ (if piece.entry.number == number then value_bytes (value_slice piece.entry.value) else []) }
     ensures within { length result.now ≤ value_slice_len piece.entry.value }
@@ -85,6 +87,7 @@ impl<'a> Fields<'a> {
     }
 
     /// The next field.
+    #[inline(always)]
     pub(crate) fn next(&mut self) -> Option<FieldSlice<'a>>
         ensures next { MatchOption result (left self.old ≡ []) (λ p. left self.old ≡ (field_slice p).0 ∷ left self.new) }
         ensures smaller { IfSome result (λ p. size self.new < size self.old) }
@@ -102,18 +105,5 @@ impl<'a> Fields<'a> {
                 }
             }
         }
-    }
-
-    /// The bytes of the next message that stands in a field of this number.
-    pub(crate) fn next_message(&mut self, number: u32) -> Option<&'a [u8]>
-        ensures next { MatchOption result (messages_in number (left self.old) ≡ []) (λ m. messages_in number (left self.old) ≡ fields_of m.now ∷ messages_in number (left self.new)) }
-        ensures smaller { IfSome result (λ m. size self.new < size self.old) }
-    {
-        while let Some(piece) = self.next() {
-            if piece.number == number {
-                return Some(text_of(piece.value));
-            }
-        }
-        None
     }
 }

@@ -1,11 +1,9 @@
-//! The last values of a message's fields, gathered in one pass.
-ghost use Rattle.std.specs.Prelude.{◌≡◌, ◌<◌, ◌==◌, ℕ, Some, if◌then◌else◌, slice_index_or};
-ghost use Rattle.plcr_wire.specs.Reading.{value_slice};
-ghost use Rattle.plcr_decode.specs.Fields.{fields_of, joined, has, last_value, number_in, text_in, or_zero, or_empty};
+//! The last values of a message's fields and how many there are, gathered in one pass.
+ghost use Rattle.std.specs.Prelude.{◌≡◌, ◌<◌, ◌==◌, ◌-◌, ◌^◌, ℕ, length, if◌then◌else◌};
+ghost use Rattle.plcr_decode.specs.Fields.{fields_of, messages_in, joined, has, last_value, number_in, text_in, or_zero, or_empty};
 ghost use Rattle.plcr_decode.specs.declared.found.TheConstants.{NUMBERS};
-ghost use Rattle.plcr_decode.specs.declared.found.Last.TheVariants.{Never};
 ghost use Rattle.plcr_decode.specs.inner.Views.{left, told};
-ghost use Rattle.plcr_decode.specs.inner.Lasts.{again, shown, told_value};
+ghost use Rattle.plcr_decode.specs.inner.Lasts.{nothing, under, again, shown, told_value, Keeps};
 
 use crate::fields::Fields;
 use crate::scanning::text_of;
@@ -15,42 +13,76 @@ use std::marker::Model;
 /// Every known field has a number below this one.
 pub(crate) const NUMBERS: usize = 10;
 
-/// The last value of the fields of one number, and whether it is the only one.
+/// What is kept of the fields of one number: the last value, and how many there are.
 #[derive(Clone, Copy)]
-pub(crate) enum Last<'a> {
-    Never,
-    Once(ValueSlice<'a>),
-    Again(ValueSlice<'a>),
+pub(crate) struct Kept<'a> {
+    value: ValueSlice<'a>,
+    count: usize,
 }
 
-impl<'a> Last<'a> {
-    /// The last value, once this one stands there too.
-    fn followed_by(self, value: ValueSlice<'a>) -> Last<'a>
+impl<'a> Kept<'a> {
+    /// Nothing yet.
+    fn none() -> Kept<'a>
+        ensures { result ≡ nothing }
+    {
+        Kept {
+            value: ValueSlice::Number(0),
+            count: 0,
+        }
+    }
+
+    /// The same, once this value stands there too.
+    #[inline(always)]
+    fn followed_by(self, value: ValueSlice<'a>) -> Kept<'a>
+        requires { self.count < 2 ^ 64 - 1 }
         ensures { result ≡ again self.entry value.entry }
     {
-        match self {
-            Last::Never => Last::Once(value),
-            _ => Last::Again(value),
+        Kept {
+            value,
+            count: self.count + 1,
         }
     }
 
     /// The last value, where there is one.
-    fn value(self) -> Option<ValueSlice<'a>>
+    #[inline(always)]
+    fn last(self) -> Option<ValueSlice<'a>>
         ensures { told_value result ≡ shown self.entry }
     {
-        match self {
-            Last::Never => None,
-            Last::Once(value) => Some(value),
-            Last::Again(value) => Some(value),
+        if self.count == 0 {
+            None
+        } else {
+            Some(self.value)
         }
     }
 }
 
-/// The fields of a message, each number with its last value.
+/// Nothing yet, under each number.
+#[inline(always)]
+#[tactic(auto, using(crate::proofs::Kept::nothing_at))]
+pub(crate) fn keep_none<'a>() -> [Kept<'a>; NUMBERS]
+    ensures { (n : ℕ) → n < NUMBERS → under result n ≡ nothing }
+{
+    [Kept::none(); NUMBERS]
+}
+
+/// Keeps the value of a field under its number.
+#[inline(always)]
+#[tactic(auto, using(crate::proofs::Kept::kept_new, crate::proofs::Kept::kept_same))]
+pub(crate) fn keep<'a>(kept: &mut [Kept<'a>; NUMBERS], piece: FieldSlice<'a>)
+    requires { (n : ℕ) → n < NUMBERS → (under kept.old n).count < 2 ^ 64 - 1 }
+    ensures { (n : ℕ) → n < NUMBERS → under kept.new n ≡ (if piece.entry.number == n then again (under kept.old n) piece.entry.value else under kept.old n) }
+{
+    let number = piece.number as usize;
+    if number < NUMBERS {
+        kept[number] = kept[number].followed_by(piece.value);
+    }
+}
+
+/// The fields of a message: of each number the last value, and how many there are.
 #[derive(Drop)]
 pub(crate) struct Found<'a> {
     fields: Fields<'a>,
-    lasts: [Last<'a>; NUMBERS],
+    kept: [Kept<'a>; NUMBERS],
 }
 
 impl<'a> Model for Found<'a> {
@@ -63,32 +95,42 @@ impl<'a> Model for Found<'a> {
 
     ghost view = { λ f. left f.fields };
 
-    ghost invariant = { λ f. Keeps f.lasts (left f.fields) };
-}
-
-/// Keeps the value of a field under its number.
-#[tactic(auto, using(crate::proofs::Kept::kept_new, crate::proofs::Kept::kept_same))]
-fn keep<'a>(lasts: &mut [Last<'a>; NUMBERS], piece: FieldSlice<'a>)
-    ensures { (n : ℕ) → n < NUMBERS → slice_index_or lasts.new n Never ≡ (if piece.entry.number == n then again (slice_index_or lasts.old n Never) piece.entry.value else slice_index_or lasts.old n Never) }
-{
-    let number = piece.number as usize;
-    if number < NUMBERS {
-        lasts[number] = lasts[number].followed_by(piece.value);
-    }
+    ghost invariant = { λ f. Keeps f.kept (left f.fields) };
 }
 
 impl<'a> Found<'a> {
     /// Gathers these fields.
-    #[tactic(auto, using(crate::proofs::Kept::keeps_start, crate::proofs::Kept::keeps_more, crate::proofs::Kept::keeps_all))]
+    #[inline(always)]
+    #[tactic(auto, using(crate::proofs::Kept::keeps_start, crate::proofs::Kept::keeps_more, crate::proofs::Kept::few_more, crate::proofs::Kept::keeps_all))]
     pub(crate) fn of(fields: Fields<'a>) -> Found<'a>
         ensures { result ≡ left fields.entry }
     {
-        let mut lasts = [Last::Never; NUMBERS];
+        let mut kept = keep_none();
         let mut left = fields;
         while let Some(piece) = left.next() {
-            keep(&mut lasts, piece);
+            keep(&mut kept, piece);
         }
-        Found { fields, lasts }
+        Found { fields, kept }
+    }
+
+    /// The fields of these bytes, which were gathered so.
+    pub(crate) fn gathered(bytes: &'a [u8], kept: [Kept<'a>; NUMBERS]) -> Found<'a>
+        requires { Keeps kept (fields_of bytes.now) }
+        ensures { result ≡ fields_of bytes.now }
+    {
+        Found {
+            fields: Fields::of(bytes),
+            kept,
+        }
+    }
+
+    /// How many messages stand in the fields of this number.
+    #[tactic(auto, using(crate::proofs::Kept::count_all))]
+    pub(crate) fn count(&self, number: u32) -> usize
+        requires { number < NUMBERS }
+        ensures { result ≡ length (messages_in number self.now) }
+    {
+        self.kept[number as usize].count
     }
 
     /// The value of the last field of this number.
@@ -96,7 +138,7 @@ impl<'a> Found<'a> {
         requires { number < NUMBERS }
         ensures { told_value result ≡ last_value number self.now }
     {
-        self.lasts[number as usize].value()
+        self.kept[number as usize].last()
     }
 
     /// Whether a field of this number stands there.
@@ -118,9 +160,11 @@ impl<'a> Found<'a> {
         requires whole { self.now ≡ fields_of bytes.now }
         ensures { left result ≡ joined number self.now }
     {
-        match self.lasts[number as usize] {
-            Last::Once(value) => Fields::of(text_of(value)),
-            _ => Fields::joined(bytes, number),
+        let kept = self.kept[number as usize];
+        if kept.count == 1 {
+            Fields::of(text_of(kept.value))
+        } else {
+            Fields::joined(bytes, number)
         }
     }
 

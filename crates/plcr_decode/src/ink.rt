@@ -188,12 +188,21 @@ impl<'a> Written for Word<'a> {
     }
 }
 
+/// Writes what follows the first word of a line: the others, a space before each, and a newline.
+#[tactic(auto, using(plcr_wire::proofs::Writing::wrote_twice))]
+fn put_words<W: Ink>(ink: &mut W, words: &[Word<'_>])
+    ensures { Wrote (W.pen ink.old) (W.pen ink.new) (spec.all_from (λ n word. codes " " ++ word) 0 (map word_text words.now) ++ codes "\n") }
+{
+    put_each(ink, words);
+    ink.raw(b"\n");
+}
+
 /// Writes a line: its words with one space between them, and a newline.
+#[inline(always)]
 #[tactic(auto, using(plcr_wire::proofs::Writing::wrote_twice))]
 pub(crate) fn put_line<W: Ink>(ink: &mut W, first: &[u8], words: &[Word<'_>])
     ensures { Wrote (W.pen ink.old) (W.pen ink.new) (spec.line first.now (map word_text words.now)) }
 {
     ink.raw(first);
-    put_each(ink, words);
-    ink.raw(b"\n");
+    put_words(ink, words);
 }

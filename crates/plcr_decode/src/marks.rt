@@ -46,23 +46,23 @@ impl Seen {
         }
     }
 
-    /// Once a field of this number is passed too.
+    /// Notes that a field of this number is passed too.
+    #[inline(always)]
     #[tactic(auto, using(crate::proofs::Marked::seen_new, crate::proofs::Marked::seen_same))]
-    pub(crate) fn and(self, number: u32) -> Seen
-        ensures { (n : ℕ) → n < NUMBERS → seen result n ≡ (if number == n then true else seen self n) }
+    pub(crate) fn note(&mut self, number: u32)
+        ensures { (n : ℕ) → n < NUMBERS → seen self.new n ≡ (if number == n then true else seen self.old n) }
     {
-        let mut numbers = self.numbers;
         let place = number as usize;
         if place < NUMBERS {
-            numbers[place] = true;
+            self.numbers[place] = true;
         }
-        Seen { numbers }
     }
 
     /// Whether a field of this number was passed.
-    fn has(self, number: u32) -> bool
+    #[inline(always)]
+    fn has(&self, number: u32) -> bool
         requires { number < NUMBERS }
-        ensures { result ≡ seen self number }
+        ensures { result ≡ seen self.now number }
     {
         self.numbers[number as usize]
     }
@@ -80,20 +80,24 @@ pub(crate) struct Marks {
 }
 
 /// The first of these fields that a message lacks, of those that have to be there.
-fn lacking(kind: Kind, entries: &[Entry], fields: Seen) -> Option<Lack>
+#[inline(always)]
+fn lacking(kind: Kind, entries: &[Entry], fields: &Seen) -> Option<Lack>
     requires { AllByRecursion Small (rows_of entries.now) }
-    ensures { told_lack result ≡ needs_by kind (required_of (rows_of entries.now)) fields }
+    ensures { told_lack result ≡ needs_by kind (required_of (rows_of entries.now)) fields.now }
 {
-    let (entry, others) = entries.split_first()?;
-    if let Entry::Required(field, _) = *entry {
-        if !fields.has(field) {
-            return Some(Lack {
-                message: kind,
-                field,
-            });
+    let mut rest = entries;
+    while let Some((entry, others)) = rest.split_first() {
+        if let Entry::Required(field, _) = *entry {
+            if !fields.has(field) {
+                return Some(Lack {
+                    message: kind,
+                    field,
+                });
+            }
         }
+        rest = others;
     }
-    lacking(kind, others, fields)
+    None
 }
 
 impl Marks {
@@ -113,22 +117,26 @@ impl Marks {
     pub(crate) fn lack(&self, kind: Kind) -> Option<Lack>
         ensures { told_lack result ≡ marks_by kind self.now }
     {
-        match lacking(kind, entries(kind), self.fields) {
+        match lacking(kind, entries(kind), &self.fields) {
             None => self.lack_within(entries(kind)),
             Some(lack) => Some(lack),
         }
     }
 
     /// What the messages lack that stand in these fields.
+    #[inline(always)]
     fn lack_within(&self, entries: &[Entry]) -> Option<Lack>
         requires { AllByRecursion Small (rows_of entries.now) }
         ensures { told_lack result ≡ inner_by self.now (rows_of entries.now) }
     {
-        let (entry, others) = entries.split_first()?;
-        match self.lack_in(*entry) {
-            None => self.lack_within(others),
-            Some(lack) => Some(lack),
+        let mut rest = entries;
+        while let Some((entry, others)) = rest.split_first() {
+            if let Some(lack) = self.lack_in(*entry) {
+                return Some(lack);
+            }
+            rest = others;
         }
+        None
     }
 
     /// What the messages lack that stand in this field.
@@ -153,6 +161,6 @@ impl Marks {
         if !self.fields.has(number) {
             return None;
         }
-        lacking(kind, entries(kind), self.parts[number as usize])
+        lacking(kind, entries(kind), &self.parts[number as usize])
     }
 }

@@ -1,4 +1,6 @@
 //! The messages that hold other messages.
+ghost use Rattle.std.specs.Prelude.{◌≡◌, IfOk};
+ghost use Rattle.plcr_decode.specs.Fields.{fields_of};
 ghost use Rattle.plcr_decode.specs.Values.{frame_of, thread_of, image_of, report_of};
 
 use crate::fields::Fields;
@@ -30,11 +32,13 @@ impl Row for Thread {
     #[tactic(auto, unfolding(crate::specs::Values::thread_of))]
     fn build(alloc: Global, bytes: &[u8]) -> Result<Thread, AllocError> {
         let found = Found::of(Fields::of(bytes));
+        let numbers = (Thread::FRAMES, Thread::REGISTERS);
+        let (frames, registers) = build_rows::<Frame, Register>(alloc, &found, bytes, numbers)?;
         Ok(Thread {
             thread_number: low(found.number_or_zero(Thread::THREAD_NUMBER)),
-            frames: build_rows::<Frame>(alloc, &found, bytes, Thread::FRAMES)?,
+            frames,
             crashed: found.number_or_zero(Thread::CRASHED) != 0,
-            registers: build_rows::<Register>(alloc, &found, bytes, Thread::REGISTERS)?,
+            registers,
         })
     }
 }
@@ -55,23 +59,28 @@ impl Row for Image {
     }
 }
 
-impl Row for Report {
-    ghost value = { report_of };
-
-    #[tactic(auto, unfolding(crate::specs::Values::report_of))]
-    fn build(alloc: Global, bytes: &[u8]) -> Result<Report, AllocError> {
-        let found = Found::of(Fields::of(bytes));
-        let system = found.message(bytes, Report::SYSTEM_INFO);
-        let application = found.message(bytes, Report::APPLICATION_INFO);
-        let signal = found.message(bytes, Report::SIGNAL);
-        Ok(Report {
-            system_info: System::build(alloc, system)?,
-            application_info: Application::build(alloc, application)?,
-            threads: build_rows::<Thread>(alloc, &found, bytes, Report::THREADS)?,
-            binary_images: build_rows::<Image>(alloc, &found, bytes, Report::BINARY_IMAGES)?,
-            signal: Signal::build(alloc, signal)?,
-            process_info: build_one::<Process>(alloc, &found, bytes, Report::PROCESS_INFO)?,
-            report_info: build_one::<Info>(alloc, &found, bytes, Report::REPORT_INFO)?,
-        })
-    }
+/// The report whose root message has these bytes, of which this was found.
+#[tactic(auto, unfolding(crate::specs::Values::report_of))]
+pub(crate) fn build_report<'a>(
+    alloc: Global,
+    bytes: &'a [u8],
+    found: &Found<'a>,
+) -> Result<Report, AllocError>
+    requires { found.now ≡ fields_of bytes.now }
+    ensures { IfOk result (λ report. report ≡ report_of (fields_of bytes.now)) }
+{
+    let system = found.message(bytes, Report::SYSTEM_INFO);
+    let application = found.message(bytes, Report::APPLICATION_INFO);
+    let signal = found.message(bytes, Report::SIGNAL);
+    let numbers = (Report::THREADS, Report::BINARY_IMAGES);
+    let (threads, binary_images) = build_rows::<Thread, Image>(alloc, found, bytes, numbers)?;
+    Ok(Report {
+        system_info: System::build(alloc, system)?,
+        application_info: Application::build(alloc, application)?,
+        threads,
+        binary_images,
+        signal: Signal::build(alloc, signal)?,
+        process_info: build_one::<Process>(alloc, found, bytes, Report::PROCESS_INFO)?,
+        report_info: build_one::<Info>(alloc, found, bytes, Report::REPORT_INFO)?,
+    })
 }

@@ -4,10 +4,10 @@ ghost use Rattle.plcr_wire.specs.Reading.{Returns};
 ghost use Rattle.plcr_decode.specs.Reads as spec;
 ghost use Rattle.plcr_decode.specs.Reads.{reads};
 
-use crate::checking::check;
+use crate::checking::check_root;
 use crate::faults::DecodeFault;
-use crate::messages::Row;
-use plcr_report::{Kind, MAGIC, Report, VERSION};
+use crate::nodes::build_report;
+use plcr_report::{MAGIC, Report, VERSION};
 use std::alloc::Global;
 
 /// What stands behind this text and the version.
@@ -66,8 +66,6 @@ pub fn decode(alloc: Global, bytes: &[u8]) -> Result<Report, DecodeFault>
     ensures memory { IfErr result (λ e. e ≡ DecodeFault.Memory → IsOk (reads bytes.now)) }
 {
     let root = root_of(bytes)?;
-    if let Some(lack) = check(Kind::Root, root, bytes.len())? {
-        return Err(lack.fault());
-    }
-    Report::build(alloc, root).map_err(|_| DecodeFault::Memory)
+    let found = check_root(root, bytes.len())?;
+    build_report(alloc, root, &found).map_err(|_| DecodeFault::Memory)
 }

@@ -20,6 +20,7 @@ pub(crate) struct Step<'a> {
 }
 
 /// Whether a value has the wire type of its field.
+#[inline(always)]
 fn fits(holds: Option<Holds>, value: ValueSlice<'_>) -> bool
     ensures { result ≡ spec.fits holds (value_slice value.entry) }
 {
@@ -32,6 +33,7 @@ fn fits(holds: Option<Holds>, value: ValueSlice<'_>) -> bool
 }
 
 /// The bytes that may hold a message, none in a number.
+#[inline(always)]
 pub(crate) fn text_of(value: ValueSlice<'_>) -> &[u8]
     ensures bytes { result.now ≡ message.value_bytes (value_slice value.entry) }
     ensures within { length result.now ≤ value_slice_len value.entry }
@@ -43,6 +45,7 @@ pub(crate) fn text_of(value: ValueSlice<'_>) -> &[u8]
 }
 
 /// The field that these bytes, the last of a message that ends at `end`, begin with.
+#[inline(always)]
 #[tactic(auto, using(crate::proofs::Listed::fields_any))]
 fn piece_of(bytes: &[u8], end: usize) -> Result<FieldSlice<'_>, DecodeFault>
     requires { length bytes.now ≤ end }
@@ -58,6 +61,7 @@ fn piece_of(bytes: &[u8], end: usize) -> Result<FieldSlice<'_>, DecodeFault>
 }
 
 /// The same, with what its message's table says of it.
+#[inline(always)]
 #[tactic(auto, unfolding(crate::specs::Scan::step_at))]
 pub(crate) fn step_of(kind: Kind, bytes: &[u8], end: usize) -> Result<Step<'_>, DecodeFault>
     requires { length bytes.now ≤ end }

@@ -94,6 +94,7 @@ pub(crate) fn entries(kind: Kind) -> &'static [Entry]
 }
 
 /// What the field of this number holds in a message of this kind; none where it isn't known.
+#[inline(always)]
 pub(crate) fn held(kind: Kind, number: u32) -> Option<Holds>
     ensures { result ≡ rule kind number }
 {

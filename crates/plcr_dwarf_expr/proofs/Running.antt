@@ -2,6 +2,7 @@
 use Rattle.std.proofs.Common.{◌≡◌, ◌≢◌, ◌<◌, ℕ, zero, suc, ◌+◌, ◌-◌, ◌==◌, true, false, List, Option, Ok, Err, refl, ap, ◌∙◌, arith}
 use Rattle.std.proofs.lemmas.Bool.Decides.{nat_tests}
 use Rattle.std.specs.Prelude.{◌≤◌, ◌^◌, Some}
+use Rattle.plcr_base.proofs.Plain.{not_equal, is_equal}
 use Rattle.plcr_memory.specs.Regions.{Contents, bytes_at}
 use Rattle.plcr_regs.specs.declared.registers.Registers.{Registers}
 use Rattle.plcr_leb128.specs.Cells.{Source, list_bytes}
@@ -32,12 +33,6 @@ run_whole s start n e = ap (λ k. run_from s k (moment 0 (started start))) e
 pub run_start : (s : Setting) (start : Option ℕ) → run_from s (left 0) (moment 0 (started start)) ≡ value_of s start
 unfolding left
 run_start s start = run_whole s start (MOST_OPERATIONS - 0) (omega arith)
-
-pub not_equal : (a b : ℕ) → a ≢ b → (a == b) ≡ false
-not_equal a b h = grind (arith, nat_tests)
-
-pub is_equal : (a b : ℕ) → a ≡ b → (a == b) ≡ true
-is_equal a b h = grind (arith, nat_tests)
 
 -- at the end of the code
 pub run_ends : (s : Setting) (n place : ℕ) (stack : List ℕ) → place ≡ s.size → run_from s n (moment place stack) ≡ top_of stack

@@ -2,6 +2,7 @@
 use Rattle.std.proofs.Common.{◌≡◌, ◌≢◌, ◌≤◌, inl, inr, ℕ, zero, suc, List, [], ◌∷◌, length, Option, None, Ok, Err, refl, sym, ap, ◌∙◌, arith}
 use Rattle.std.proofs.lemmas.Bool.{cases_eq}
 use Rattle.plcr_base.proofs.Chained.{bind_ok, bind_err}
+use Rattle.plcr_base.proofs.Plain.{not_equal}
 use Rattle.plcr_memory.specs.Regions.{Contents}
 use Rattle.plcr_regs.specs.declared.registers.Registers.{Registers}
 use Rattle.plcr_leb128.specs.Cells.{bytes_of}
@@ -11,7 +12,7 @@ use Rattle.plcr_dwarf_expr.specs.declared.fault.ExprFault.{ExprFault}
 use Rattle.plcr_dwarf_expr.specs.declared.fault.ExprFault.TheVariants.{Truncated, Budget}
 use Rattle.plcr_dwarf_expr.specs.Effects.{Moment, moment}
 use Rattle.plcr_dwarf_expr.specs.Runs.{Setting, step_from, top_of, started, run_from, value_of, setting_at, Follows, last_of, Stops, HasValue, HasFault}
-use Rattle.plcr_dwarf_expr.proofs.Running.{not_equal, run_ends}
+use Rattle.plcr_dwarf_expr.proofs.Running.{run_ends}
 
 -- the code has no byte at its end
 record Closed (s : Setting) : Type 0 where

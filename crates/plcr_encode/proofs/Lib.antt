@@ -1,7 +1,11 @@
 pub mod Lengths
+pub mod Named
 pub mod Parsed
+pub mod Placed
 pub mod Roots
 pub mod Rows
+pub mod Runs
 pub mod ShortNames
+pub mod Spread
 pub mod Told
 pub mod Words

@@ -1,3 +1,4 @@
 -- Definitions that only private functions' contracts cite.
 pub mod FrameRows
+pub mod Lookups
 pub mod Rows

@@ -32,6 +32,7 @@ pub struct Context<'a> {
     pub crashed: u32,
     /// Whether a user asked for the report.
     pub user: bool,
-    /// How many low bits of an address of code count on arm64, 32 to 64; the others may hold a signature.
+    /// How many low bits of an address of code count on arm64, 32 to 64; the others may hold a
+    /// signature.
     pub bits: u8,
 }

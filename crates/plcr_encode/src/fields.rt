@@ -2,7 +2,7 @@
 ghost use Rattle.std.specs.Prelude.{◌≡◌, ℕ, ◌+◌, ◌*◌, ◌^◌, ◌<◌, ◌≤◌, List, length, if◌then◌else◌};
 ghost use Rattle.plcr_wire.specs.Message.{Field, spelling, field_spelling, number_field, bytes_field, message_field};
 ghost use Rattle.plcr_wire.specs.Pen.{Wrote};
-ghost use Rattle.plcr_wire.specs.declared.varint.TheConstants.{VARINT_BYTES};
+ghost use Rattle.plcr_encode.specs.declared.limits.TheConstants.{FIELD_BYTES};
 
 use plcr_wire::{Ink, Wire, tag_len, varint_len};
 
@@ -35,7 +35,7 @@ pub(crate) trait Message {
 #[tactic(auto, using(crate::proofs::Lengths::number_length))]
 pub(crate) fn number_len(field: u32, value: u64) -> u64
     ensures size { result ≡ length (field_spelling (number_field field value)) }
-    ensures short { result ≤ 2 * VARINT_BYTES }
+    ensures short { result ≤ FIELD_BYTES }
 {
     tag_len(field, Wire::Number) + varint_len(value)
 }
@@ -52,7 +52,7 @@ pub(crate) fn put_number<W: Ink>(ink: &mut W, field: u32, value: u64)
 /// The length of a field that is a bool.
 pub(crate) fn flag_len(field: u32, value: bool) -> u64
     ensures size { result ≡ length (field_spelling (number_field field (if value then 1 else 0))) }
-    ensures short { result ≤ 2 * VARINT_BYTES }
+    ensures short { result ≤ FIELD_BYTES }
 {
     number_len(field, if value { 1 } else { 0 })
 }
@@ -66,15 +66,23 @@ pub(crate) fn put_flag<W: Ink>(ink: &mut W, field: u32, value: bool)
     put_number(ink, field, if value { 1 } else { 0 });
 }
 
-/// The length of a field that is a text.
+/// The length of a field that has so many bytes, as a text or a message.
 #[tactic(auto, using(crate::proofs::Lengths::bytes_length))]
+pub(crate) fn bytes_len(field: u32, count: u64) -> u64
+    requires { count < 2 ^ 63 }
+    ensures size { (bytes : List ℕ) → length bytes ≡ count → result ≡ length (field_spelling (bytes_field field bytes)) }
+    ensures short { result ≤ FIELD_BYTES + count }
+{
+    tag_len(field, Wire::Bytes) + varint_len(count) + count
+}
+
+/// The length of a field that is a text.
 pub(crate) fn text_len(field: u32, text: &[u8]) -> u64
     requires { length text.now < 2 ^ 63 }
     ensures size { result ≡ length (field_spelling (bytes_field field text.now)) }
-    ensures short { result ≤ 2 * VARINT_BYTES + length text.now }
+    ensures short { result ≤ FIELD_BYTES + length text.now }
 {
-    let length = text.len() as u64;
-    tag_len(field, Wire::Bytes) + varint_len(length) + length
+    bytes_len(field, text.len() as u64)
 }
 
 /// Writes a field that is a text.
@@ -87,28 +95,25 @@ pub(crate) fn put_text<W: Ink>(ink: &mut W, field: u32, text: &[u8])
 }
 
 /// The length of a field that is a message.
-#[tactic(auto, using(crate::proofs::Lengths::bytes_length))]
 pub(crate) fn message_len<M: Message>(field: u32, message: &M) -> u64
     requires { M.fits message.now }
     ensures size { result ≡ length (field_spelling (message_field field (M.fields message.now))) }
-    ensures short { result ≤ 2 * VARINT_BYTES + M.most }
+    ensures short { result ≤ FIELD_BYTES + M.most }
 {
-    let length = message.len();
-    tag_len(field, Wire::Bytes) + varint_len(length) + length
+    bytes_len(field, message.len())
 }
 
 /// Writes a field that is a message, and gives the length of what was written.
-#[tactic(auto, using(crate::proofs::Lengths::bytes_length))]
 pub(crate) fn put_message<M: Message, W: Ink>(ink: &mut W, field: u32, message: &M) -> u64
     requires some { 0 < field }
     requires within { field < 2 ^ 29 }
     requires fits { M.fits message.now }
     ensures wrote { Wrote (W.pen ink.old) (W.pen ink.new) (field_spelling (message_field field (M.fields message.now))) }
     ensures size { result ≡ length (field_spelling (message_field field (M.fields message.now))) }
-    ensures short { result ≤ 2 * VARINT_BYTES + M.most }
+    ensures short { result ≤ FIELD_BYTES + M.most }
 {
     let length = message.len();
     ink.head(field, length);
     message.put(ink);
-    tag_len(field, Wire::Bytes) + varint_len(length) + length
+    bytes_len(field, length)
 }

@@ -1,10 +1,11 @@
 //! The images of a report.
-ghost use Rattle.std.specs.Prelude.{◌≡◌, ◌+◌, ◌^◌, ◌<◌, ◌≤◌, All, length};
+ghost use Rattle.std.specs.Prelude.{◌≡◌, ◌+◌, ◌<◌, ◌≤◌, All, length};
 ghost use Rattle.plcr_wire.specs.Pen.{Wrote};
 ghost use Rattle.plcr_wire.specs.Message.{spelling, field_spelling, message_field};
 ghost use Rattle.plcr_macho.specs.Images.{listed_at};
 ghost use Rattle.plcr_report.specs.Messages.{image_message};
 ghost use Rattle.plcr_encode.specs.Conditions.{IsNamable, AreNamable};
+ghost use Rattle.plcr_encode.specs.declared.limits.TheConstants.{FIELD_BYTES, IMAGE_BYTES, IMAGES_BYTES};
 ghost use Rattle.plcr_encode.specs.Images.{image_of, images_of};
 ghost use Rattle.plcr_encode.specs.inner.Rows.{message_fields};
 
@@ -32,12 +33,13 @@ impl Message for ProcessorPart {
     ghost use Rattle.std.proofs.Common.{lit<};
     ghost use Rattle.plcr_report.specs.Messages.{processor_message};
     ghost use Rattle.plcr_encode.specs.Images.{processor_of};
+    ghost use Rattle.plcr_encode.specs.declared.limits.TheConstants.{PROCESSOR_BYTES};
 
     ghost fields = { λ part. processor_message (processor_of part.cpu part.subtype) };
 
     ghost fits = { λ part. Unit {0} };
 
-    ghost most = { 60 };
+    ghost most = { PROCESSOR_BYTES };
 
     #[tactic(auto, unfolding(plcr_report::specs::Messages::processor_message))]
     fn len(&self) -> u64 {
@@ -65,17 +67,17 @@ struct ImagePart<'a> {
 }
 
 impl Message for ImagePart<'_> {
-    ghost use Rattle.std.specs.Prelude.{◌^◌};
     ghost use Rattle.std.proofs.Common.{lit<};
     ghost use Rattle.plcr_report.specs.Messages.{image_message};
     ghost use Rattle.plcr_base.specs.Limits.{IsImageName};
     ghost use Rattle.plcr_encode.specs.Images.{image_with};
+    ghost use Rattle.plcr_encode.specs.declared.limits.TheConstants.{IMAGE_BYTES};
 
     ghost fields = { λ part. image_message (image_with (record { header = part.header; name = part.name.now }) part.found.now) };
 
     ghost fits = { λ part. IsImageName part.name.now };
 
-    ghost most = { 2 ^ 11 };
+    ghost most = { IMAGE_BYTES };
 
     #[tactic(auto, unfolding(plcr_report::specs::Messages::image_message))]
     fn len(&self) -> u64 {
@@ -135,9 +137,9 @@ fn put_image<I: Images, W: Ink>(
 ) -> u64
     requires inside { i < length (I.images images.old) }
     requires namable { IsNamable (listed_at (I.images images.old) i) }
-    ensures wrote { Wrote (W.pen ink.old) (W.pen ink.new) (field_spelling (message_field 4 (image_message (image_of memory.now arch (listed_at (I.images images.old) i))))) }
-    ensures size { result ≡ length (field_spelling (message_field 4 (image_message (image_of memory.now arch (listed_at (I.images images.old) i))))) }
-    ensures short { result ≤ 2068 }
+    ensures wrote { Wrote (W.pen ink.old) (W.pen ink.new) (field_spelling (message_field Report.BINARY_IMAGES (image_message (image_of memory.now arch (listed_at (I.images images.old) i))))) }
+    ensures size { result ≡ length (field_spelling (message_field Report.BINARY_IMAGES (image_message (image_of memory.now arch (listed_at (I.images images.old) i))))) }
+    ensures short { result ≤ FIELD_BYTES + IMAGE_BYTES }
     ensures same { I.images images.new ≡ I.images images.old }
     ensures follows { I.follows images.old images.new }
 {
@@ -160,9 +162,9 @@ pub(crate) fn put_images<I: Images, W: Ink>(
     arch: Arch,
 ) -> u64
     requires { AreNamable (I.images images.old) }
-    ensures wrote { Wrote (W.pen ink.old) (W.pen ink.new) (spelling (message_fields 4 image_message (images_of memory.now arch (I.images images.old)))) }
-    ensures size { result ≡ length (spelling (message_fields 4 image_message (images_of memory.now arch (I.images images.old)))) }
-    ensures short { result < 2 ^ 50 }
+    ensures wrote { Wrote (W.pen ink.old) (W.pen ink.new) (spelling (message_fields Report.BINARY_IMAGES image_message (images_of memory.now arch (I.images images.old)))) }
+    ensures size { result ≡ length (spelling (message_fields Report.BINARY_IMAGES image_message (images_of memory.now arch (I.images images.old)))) }
+    ensures short { result < IMAGES_BYTES }
     ensures same { I.images images.new ≡ I.images images.old }
     ensures follows { I.follows images.old images.new }
 {

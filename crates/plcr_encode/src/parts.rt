@@ -25,17 +25,17 @@ pub(crate) struct SystemPart<'a> {
 }
 
 impl Message for SystemPart<'_> {
-    ghost use Rattle.std.specs.Prelude.{◌^◌};
     ghost use Rattle.std.proofs.Common.{lit<};
     ghost use Rattle.plcr_report.specs.Messages.{system_message};
     ghost use Rattle.plcr_encode.specs.Values.{system_of};
     ghost use Rattle.plcr_encode.specs.Conditions.{IsWritable};
+    ghost use Rattle.plcr_encode.specs.declared.limits.TheConstants.{PART_BYTES};
 
     ghost fields = { λ part. system_message (system_of part.context.now) };
 
     ghost fits = { λ part. IsWritable part.context.now };
 
-    ghost most = { 2 ^ 34 };
+    ghost most = { PART_BYTES };
 
     #[tactic(auto, unfolding(plcr_report::specs::Messages::system_message))]
     fn len(&self) -> u64 {
@@ -65,17 +65,17 @@ pub(crate) struct ApplicationPart<'a> {
 }
 
 impl Message for ApplicationPart<'_> {
-    ghost use Rattle.std.specs.Prelude.{◌^◌};
     ghost use Rattle.std.proofs.Common.{lit<};
     ghost use Rattle.plcr_report.specs.Messages.{application_message};
     ghost use Rattle.plcr_encode.specs.Values.{application_of};
     ghost use Rattle.plcr_encode.specs.Conditions.{IsWritable};
+    ghost use Rattle.plcr_encode.specs.declared.limits.TheConstants.{PART_BYTES};
 
     ghost fields = { λ part. application_message (application_of part.context.now) };
 
     ghost fits = { λ part. IsWritable part.context.now };
 
-    ghost most = { 2 ^ 34 };
+    ghost most = { PART_BYTES };
 
     #[tactic(auto, unfolding(plcr_report::specs::Messages::application_message))]
     fn len(&self) -> u64 {
@@ -101,17 +101,17 @@ pub(crate) struct SignalPart<'a> {
 }
 
 impl Message for SignalPart<'_> {
-    ghost use Rattle.std.specs.Prelude.{◌^◌};
     ghost use Rattle.std.proofs.Common.{lit<};
     ghost use Rattle.plcr_report.specs.Messages.{signal_message};
     ghost use Rattle.plcr_encode.specs.Values.{signal_of};
     ghost use Rattle.plcr_encode.specs.Conditions.{IsWritable};
+    ghost use Rattle.plcr_encode.specs.declared.limits.TheConstants.{PART_BYTES};
 
     ghost fields = { λ part. signal_message (signal_of part.context.now) };
 
     ghost fits = { λ part. IsWritable part.context.now };
 
-    ghost most = { 2 ^ 34 };
+    ghost most = { PART_BYTES };
 
     #[tactic(auto, unfolding(plcr_report::specs::Messages::signal_message))]
     fn len(&self) -> u64 {
@@ -139,17 +139,17 @@ pub(crate) struct ProcessPart<'a> {
 }
 
 impl Message for ProcessPart<'_> {
-    ghost use Rattle.std.specs.Prelude.{◌^◌};
     ghost use Rattle.std.proofs.Common.{lit<};
     ghost use Rattle.plcr_report.specs.Messages.{process_message};
     ghost use Rattle.plcr_encode.specs.Values.{process_of};
     ghost use Rattle.plcr_encode.specs.Conditions.{IsWritable};
+    ghost use Rattle.plcr_encode.specs.declared.limits.TheConstants.{PART_BYTES};
 
     ghost fields = { λ part. process_message (process_of part.context.now) };
 
     ghost fits = { λ part. IsWritable part.context.now };
 
-    ghost most = { 2 ^ 34 };
+    ghost most = { PART_BYTES };
 
     #[tactic(auto, unfolding(plcr_report::specs::Messages::process_message))]
     fn len(&self) -> u64 {
@@ -179,17 +179,17 @@ pub(crate) struct InfoPart<'a> {
 }
 
 impl Message for InfoPart<'_> {
-    ghost use Rattle.std.specs.Prelude.{◌^◌};
     ghost use Rattle.std.proofs.Common.{lit<};
     ghost use Rattle.plcr_report.specs.Messages.{info_message};
     ghost use Rattle.plcr_encode.specs.Values.{info_of};
     ghost use Rattle.plcr_encode.specs.Conditions.{IsWritable};
+    ghost use Rattle.plcr_encode.specs.declared.limits.TheConstants.{PART_BYTES};
 
     ghost fields = { λ part. info_message (info_of part.context.now) };
 
     ghost fits = { λ part. IsWritable part.context.now };
 
-    ghost most = { 2 ^ 34 };
+    ghost most = { PART_BYTES };
 
     #[tactic(auto, unfolding(plcr_report::specs::Messages::info_message))]
     fn len(&self) -> u64 {

@@ -1,5 +1,5 @@
 //! A whole report.
-ghost use Rattle.std.specs.Prelude.{◌≡◌, ◌+◌, ◌^◌, ◌<◌, ◌≤◌, length, IfOk, OnOk, OnErr};
+ghost use Rattle.std.specs.Prelude.{◌≡◌, ◌+◌, ◌<◌, ◌≤◌, length, IfOk, OnOk, OnErr};
 ghost use Rattle.std.specs.Io.KnownBytes.{append_known};
 ghost use Rattle.plcr_base.specs.Causes.{Rose};
 ghost use Rattle.plcr_base.specs.Told.{AppendsProperFront};
@@ -10,15 +10,14 @@ ghost use Rattle.plcr_report.specs.Messages.{report_message};
 ghost use Rattle.plcr_report.specs.Spelling.{file_head, spelling_of};
 ghost use Rattle.plcr_encode.specs.Conditions.{AreWhole, AreNamable, IsWritable};
 ghost use Rattle.plcr_encode.specs.Values.{process_report};
+ghost use Rattle.plcr_encode.specs.declared.limits.TheConstants.{REPORT_BYTES};
 
 use crate::context::Context;
 use crate::fields::put_message;
-use crate::frame_rows::FrameRow;
 use crate::images::put_images;
 use crate::parts::{ApplicationPart, InfoPart, ProcessPart, SignalPart, SystemPart};
+use crate::room::Room;
 use crate::threads::put_threads;
-use arrayvec::ArrayVec;
-use plcr_cursor::MOST_FRAMES;
 use plcr_io::{PutFailed, Sink};
 use plcr_macho::Images;
 use plcr_memory::Memory;
@@ -40,7 +39,7 @@ fn put_head<W: Ink>(ink: &mut W) -> u64
 /// Writes the fields of a report, and gives the length of what was written.
 fn put_root<I: Images, W: Ink>(
     ink: &mut W,
-    rows: &mut ArrayVec<FrameRow, MOST_FRAMES>,
+    room: &mut Room,
     images: &mut I,
     memory: &Memory,
     threads: &[Registers],
@@ -52,13 +51,13 @@ fn put_root<I: Images, W: Ink>(
     requires index { IsIndex memory.now context.now.arch (I.images images.old) (I.extents images.old) }
     ensures wrote { Wrote (W.pen ink.old) (W.pen ink.new) (spelling (report_message (process_report context.now threads.now memory.now (I.images images.old)))) }
     ensures size { result ≡ length (spelling (report_message (process_report context.now threads.now memory.now (I.images images.old)))) }
-    ensures short { result < 2 ^ 60 }
+    ensures short { result < REPORT_BYTES }
     ensures same { I.images images.new ≡ I.images images.old }
     ensures follows { I.follows images.old images.new }
 {
     let system = put_message(ink, Report::SYSTEM_INFO, &SystemPart { context });
     let application = put_message(ink, Report::APPLICATION_INFO, &ApplicationPart { context });
-    let threads = put_threads(ink, rows, images, memory, threads, context);
+    let threads = put_threads(ink, room, images, memory, threads, context);
     let images = put_images(ink, images, memory, context.arch);
     let signal = put_message(ink, Report::SIGNAL, &SignalPart { context });
     let process = put_message(ink, Report::PROCESS_INFO, &ProcessPart { context });
@@ -70,7 +69,8 @@ fn put_root<I: Images, W: Ink>(
 /// length in bytes. At `PutFailed` the sink has a front of it, and not all. File format:
 /// PLCrashReporter's crash_report.proto, behind the text `plcrash` and the version 1.
 ///
-/// The list of images is indexed first, for this memory and architecture. It takes no memory. The sink is given pieces of at most 256 bytes.
+/// The list of images is indexed first, for this memory and architecture. It takes no memory. The
+/// sink is given pieces of at most 256 bytes.
 pub fn capture<I: Images, K: Sink>(
     images: &mut I,
     memory: &Memory,
@@ -91,10 +91,10 @@ pub fn capture<I: Images, K: Sink>(
     ensures follows { I.follows images.old images.new }
 {
     images.index(memory, context.arch);
-    let mut rows = ArrayVec::new();
+    let mut room = Room::new();
     let mut buffered = Buffered::new(sink);
     let head = put_head(&mut buffered);
-    let length = put_root(&mut buffered, &mut rows, images, memory, threads, context);
+    let length = put_root(&mut buffered, &mut room, images, memory, threads, context);
     buffered.finish()?;
     Ok(head + length)
 }

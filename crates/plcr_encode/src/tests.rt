@@ -1,40 +1,18 @@
-ghost use Rattle.std.specs.Prelude.{◌≡◌, ◌≤◌, All, IsTrue, length};
+ghost use Rattle.std.specs.Prelude.{◌≡◌};
 ghost use Rattle.plcr_regs.specs.States.{IsWhole};
-ghost use Rattle.plcr_macho.specs.Images.{all_listed};
-ghost use Rattle.plcr_encode.specs.Conditions.{IsWritable, AreNamable};
+ghost use Rattle.plcr_encode.specs.Conditions.{IsWritable};
 
-use super::*;
-use arrayvec::ArrayVec;
+use crate::fixtures::*;
+use crate::{Context, capture};
 use plcr_io::{MemOut, PutFailed, Sink};
-use plcr_macho::{ListImages, PlainImage, Spot};
-use plcr_memory::{Memory, MemoryFault, Region, are_backed};
+use plcr_macho::{ListImages, PlainImage};
+use plcr_memory::{Memory, MemoryFault, Region};
 use plcr_regs::{Arch, Registers};
 use std::alloc::{AllocError, Global};
 use std::test::Fail;
 
-/// The report of one x86-64 thread, which crashed with rsp 0x7000 and rip 0x100000f50, all else 0.
-const EXPECTED: [u8; 271] = [
-    0x70, 0x6c, 0x63, 0x72, 0x61, 0x73, 0x68, 0x01, 0x0a, 0x09, 0x08, 0x00, 0x12, 0x01, 0x30, 0x18,
-    0x01, 0x20, 0x00, 0x12, 0x08, 0x0a, 0x03, 0x61, 0x70, 0x70, 0x12, 0x01, 0x31, 0x1a, 0xcd, 0x01,
-    0x08, 0x00, 0x12, 0x06, 0x18, 0xd0, 0x9e, 0x80, 0x80, 0x10, 0x18, 0x01, 0x22, 0x07, 0x0a, 0x03,
-    0x72, 0x61, 0x78, 0x10, 0x00, 0x22, 0x07, 0x0a, 0x03, 0x72, 0x62, 0x78, 0x10, 0x00, 0x22, 0x07,
-    0x0a, 0x03, 0x72, 0x63, 0x78, 0x10, 0x00, 0x22, 0x07, 0x0a, 0x03, 0x72, 0x64, 0x78, 0x10, 0x00,
-    0x22, 0x07, 0x0a, 0x03, 0x72, 0x64, 0x69, 0x10, 0x00, 0x22, 0x07, 0x0a, 0x03, 0x72, 0x73, 0x69,
-    0x10, 0x00, 0x22, 0x07, 0x0a, 0x03, 0x72, 0x62, 0x70, 0x10, 0x00, 0x22, 0x09, 0x0a, 0x03, 0x72,
-    0x73, 0x70, 0x10, 0x80, 0xe0, 0x01, 0x22, 0x06, 0x0a, 0x02, 0x72, 0x38, 0x10, 0x00, 0x22, 0x06,
-    0x0a, 0x02, 0x72, 0x39, 0x10, 0x00, 0x22, 0x07, 0x0a, 0x03, 0x72, 0x31, 0x30, 0x10, 0x00, 0x22,
-    0x07, 0x0a, 0x03, 0x72, 0x31, 0x31, 0x10, 0x00, 0x22, 0x07, 0x0a, 0x03, 0x72, 0x31, 0x32, 0x10,
-    0x00, 0x22, 0x07, 0x0a, 0x03, 0x72, 0x31, 0x33, 0x10, 0x00, 0x22, 0x07, 0x0a, 0x03, 0x72, 0x31,
-    0x34, 0x10, 0x00, 0x22, 0x07, 0x0a, 0x03, 0x72, 0x31, 0x35, 0x10, 0x00, 0x22, 0x0b, 0x0a, 0x03,
-    0x72, 0x69, 0x70, 0x10, 0xd0, 0x9e, 0x80, 0x80, 0x10, 0x22, 0x0a, 0x0a, 0x06, 0x72, 0x66, 0x6c,
-    0x61, 0x67, 0x73, 0x10, 0x00, 0x22, 0x06, 0x0a, 0x02, 0x63, 0x73, 0x10, 0x00, 0x22, 0x06, 0x0a,
-    0x02, 0x66, 0x73, 0x10, 0x00, 0x22, 0x06, 0x0a, 0x02, 0x67, 0x73, 0x10, 0x00, 0x32, 0x0f, 0x0a,
-    0x07, 0x53, 0x49, 0x47, 0x41, 0x42, 0x52, 0x54, 0x12, 0x02, 0x23, 0x30, 0x18, 0x00, 0x3a, 0x0b,
-    0x0a, 0x03, 0x61, 0x70, 0x70, 0x10, 0x00, 0x28, 0x00, 0x30, 0x01, 0x4a, 0x02, 0x08, 0x00,
-];
-
-/// An x86-64 dylib of subtype 3, made for 0x100000000: a header, a segment `__TEXT` of 0x4000 bytes and no
-/// sections, and a uuid of zeros.
+/// An x86-64 dylib of subtype 3, made for 0x100000000: a header, a segment `__TEXT` of 0x4000 bytes
+/// and no sections, and a uuid of zeros.
 const IMAGE: [u8; 128] = [
     0xcf, 0xfa, 0xed, 0xfe, 0x07, 0x00, 0x00, 0x01, 0x03, 0x00, 0x00, 0x00, 0x06, 0x00, 0x00, 0x00,
     0x02, 0x00, 0x00, 0x00, 0x60, 0x00, 0x00, 0x00, 0x00, 0x00, 0x00, 0x00, 0x00, 0x00, 0x00, 0x00,
@@ -46,7 +24,8 @@ const IMAGE: [u8; 128] = [
     0x00, 0x00, 0x00, 0x00, 0x00, 0x00, 0x00, 0x00, 0x00, 0x00, 0x00, 0x00, 0x00, 0x00, 0x00, 0x00,
 ];
 
-/// What a report says of that image at 0x100000000 under the name `x`: base address, size, name, uuid, code type.
+/// What a report says of that image at 0x100000000 under the name `x`: base address, size, name,
+/// uuid, code type.
 const FIRST: [u8; 44] = [
     0x22, 0x2a, 0x08, 0x80, 0x80, 0x80, 0x80, 0x10, 0x10, 0x80, 0x80, 0x01, 0x1a, 0x01, 0x78, 0x22,
     0x10, 0x00, 0x00, 0x00, 0x00, 0x00, 0x00, 0x00, 0x00, 0x00, 0x00, 0x00, 0x00, 0x00, 0x00, 0x00,
@@ -60,57 +39,11 @@ const SECOND: [u8; 45] = [
     0x00, 0x01, 0x2a, 0x09, 0x08, 0x01, 0x10, 0x87, 0x80, 0x80, 0x08, 0x18, 0x03,
 ];
 
-/// The same of 0x5000, where nothing is mapped, under the name `x`: no more than base address, size 0 and name.
+/// The same of 0x5000, where nothing is mapped, under the name `x`: no more than base address, size
+/// 0 and name.
 const UNKNOWN: [u8; 11] = [
     0x22, 0x09, 0x08, 0x80, 0xa0, 0x01, 0x10, 0x00, 0x1a, 0x01, 0x78,
 ];
-
-/// Where the images stand in the report.
-const IMAGES: usize = 237;
-
-fn stopped() -> Registers
-    ensures { IsWhole Arch.X86_64 result }
-{
-    Registers {
-        arch: Arch::X86_64,
-        value: [
-            Some(0),
-            Some(0),
-            Some(0),
-            Some(0),
-            Some(0),
-            Some(0),
-            Some(0),
-            Some(0x7000),
-            Some(0),
-            Some(0),
-            Some(0),
-            Some(0),
-            Some(0),
-            Some(0),
-            Some(0),
-            Some(0),
-            Some(0x1_0000_0f50),
-            Some(0),
-            Some(0),
-            Some(0),
-            Some(0),
-            None,
-            None,
-            None,
-            None,
-            None,
-            None,
-            None,
-            None,
-            None,
-            None,
-            None,
-            None,
-            None,
-        ],
-    }
-}
 
 /// An arm64 thread with sp 0x7000 and pc 0x100000f50, all else 0.
 fn stopped_arm64() -> Registers
@@ -125,29 +58,6 @@ fn stopped_arm64() -> Registers
     }
 }
 
-fn context(arch: Arch, crashed: u32, user: bool) -> Context<'static>
-    ensures writable { IsWritable result }
-    ensures arch { result.arch ≡ arch }
-{
-    Context {
-        arch,
-        os: 0,
-        os_version: b"0",
-        timestamp: 0,
-        identifier: b"app",
-        version: b"1",
-        signal: b"SIGABRT",
-        code: b"#0",
-        address: 0,
-        process: b"app",
-        pid: 0,
-        ppid: 0,
-        crashed,
-        user,
-        bits: 64,
-    }
-}
-
 /// The memory of two images.
 fn memory(alloc: Global) -> Result<Memory, MemoryFault> {
     let mut second = IMAGE;
@@ -155,48 +65,18 @@ fn memory(alloc: Global) -> Result<Memory, MemoryFault> {
     second[127] = 1;
     let mut file = IMAGE.to_vec(alloc)?;
     file.extend_from_slice(&second)?;
-    let mut regions = Vec::new(alloc);
-    for (start, from) in [(0x1_0000_0000, 0), (0x1_0000_4000, 128)] {
-        regions.push(Region {
-            start,
-            size: 0x4000,
-            from,
-            len: 128,
-        })?;
-    }
-    if are_backed(file.as_slice(), regions.as_slice()) {
-        Memory::new(alloc, file, regions)
-    } else {
-        Err(MemoryFault::Memory)
-    }
-}
-
-fn image(header: u64, name: &[u8]) -> PlainImage {
-    let mut bytes = ArrayVec::new();
-    let _ = bytes.try_extend_from_slice(name);
-    PlainImage {
-        header,
-        name: bytes,
-    }
-}
-
-const NO_SPOT: Spot = Spot {
-    start: 0,
-    size: 0,
-    reach: 0,
-    position: 0,
-};
-
-fn are_short(images: &[PlainImage]) -> bool
-    ensures { IsTrue result → All (λ image. length image.name.items ≤ 1024) images.now }
-{
-    images.iter().all(|image| image.name.len() <= 1024)
-}
-
-fn are_namable(images: &[PlainImage]) -> bool
-    ensures { IsTrue result → AreNamable (all_listed images.now) }
-{
-    are_short(images) && images.len() < 1000
+    let first = Region {
+        start: 0x1_0000_0000,
+        size: 0x4000,
+        from: 0,
+        len: 128,
+    };
+    let second = Region {
+        start: 0x1_0000_4000,
+        from: 128,
+        ..first
+    };
+    memory_of(alloc, file, &[first, second])
 }
 
 fn write<K: Sink>(
@@ -208,13 +88,7 @@ fn write<K: Sink>(
     requires writable { IsWritable context.now }
     requires arch { context.now.arch ≡ Arch.X86_64 }
 {
-    let mut room = [NO_SPOT; 8];
-    if are_namable(images) && images.len() <= room.len() {
-        let mut list = ListImages::new(images, &mut room);
-        capture(&mut list, memory, &[stopped()], context, out)
-    } else {
-        Ok(0)
-    }
+    write_threads(images, memory, &[stopped()], context, out)
 }
 
 #[test]

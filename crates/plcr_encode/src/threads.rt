@@ -1,5 +1,5 @@
 //! The threads of a report, with their registers.
-ghost use Rattle.std.specs.Prelude.{◌≡◌, ◌*◌, ◌^◌, ◌<◌, ◌≤◌, length};
+ghost use Rattle.std.specs.Prelude.{◌≡◌, ◌+◌, ◌*◌, ◌<◌, ◌≤◌, length};
 ghost use Rattle.plcr_cursor.specs.Walks.{IsIndex};
 ghost use Rattle.plcr_regs.specs.declared.limits.TheConstants.{MOST_REGISTERS};
 ghost use Rattle.plcr_wire.specs.Pen.{Wrote};
@@ -7,6 +7,7 @@ ghost use Rattle.plcr_wire.specs.Message.{spelling};
 ghost use Rattle.plcr_report.specs.Messages.{register_message, thread_message};
 ghost use Rattle.plcr_encode.specs.inner.Rows.{message_fields};
 ghost use Rattle.plcr_regs.specs.Names.{register_count};
+ghost use Rattle.plcr_encode.specs.declared.limits.TheConstants.{FIELD_BYTES, REGISTER_BYTES, REGISTER_NAME_BYTES, THREADS_BYTES};
 ghost use Rattle.plcr_encode.specs.Conditions.{AreWhole};
 ghost use Rattle.plcr_encode.specs.Values.{register_at, registers_of, threads_of, value_at};
 
@@ -15,10 +16,10 @@ use crate::fields::{
     Message, flag_len, message_len, number_len, put_flag, put_message, put_number, put_text,
     text_len,
 };
-use crate::frame_rows::{FrameRow, frames_len, put_frames};
+use crate::frame_parts::{frames_len, put_frames};
+use crate::frame_rows::FrameRow;
 use crate::frames::find_frames;
-use arrayvec::ArrayVec;
-use plcr_cursor::MOST_FRAMES;
+use crate::room::Room;
 use plcr_macho::Images;
 use plcr_memory::Memory;
 use plcr_regs::{Registers, count, name};
@@ -36,12 +37,13 @@ impl Message for RegisterPart {
     ghost use Rattle.std.specs.Prelude.{◌≤◌, length};
     ghost use Rattle.std.proofs.Common.{lit<};
     ghost use Rattle.plcr_report.specs.Messages.{register_message};
+    ghost use Rattle.plcr_encode.specs.declared.limits.TheConstants.{REGISTER_BYTES, REGISTER_NAME_BYTES};
 
     ghost fields = { λ part. register_message (record { name = part.name.now; value = part.value }) };
 
-    ghost fits = { λ part. length part.name.now ≤ 6 };
+    ghost fits = { λ part. length part.name.now ≤ REGISTER_NAME_BYTES };
 
-    ghost most = { 46 };
+    ghost most = { REGISTER_BYTES };
 
     #[tactic(auto, unfolding(plcr_report::specs::Messages::register_message))]
     fn len(&self) -> u64 {
@@ -70,7 +72,7 @@ fn register(state: &Registers, i: usize) -> RegisterPart
     requires { i < register_count state.now.arch }
     ensures name { result.name.now ≡ (register_at state.now i).name }
     ensures value { result.value ≡ (register_at state.now i).value }
-    ensures short { length result.name.now ≤ 6 }
+    ensures short { length result.name.now ≤ REGISTER_NAME_BYTES }
 {
     RegisterPart {
         name: name(state.arch, i),
@@ -80,8 +82,8 @@ fn register(state: &Registers, i: usize) -> RegisterPart
 
 /// The length of a thread's registers.
 fn registers_len(state: &Registers) -> u64
-    ensures size { result ≡ length (spelling (message_fields 4 register_message (registers_of state.now))) }
-    ensures short { result ≤ 66 * MOST_REGISTERS }
+    ensures size { result ≡ length (spelling (message_fields Thread.REGISTERS register_message (registers_of state.now))) }
+    ensures short { result ≤ (FIELD_BYTES + REGISTER_BYTES) * MOST_REGISTERS }
 {
     let mut length = 0;
     for i in 0..count(state.arch) {
@@ -92,39 +94,41 @@ fn registers_len(state: &Registers) -> u64
 
 /// Writes a thread's registers, in the order of its state.
 fn put_registers<W: Ink>(ink: &mut W, state: &Registers)
-    ensures { Wrote (W.pen ink.old) (W.pen ink.new) (spelling (message_fields 4 register_message (registers_of state.now))) }
+    ensures { Wrote (W.pen ink.old) (W.pen ink.new) (spelling (message_fields Thread.REGISTERS register_message (registers_of state.now))) }
 {
     for i in 0..count(state.arch) {
         put_message(ink, Thread::REGISTERS, &register(state, i));
     }
 }
 
-/// A thread: its number, that of the thread that crashed, the rows of its frames, and its state.
+/// A thread: its number, that of the thread that crashed, the memory and the rows of its frames,
+/// and its state.
 #[derive(Drop)]
 struct ThreadPart<'a> {
     number: u32,
     crashed: u32,
+    memory: &'a Memory,
     rows: &'a [FrameRow],
     state: &'a Registers,
 }
 
 impl Message for ThreadPart<'_> {
-    ghost use Rattle.std.specs.Prelude.{◌^◌, ◌≤◌, length, map};
+    ghost use Rattle.std.specs.Prelude.{map};
     ghost use Rattle.std.proofs.Common.{lit<};
-    ghost use Rattle.plcr_cursor.specs.declared.limits.TheConstants.{MOST_FRAMES};
     ghost use Rattle.plcr_report.specs.Messages.{thread_message};
-    ghost use Rattle.plcr_encode.specs.inner.FrameRows.{frame_in};
+    ghost use Rattle.plcr_encode.specs.declared.limits.TheConstants.{THREAD_BYTES};
+    ghost use Rattle.plcr_encode.specs.inner.FrameRows.{AreWritable, frame_in};
     ghost use Rattle.plcr_encode.specs.Values.{thread_with};
 
-    ghost fields = { λ part. thread_message (thread_with part.crashed part.number (map frame_in part.rows.now) part.state.now) };
+    ghost fields = { λ part. thread_message (thread_with part.crashed part.number (map (frame_in part.memory.now) part.rows.now) part.state.now) };
 
-    ghost fits = { λ part. length part.rows.now ≤ MOST_FRAMES };
+    ghost fits = { λ part. AreWritable part.memory.now part.rows.now };
 
-    ghost most = { 2 ^ 15 };
+    ghost most = { THREAD_BYTES };
 
     fn len(&self) -> u64 {
         number_len(Thread::THREAD_NUMBER, self.number as u64)
-            + frames_len(self.rows)
+            + frames_len(self.memory, self.rows)
             + flag_len(Thread::CRASHED, self.number == self.crashed)
             + registers_len(self.state)
     }
@@ -132,7 +136,7 @@ impl Message for ThreadPart<'_> {
     #[tactic(auto, using(plcr_wire::proofs::Writing::wrote_twice, plcr_wire::proofs::Writing::wrote_none))]
     fn put<W: Ink>(&self, ink: &mut W) {
         put_number(ink, Thread::THREAD_NUMBER, self.number as u64);
-        put_frames(ink, self.rows);
+        put_frames(ink, self.memory, self.rows);
         put_flag(ink, Thread::CRASHED, self.number == self.crashed);
         put_registers(ink, self.state);
     }
@@ -140,11 +144,11 @@ impl Message for ThreadPart<'_> {
     ghost moderate = { lit< tt };
 }
 
-/// Writes the threads in these states, numbered from 0, and gives the length of what was written. The
-/// frames of a thread are found once, and kept in the rows while it is sized and written.
+/// Writes the threads in these states, numbered from 0, and gives the length of what was written.
+/// The frames of a thread are found once, and kept in the rows while it is sized and written.
 pub(crate) fn put_threads<I: Images, W: Ink>(
     ink: &mut W,
-    rows: &mut ArrayVec<FrameRow, MOST_FRAMES>,
+    room: &mut Room,
     images: &mut I,
     memory: &Memory,
     states: &[Registers],
@@ -153,9 +157,9 @@ pub(crate) fn put_threads<I: Images, W: Ink>(
     requires whole { AreWhole context.now.arch states.now }
     requires bits { (32 ≤ context.now.bits) × (context.now.bits ≤ 64) }
     requires index { IsIndex memory.now context.now.arch (I.images images.old) (I.extents images.old) }
-    ensures wrote { Wrote (W.pen ink.old) (W.pen ink.new) (spelling (message_fields 3 thread_message (threads_of memory.now (I.images images.old) context.now states.now))) }
-    ensures size { result ≡ length (spelling (message_fields 3 thread_message (threads_of memory.now (I.images images.old) context.now states.now))) }
-    ensures short { result < 2 ^ 50 }
+    ensures wrote { Wrote (W.pen ink.old) (W.pen ink.new) (spelling (message_fields Report.THREADS thread_message (threads_of memory.now (I.images images.old) context.now states.now))) }
+    ensures size { result ≡ length (spelling (message_fields Report.THREADS thread_message (threads_of memory.now (I.images images.old) context.now states.now))) }
+    ensures short { result < THREADS_BYTES }
     ensures same { I.images images.new ≡ I.images images.old }
     ensures follows { I.follows images.old images.new }
 {
@@ -163,11 +167,12 @@ pub(crate) fn put_threads<I: Images, W: Ink>(
     for (number, state) in states.iter().enumerate() {
         // A read tells the proof how many places a state has.
         let _first = state.value[0];
-        find_frames(rows, images, memory, state, context.bits);
+        find_frames(room, images, memory, state, context.bits);
         let part = ThreadPart {
             number: number as u32,
             crashed: context.crashed,
-            rows: rows.as_slice(),
+            memory,
+            rows: room.rows(),
             state,
         };
         length += put_message(ink, Report::THREADS, &part);

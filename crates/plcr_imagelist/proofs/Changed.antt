@@ -1,12 +1,11 @@
 -- The changes that come new to the writer's history, by headers and names.
-use Rattle.std.proofs.Common.{◌≡◌, ⊎_elim, ℕ, suc, ◌+◌, List, [], ◌∷◌, ◌++◌, length, length-append, Some, true, false, cond, eqb, refl, sym, ap, ◌∙◌, subst, arith, append_assoc, ne_eqb, eq-eqb}
+use Rattle.std.proofs.Common.{◌≡◌, ⊎_elim, ℕ, suc, List, [], ◌∷◌, ◌++◌, length, length-append, refl, sym, ap, ◌∙◌, subst, arith, append_assoc, ne_eqb, eq-eqb}
 use Rattle.std.proofs.lemmas.Bool.{cases_eq}
 use Rattle.plcr_machine.specs.declared.image.Image.{Image}
 use Rattle.plcr_machine.specs.declared.entry.Entry.{Entry}
-use Rattle.plcr_machine.specs.declared.entry.Entry.TheVariants.{Load, Unload, Count, Look}
 use Rattle.plcr_machine.specs.declared.change.Change.{Change}
 use Rattle.plcr_machine.specs.declared.change.Change.TheVariants.{Loads as LoadsNamed, Unloads as UnloadsFirst}
-use Rattle.plcr_machine.specs.Lists.{Grows, live, changes, loads}
+use Rattle.plcr_machine.specs.Lists.{Grows, live, changes}
 use Rattle.plcr_machine.specs.Histories.{IsHistory}
 use Rattle.plcr_machine.specs.Changes.{header_at, TakesFirst, changes_of}
 use Rattle.plcr_machine.proofs.Freedom.{live_apart}
@@ -19,7 +18,7 @@ use Rattle.plcr_nodes.proofs.Pacing.{changes_same}
 use Rattle.plcr_imagelist.specs.declared.change.Progress.{Progress}
 use Rattle.plcr_imagelist.specs.declared.change.Progress.TheVariants.{More, Done}
 use Rattle.plcr_imagelist.specs.Finding.{first_with}
-use Rattle.plcr_imagelist.specs.States.{WriterState, Doing, Loads, Unloads, change_step, ChangeState, IsAtRest}
+use Rattle.plcr_imagelist.specs.States.{WriterState, Doing, Loads, Unloads, change_step, ChangeState}
 use Rattle.plcr_nodes.specs.Tokens.{NoteState}
 use Rattle.plcr_imagelist.specs.Holds.{WalkerState}
 use Rattle.plcr_imagelist.specs.Changes.{WriterSeesMore, IsCountedAt, IsLoadedAt, IsUnloadedAt, IsChangedAt}

@@ -1,6 +1,7 @@
 -- The writer's books agree with the history after each of its steps.
 use Rattle.std.proofs.Common.{◌≡◌, ◌≢◌, ℕ, zero, suc, ◌+◌, ◌<◌, ◌≤◌, List, [], ◌∷◌, ◌++◌, length, get_or, Bool, true, false, cond, not, ◌||◌, ◌&&◌, eqb, ltb, filter, refl, sym, ap, ◌∙◌, subst, arith, length-append, take, drop}
 use Rattle.std.proofs.lemmas.Bool.{and_parts, eqb-true}
+use Rattle.plcr_base.proofs.Plain.{and_false}
 use Rattle.plcr_machine.specs.declared.image.Image.{Image}
 use Rattle.plcr_machine.specs.declared.entry.Entry.{Entry}
 use Rattle.plcr_machine.specs.declared.entry.Entry.TheVariants.{Announce, Enter, Leave, Retire, Load, Unload, Count, Look}
@@ -52,10 +53,6 @@ free_settled false false cleared old f = refl
 
 cleared_same : (passes n : ℕ) (g h : List Entry) → owner_entries g ≡ owner_entries h → is_cleared passes n g ≡ is_cleared passes n h
 cleared_same passes n g h e = ap (λ (f : ℕ → Bool). all_under f passes) (λ i p. let_go_same p n g h e i)
-
-and_never : (a : Bool) → (a && false) ≡ false
-and_never true = refl
-and_never false = refl
 
 -- right after its unload no pass has let go of a node
 not_cleared : (passes n node : ℕ) (past : List Entry) → eqb node n ≡ true → 0 < passes → is_cleared passes n (Unload node ∷ past) ≡ false
@@ -163,7 +160,7 @@ agrees_unlinked old node new bounds spares gone listed rest c l k owes taken sho
     let there' : has n (live past) ≡ true = ap (has n) lists ∙ there in
     let held : is_cleared old.passes n (Unload node ∷ past) ≡ false = not_cleared old.passes n node past e a.some in
     let new : is_new n past ≡ false = listed_old n past there' in
-    (λ i. new i || (is_removed n (Unload node ∷ past) && held i)) ∙ and_never (is_removed n (Unload node ∷ past)) ∙ sym (listed_busy old.passes n old.history there))
+    (λ i. new i || (is_removed n (Unload node ∷ past) && held i)) ∙ and_false (is_removed n (Unload node ∷ past)) ∙ sym (listed_busy old.passes n old.history there))
     (λ e. rw e (free_same old.passes n past old.history own)) in
     subst (λ (s : OwnerState). Agrees s bounds spares (gone ++ r ∷ []) rest (suc c) l) (sym k.now)
     (record {

@@ -1,6 +1,8 @@
 -- The tokens of a list that was just opened.
-use Rattle.std.proofs.Common.{◌≡◌, ℕ, zero, suc, List, [], ◌∷◌, ◌++◌, All, map, reverse, refl, sym, ap, ◌∙◌, append_assoc}
-use Rattle.std.proofs.lemmas.List.{reverse-append}
+use Rattle.std.proofs.Common.{◌≡◌, ℕ, zero, suc, List, [], ◌∷◌, ◌++◌, ◌<◌, length, get_or, All, map, reverse, refl, sym, ap, subst, ◌∙◌, append_assoc, arith}
+use Rattle.std.proofs.Math.Seq.{get_or-append_seam}
+use Rattle.std.proofs.lemmas.Bool.{eqb-false}
+use Rattle.std.proofs.lemmas.List.{reverse-append, length-append, get_or_append_left}
 use Rattle.std.proofs.lemmas.List.Elements.{All-nil, All-push}
 use Rattle.atomic_table.specs.Seated.{TableId}
 use Rattle.plcr_nodes.specs.Tokens.{PassState}
@@ -9,7 +11,8 @@ use Rattle.plcr_imagelist.specs.inner.Keeping.{writer_state}
 use Rattle.plcr_imagelist.specs.States.{IsAtRest}
 use Rattle.plcr_imagelist.specs.Holds.{WalkerState}
 use Rattle.plcr_imagelist.specs.inner.Holding.{walker_state, IsReady}
-use Rattle.plcr_imagelist.specs.Opening.{opened_walker, opened_walkers}
+use Rattle.plcr_imagelist.specs.Opening.{opened_walker, opened_walkers, PassesAreNumbered}
+use Rattle.plcr_machine.proofs.Cases.{at_or_else}
 
 -- the passes have room for their walks
 pub opened_ready : (z : TableId) (nodes passes : ℕ) → IsSized nodes passes → (count : ℕ) → All (IsReady nodes) (opened_passes z nodes passes count)
@@ -36,3 +39,23 @@ pub taken_more : (opened : List WalkerState) (rest front : List PassState) (x : 
     → (opened ++ walker_state x ∷ []) ++ map walker_state (reverse front) ≡ whole
 taken_more opened rest front x whole e all =
     append_assoc opened (walker_state x ∷ []) (map walker_state (reverse front)) ∙ ap (λ (ys : List PassState). opened ++ map walker_state ys) (sym (ap reverse e ∙ reverse-append front (x ∷ []))) ∙ all
+
+-- each pass stands at the place of its number
+walkers_many : (z : TableId) (nodes passes count : ℕ) → length (opened_walkers z nodes passes count) ≡ count
+walkers_many z nodes passes zero = refl
+walkers_many z nodes passes (suc count) =
+    let more = length-append (opened_walkers z nodes passes count) (opened_walker z nodes passes count ∷ []) in let before = walkers_many z nodes passes count in omega arith
+
+walker_at : (z : TableId) (nodes passes count number : ℕ) (d : WalkerState) → number < count → get_or (opened_walkers z nodes passes count) number d ≡ opened_walker z nodes passes number
+walker_at z nodes passes zero number d below = absurd (omega arith)
+walker_at z nodes passes (suc count) number d below =
+    let xs : List WalkerState = opened_walkers z nodes passes count in
+    let last : WalkerState = opened_walker z nodes passes count in
+    let many : length xs ≡ count = walkers_many z nodes passes count in
+    at_or_else number count
+    (λ same. subst (λ n. get_or (xs ++ last ∷ []) n d ≡ opened_walker z nodes passes n) (sym same) (subst (λ n. get_or (xs ++ last ∷ []) n d ≡ last) many (get_or-append_seam xs last [] d)))
+    (λ other. let earlier : number < count = omega (arith, eqb-false number count other) in
+    get_or_append_left xs (last ∷ []) d number (omega arith) ∙ walker_at z nodes passes count number d earlier)
+
+pub walkers_numbered : PassesAreNumbered
+walkers_numbered = λ z nodes passes count. (walkers_many z nodes passes count, λ number d below. walker_at z nodes passes count number d below)

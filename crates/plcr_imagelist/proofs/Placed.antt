@@ -1,6 +1,7 @@
 -- Where an image stands in the list: the place before it, and the list without it.
 use Rattle.std.proofs.Common.{◌≡◌, ◌≢◌, ◌⊎◌, inl, inr, ℕ, zero, suc, ◌+◌, ◌-◌, ◌<◌, ◌≤◌, List, [], ◌∷◌, ◌++◌, length, take, drop, get_or, true, false, ◌||◌, eqb, refl, sym, ap, ◌∙◌, subst, arith, Some, None, ne_eqb, add-one, drop-cons}
 use Rattle.std.proofs.lemmas.Bool.{or_left, or_right}
+use Rattle.std.proofs.lemmas.List.{length-append, get_or_append_left, get_or-append-add}
 use Rattle.plcr_machine.specs.declared.image.Image.{Image}
 use Rattle.plcr_machine.specs.declared.entry.Entry.{Entry}
 use Rattle.plcr_machine.specs.Lists.{has, without, live, loads, changes}
@@ -116,3 +117,25 @@ first_cut header (y ∷ ys) x a e =
     (λ t. let later : first_with header ys ≡ Some x = rw t at e in
     let other : eqb y.node x.node ≡ false = ne_eqb y.node x.node (λ s. not_both (has y.node ys) (subst (λ n. has n ys ≡ true) (sym s) (has_first header ys x later)) a.0) in
     rw (t, other) (ap (λ (zs : List Image). y ∷ zs) (first_cut header ys x a.1 later)))
+
+-- the first image with a header of two lists is that of the first list, or else that of the second
+first_left : (header : ℕ) (xs ys : List Image) (x : Image) → first_with header xs ≡ Some x → first_with header (xs ++ ys) ≡ Some x
+first_left header [] ys x e = cc
+first_left header (z ∷ xs) ys x e = by_cases (eqb z.header header) (λ t. rw t (rw t at e)) (λ t. rw t (first_left header xs ys x (rw t at e)))
+
+pub first_right : (header : ℕ) (xs ys : List Image) → first_with header xs ≡ None → first_with header (xs ++ ys) ≡ first_with header ys
+first_right header [] ys e = refl
+first_right header (z ∷ xs) ys e = by_cases (eqb z.header header) (λ t. let found : Some z ≡ None = rw t at e in cc) (λ t. rw t (first_right header xs ys (rw t at e)))
+
+abbrev pub IsFirst : ℕ → List Image → ℕ → Image → Type 0
+IsFirst header xs at x = (at < length xs) × (x ≡ get_or xs at x) × (first_with header xs ≡ Some x) × (x.header ≡ header)
+
+pub found_left : (header at : ℕ) (xs ys zs : List Image) (x : Image) → xs ++ ys ≡ zs → IsFirst header xs at x → IsFirst header zs at x
+found_left header at xs ys zs x e f =
+    let more = length-append xs ys in
+    subst (λ (l : List Image). IsFirst header l at x) e (omega (arith, f.0, more), f.1 ∙ sym (get_or_append_left xs ys x at f.0), first_left header xs ys x f.2, f.3)
+
+pub found_right : (header at : ℕ) (xs ys zs : List Image) (x : Image) → xs ++ ys ≡ zs → first_with header xs ≡ None → IsFirst header ys at x → IsFirst header zs (length xs + at) x
+found_right header at xs ys zs x e none f =
+    let more = length-append xs ys in
+    subst (λ (l : List Image). IsFirst header l (length xs + at) x) e (omega (arith, f.0, more), f.1 ∙ sym (get_or-append-add xs ys at x), first_right header xs ys none ∙ f.2, f.3)

@@ -1,25 +1,23 @@
 -- A pass that only sees: what it knew stays so, and what its walk met has the names that it had.
-use Rattle.std.proofs.Common.{◌≡◌, ℕ, ◌≤◌, List, [], ◌∷◌, ◌++◌, map, Bool, length, true, false, Contains, cond, leb, refl, sym, ap, ◌∙◌, subst, arith}
+use Rattle.std.proofs.Common.{◌≡◌, ℕ, ◌≤◌, List, [], ◌∷◌, Bool, length, Contains, leb, refl, sym, ap, ◌∙◌, subst, arith}
 use Rattle.plcr_machine.proofs.Rising.{contains_here, contains_later}
 use Rattle.plcr_machine.specs.declared.image.Image.{Image}
 use Rattle.plcr_machine.specs.declared.entry.Entry.{Entry}
 use Rattle.plcr_machine.specs.declared.entry.Entry.TheVariants.{Announce, Enter, Leave, Retire}
-use Rattle.plcr_machine.specs.declared.change.Named.{Named}
-use Rattle.plcr_machine.specs.Lists.{Grows, load_number, live, changes, loads, list_after, name_of}
+use Rattle.plcr_machine.specs.Lists.{Grows, changes, loads, list_after, name_of}
 use Rattle.plcr_machine.specs.Passes.{counts}
 use Rattle.plcr_machine.specs.Histories.{IsLegal, IsHistory}
 use Rattle.plcr_machine.specs.Parts.{own_entries}
 use Rattle.plcr_machine.specs.Holds.{before_enter}
-use Rattle.plcr_machine.specs.Changes.{named, all_named}
+use Rattle.plcr_machine.specs.Changes.{all_named}
 use Rattle.plcr_machine.proofs.Cases.{by_cases}
 use Rattle.plcr_machine.proofs.Growing.{changes-grows, counts-grows, loads-grows}
 use Rattle.plcr_machine.proofs.Loaded.{listed_below}
 use Rattle.plcr_machine.proofs.Staying.{whole_stays, lawful_stays, met_were_listed}
-use Rattle.plcr_nodes.specs.Entries.{WentOn}
 use Rattle.plcr_nodes.specs.Names.{AreNames}
 use Rattle.plcr_nodes.proofs.NamesKept.{name-older}
 use Rattle.plcr_nodes.proofs.Seeing.{own_of, grows_again}
-use Rattle.plcr_imagelist.specs.Holds.{WalkerState, HoldState, WalkerSeesMore, HasEnded, start_of, IsWalking, IsHeld, IsReleased, IsNext}
+use Rattle.plcr_imagelist.specs.Holds.{WalkerState, HoldState, WalkerSeesMore, start_of, IsWalking, IsHeld, IsReleased, IsNext}
 use Rattle.plcr_imagelist.specs.Walk.{IsSameWalk}
 use Rattle.plcr_imagelist.specs.Carrying.{OnlySees, IsVisit}
 use Rattle.plcr_imagelist.proofs.Looking.{went_again}

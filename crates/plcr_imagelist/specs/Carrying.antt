@@ -9,7 +9,7 @@ use Rattle.plcr_machine.specs.Parts.{own_entries}
 use Rattle.plcr_machine.specs.Holds.{before_enter}
 use Rattle.plcr_machine.specs.Changes.{all_named}
 use Rattle.plcr_nodes.specs.Entries.{WentOn}
-use Rattle.plcr_imagelist.specs.Holds.{WalkerState, HoldState, WalkerSeesMore, HasEnded, start_of, IsWalking, IsHeld, IsReleased}
+use Rattle.plcr_imagelist.specs.Holds.{WalkerState, HoldState, WalkerSeesMore, HasEnded, IsWalking, IsHeld, IsReleased}
 use Rattle.plcr_imagelist.specs.Walk.{IsSameWalk}
 
 -- The pass saw more and made no entry: it stands as it did, in or out since the same enter. What was known of the history stays so

@@ -1,5 +1,5 @@
 -- What the tokens of a list that was just opened know.
-use Rattle.std.specs.Prelude.{◌≡◌, ℕ, zero, suc, List, [], ◌∷◌, ◌++◌}
+use Rattle.std.specs.Prelude.{◌≡◌, ℕ, zero, suc, ◌<◌, List, [], ◌∷◌, ◌++◌, length, slice_index_or}
 use Rattle.atomic_table.specs.Seated.{TableId}
 use Rattle.plcr_imagelist.specs.States.{WriterState}
 use Rattle.plcr_imagelist.specs.Holds.{WalkerState}
@@ -19,3 +19,8 @@ opened_walkers table nodes passes (suc count) = opened_walkers table nodes passe
 pub record IsOpenedList (nodes passes : ℕ) (table : TableId) (writer : WriterState) (all : List WalkerState) : Type 0 where
   pub writing : writer ≡ opened_writer table nodes passes
   pub numbered : all ≡ opened_walkers table nodes passes passes
+
+-- so there is one pass for each number, at its place
+abbrev pub PassesAreNumbered : Type 0
+PassesAreNumbered = (table : TableId) (nodes passes count : ℕ) → (length (opened_walkers table nodes passes count) ≡ count)
+    × ((number : ℕ) (default : WalkerState) → number < count → slice_index_or (opened_walkers table nodes passes count) number default ≡ opened_walker table nodes passes number)

@@ -5,6 +5,7 @@ ghost use Rattle.plcr_machine.specs.Passes.{counts, is_announced, owes_count};
 ghost use Rattle.plcr_machine.specs.Nodes.{is_free};
 ghost use Rattle.plcr_machine.specs.Links.{last_place};
 ghost use Rattle.plcr_machine.specs.declared.limits.TheConstants.{MOST_CHANGES};
+ghost use Rattle.plcr_nodes.specs.declared.words.TheConstants.{PAYLOAD_WORDS};
 ghost use Rattle.plcr_nodes.specs.Names.{IsFilled, IsEnded, header_in, store};
 ghost use Rattle.plcr_nodes.specs.Opening.{IsSized, opened_owner};
 ghost use Rattle.plcr_nodes.specs.Owning.{IsLinked, IsUnlinked, IsCounted};
@@ -22,6 +23,7 @@ use crate::refusals::LoadRefused;
 use plcr_machine::{COUNT_UNIT, Image};
 use plcr_nodes::{NodeNote, NodePass, Nodes, Owner};
 use std::alloc::{AllocError, Global};
+use std::collections::VecDeque;
 use std::marker::Model;
 
 #[derive(Drop)]
@@ -33,21 +35,22 @@ pub(crate) struct Books {
     removed: Vec<Removed>,
     /// For each pass, the bound of what it has let go of.
     bounds: Vec<u64>,
-    /// The list.
-    images: Vec<Image>,
+    /// The list. A gap is closed from its shorter side.
+    images: VecDeque<Image>,
     changes: u32,
     loads: u32,
 }
 
 impl Model for Books {
     ghost use Rattle.std.specs.Prelude.{◌≤◌, vec_capacity};
+    ghost use Rattle.std.specs.VecDeque.{deque_capacity};
     ghost use Rattle.plcr_imagelist.specs.inner.Keeping.{BooksState, Agrees, last_of};
 
     ghost Value = { BooksState };
 
     ghost view = { λ b. record { owner = b.owner; spare = last_of b.free.items } };
 
-    ghost invariant = { λ b. Agrees b.owner b.bounds.items b.free.items b.removed.items b.images.items b.changes b.loads × ((b.owner.nodes ≤ vec_capacity b.free) × (b.owner.nodes ≤ vec_capacity b.removed) × (b.owner.nodes ≤ vec_capacity b.images)) };
+    ghost invariant = { λ b. Agrees b.owner b.bounds.items b.free.items b.removed.items b.images.items b.changes b.loads × ((b.owner.nodes ≤ vec_capacity b.free) × (b.owner.nodes ≤ vec_capacity b.removed) × (b.owner.nodes ≤ deque_capacity b.images)) };
 }
 
 impl Books {
@@ -64,7 +67,7 @@ impl Books {
         let free = all_nodes(alloc, nodes)?;
         let removed = Vec::with_capacity(alloc, nodes as usize)?;
         let bounds = Vec::from_elem(alloc, 0, passes as usize)?;
-        let images = Vec::with_capacity(alloc, nodes as usize)?;
+        let images = VecDeque::with_capacity(alloc, nodes as usize)?;
         Ok(Books {
             owner,
             free,
@@ -89,7 +92,7 @@ impl Books {
     pub(crate) fn fill(&mut self, nodes: &Nodes, word: u32, value: u64)
         requires table { self.old.owner.table ≡ nodes.now }
         requires some { self.old.spare ≢ 0 }
-        requires word { word < 130 }
+        requires word { word < PAYLOAD_WORDS }
         ensures { self.new ≡ record self.old { owner = record self.old.owner { filled = store self.old.spare (word + 1) value ∷ self.old.owner.filled } } }
     {
         let node = self.spare();
@@ -129,7 +132,7 @@ impl Books {
         self.changes += 1;
         self.loads += 1;
         let load = self.loads;
-        self.images.push_reserved(Image { node, load, header });
+        self.images.push_back_reserved(Image { node, load, header });
     }
 
     // The place before one of the list's images, or before its end.
@@ -290,8 +293,23 @@ pub(crate) fn last_of(numbers: &[u32]) -> u32
 }
 
 /// The first image with a header, with its place.
+fn find_header(images: &VecDeque<Image>, header: u64) -> Option<(usize, Image)>
+    ensures some { IfSome result (λ r. (r.0 < length images.now.items) × (r.1 ≡ slice_index_or images.now.items r.0 r.1) × (first_with header images.now.items ≡ Some r.1) × (r.1.header ≡ header)) }
+    ensures none { IfNone result (first_with header images.now.items ≡ None) }
+{
+    let (front, back) = images.as_slices();
+    if let Some(found) = find_in(front, header) {
+        return Some(found);
+    }
+    match find_in(back, header) {
+        Some((at, image)) => Some((front.len() + at, image)),
+        None => None,
+    }
+}
+
+// The first of a slice with a header.
 #[tactic(auto, using(crate::proofs::Placed::first_skip, crate::proofs::Placed::first_here, crate::proofs::Placed::first_none))]
-fn find_header(images: &[Image], header: u64) -> Option<(usize, Image)>
+fn find_in(images: &[Image], header: u64) -> Option<(usize, Image)>
     ensures some { IfSome result (λ r. (r.0 < length images.now) × (r.1 ≡ slice_index_or images.now r.0 r.1) × (first_with header images.now ≡ Some r.1) × (r.1.header ≡ header)) }
     ensures none { IfNone result (first_with header images.now ≡ None) }
 {

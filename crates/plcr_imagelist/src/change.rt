@@ -160,7 +160,7 @@ impl Change {
     }
 
     /// Makes one step. The last gives the writer back.
-    pub fn step(self, list: &ImageList) -> Progress
+    pub fn step(mut self, list: &ImageList) -> Progress
         requires table { self.writer.table ≡ list.now }
         ensures step { IsStepped self result }
         ensures list { table_of result ≡ self.writer.table }
@@ -171,7 +171,8 @@ impl Change {
         if self.made == change_step(&self.task, &self.name) {
             Progress::Done(self.count(list))
         } else {
-            Progress::More(self.advance(list))
+            self.advance(list);
+            Progress::More(self)
         }
     }
 
@@ -183,12 +184,11 @@ impl Change {
         ensures list { result.table ≡ self.writer.table }
     {
         let mut change = self;
-        loop {
-            match change.step(list) {
-                Progress::More(next) => change = next,
-                Progress::Done(writer) => return writer,
-            }
+        let last = change_step(&change.task, &change.name);
+        for made in 0..last {
+            change.advance(list);
         }
+        change.count(list)
     }
 
     // The last step, which counts the change.
@@ -212,13 +212,13 @@ impl Change {
     }
 
     // Any step before that.
-    fn advance(mut self, list: &ImageList) -> Change
-        requires table { self.writer.table ≡ list.now }
-        requires early { self.made < change_step self.doing }
-        ensures step { Advances self result }
-        ensures list { result.writer.table ≡ self.writer.table }
-        ensures paced { IsPaced result.writer.history }
-        ensures lists { HasLists result.writer }
+    fn advance(&mut self, list: &ImageList)
+        requires table { self.old.writer.table ≡ list.now }
+        requires early { self.old.made < change_step self.old.doing }
+        ensures step { Advances self.old self.new }
+        ensures list { self.new.writer.table ≡ self.old.writer.table }
+        ensures paced { IsPaced self.new.writer.history }
+        ensures lists { HasLists self.new.writer }
     {
         make_step(
             &mut self.books,
@@ -229,6 +229,5 @@ impl Change {
             self.made,
         );
         self.made += 1;
-        self
     }
 }

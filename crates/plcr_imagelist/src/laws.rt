@@ -2,6 +2,7 @@
 
 ghost use Rattle.plcr_imagelist.specs.Carrying.{SeeingGoesOn, ReadingOnlySees, MetStayNamed, VisitsAreMade};
 ghost use Rattle.plcr_imagelist.specs.Listing.{RestHasLists};
+ghost use Rattle.plcr_imagelist.specs.Opening.{PassesAreNumbered};
 
 /// What a pass or a hold sees by several calls, it sees; and so it does as images are read.
 pub fn seeing_goes_on()
@@ -18,4 +19,9 @@ pub fn visits_are_made()
 /// The changes of a writer at rest, by headers and names, leave its lists.
 pub fn rest_has_lists()
     ensures { RestHasLists }
+{}
+
+/// Of the passes of a list that was just opened each stands at the place of its number.
+pub fn passes_are_numbered()
+    ensures { PassesAreNumbered }
 {}

@@ -1,15 +1,18 @@
-//! A writer changes the list on one thread while three passes walk it on others until it has ended. Each walk is checked
-//! against the journal of the changes: three loads, and then an unload of the oldest image and a load by turns. So after
-//! each number of changes the list has images with numbers one after the other. An image's header is its number, and its
-//! name the bytes of it. There are few nodes, so a load may find none free while passes are inside: it is tried until
-//! there is one.
-ghost use Rattle.std.specs.Prelude.{◌≡◌, ◌<◌, ◌≤◌, length};
+//! A writer changes the list on one thread while three passes walk it on others until it has ended. Each walk is judged by
+//! the plain program that says which walks are lawful, along the lists that the changes leave: three images are loaded,
+//! and then the oldest is unloaded and another loaded by turns. There are few nodes, so a load may find none free while
+//! passes are inside: it is tried until there is one.
+ghost use Rattle.std.specs.Prelude.{◌≡◌, ◌<◌, length};
 ghost use Rattle.std.specs.Thread.{IsSync};
 ghost use Rattle.plcr_imagelist.specs.Walk.{images_of};
 
 use crate::tests::count;
 use crate::{Hold, ImageList, LoadRefused, Pass, Window, Writer};
+use plcr_machine::plain::{is_lawful_walk, lists_after};
+use plcr_machine::{Change, Named};
 use plcr_macho::Images;
+use std::alloc::{AllocError, Global};
+use std::collections::LinkedList;
 use std::test::Fail;
 use std::thread;
 use std::thread::Threads;
@@ -17,74 +20,79 @@ use std::thread::Threads;
 /// So few nodes that each is loaded many times over.
 const NODES: u32 = 64;
 
-/// How many changes are made.
-const TOTAL: u32 = 4003;
+/// How often an image is unloaded and another loaded.
+const TURNS: u32 = 2000;
 
 /// The tries after which a thread gives up, many hours of them.
 const MOST_TRIES: u32 = 1_000_000_000;
 
-// The number of the first image of the list after so many changes.
-fn first_after(changes: u32) -> u32
-    requires { changes < 10000 }
-    ensures { result ≤ 10000 }
-{
-    if changes < 3 {
-        1
-    } else {
-        1 + (changes - 2) / 2
-    }
+// An image that is known by its number: that of its load, which is its header too and, in bytes, its name.
+fn image(alloc: Global, number: u32) -> Result<Named, AllocError> {
+    let header = u64::from(number);
+    let name = name_of(alloc, header)?;
+    Ok(Named {
+        load: number,
+        header,
+        name,
+    })
 }
 
-// And that of the last, 0 where there is none.
-fn last_after(changes: u32) -> u32
-    requires { changes < 10000 }
-    ensures { result ≤ 10000 }
-{
-    if changes < 3 {
-        changes
-    } else {
-        3 + (changes - 3) / 2
+// The bytes of a word.
+fn name_of(alloc: Global, word: u64) -> Result<LinkedList<u8>, AllocError> {
+    let mut name = LinkedList::new(alloc);
+    for byte in word.to_le_bytes() {
+        name.push_back(byte)?;
     }
+    Ok(name)
+}
+
+// All changes that the writer makes.
+fn all_changes(alloc: Global) -> Result<Vec<Change>, AllocError> {
+    let mut changes = Vec::new(alloc);
+    for number in 1..4 {
+        changes.push(Change::Loads(image(alloc, number)?))?;
+    }
+    for turn in 0..TURNS {
+        changes.push(Change::Unloads(u64::from(turn + 1)))?;
+        changes.push(Change::Loads(image(alloc, turn + 4)?))?;
+    }
+    Ok(changes)
 }
 
 // Makes all changes, and says whether none was refused.
-fn change_all(list: &ImageList, writer: Writer) -> bool
+fn change_all(list: &ImageList, writer: Writer, changes: &[Change]) -> bool
     requires { writer.table ≡ list.now }
 {
     let mut writer = writer;
     let mut made = true;
-    for done in 0..TOTAL {
-        let (next, good) = change_once(list, writer, done);
+    for change in changes {
+        let (next, good) = change_once(list, writer, change);
         writer = next;
         made = made && good;
     }
     made
 }
 
-// Makes the change after so many.
-fn change_once(list: &ImageList, writer: Writer, done: u32) -> (Writer, bool)
-    requires list { writer.table ≡ list.now }
-    requires few { done < 9999 }
+fn change_once(list: &ImageList, writer: Writer, change: &Change) -> (Writer, bool)
+    requires { writer.table ≡ list.now }
     ensures { result.0.table ≡ list.now }
 {
-    if done < 3 || done % 2 == 0 {
-        let number = last_after(done + 1);
-        load_at_last(list, writer, number)
-    } else {
-        let number = first_after(done);
-        let (writer, unloaded) = writer.unload(list, number as u64);
-        (writer, unloaded == Ok(number))
+    match change {
+        Change::Loads(image) => load_at_last(list, writer, image.load, image.header),
+        Change::Unloads(header) => {
+            let (writer, unloaded) = writer.unload(list, *header);
+            (writer, unloaded.is_ok())
+        }
     }
 }
 
 // Loads the image with this number once a node is free.
-fn load_at_last(list: &ImageList, writer: Writer, number: u32) -> (Writer, bool)
+fn load_at_last(list: &ImageList, writer: Writer, number: u32, header: u64) -> (Writer, bool)
     requires { writer.table ≡ list.now }
     ensures { result.0.table ≡ list.now }
 {
     let mut writer = writer;
     for _ in 0..MOST_TRIES {
-        let header = number as u64;
         let (next, loaded) = writer.load(list, header, &header.to_le_bytes());
         writer = next;
         match loaded {
@@ -96,76 +104,53 @@ fn load_at_last(list: &ImageList, writer: Writer, number: u32) -> (Writer, bool)
     (writer, false)
 }
 
-// The header of an image that was met, where its name says the same, and else 0.
-fn number_of(hold: &mut Hold, list: &ImageList, at: usize) -> u64
+// The header, the length of the name and its first word, of an image that was met and has a name.
+fn read_at(hold: &mut Hold, list: &ImageList, at: usize) -> (u64, usize, u64)
     requires list { hold.old.walker.table ≡ list.now }
     requires met { at < length (images_of hold.old) }
     ensures list { hold.new.walker.table ≡ list.now }
     ensures met { length (images_of hold.new) ≡ length (images_of hold.old) }
 {
     let mut images = hold.images(list);
-    let number = images.header(at);
-    if images.name_len(at) == 8 && images.name_word(at, 0) == number {
-        number
-    } else {
-        0
-    }
+    let header = images.header(at);
+    let len = images.name_len(at);
+    let word = if len == 0 { 0 } else { images.name_word(at, 0) };
+    (header, len, word)
 }
 
-/// What a walk met: how many images, the first four, the last, and whether their numbers rise.
-#[derive(Drop)]
-struct Met {
-    count: usize,
-    first: [u64; 4],
-    last: u64,
-    rises: bool,
-}
-
-// Reads what a walk met.
-fn read(hold: &mut Hold, list: &ImageList) -> Met
+// The images that a walk met, each with its header as its number. One whose name hasn't 8 bytes gets the number 0.
+fn read(alloc: Global, hold: &mut Hold, list: &ImageList) -> Result<Vec<Named>, AllocError>
     requires { hold.old.walker.table ≡ list.now }
     ensures { hold.new.walker.table ≡ list.now }
 {
     let count = count(hold, list);
-    let mut first = [0; 4];
-    let mut last = 0;
-    let mut rises = true;
+    let mut met = Vec::new(alloc);
     for at in 0..count {
-        let number = number_of(hold, list, at);
-        rises = rises && last < number;
-        last = number;
-        if at < 4 {
-            first[at] = number;
-        }
+        let (header, len, word) = read_at(hold, list, at);
+        let load = match u32::try_from(header) {
+            Ok(number) if len == 8 => number,
+            _ => 0,
+        };
+        let name = name_of(alloc, word)?;
+        met.push(Named { load, header, name })?;
     }
-    Met {
-        count,
-        first,
-        last,
-        rises,
-    }
+    Ok(met)
 }
 
-// Whether the walk is lawful between the lists of its window: each image was in one of them, and each that was in all of
-// them was met.
-fn is_lawful(met: &Met, window: Window) -> bool {
-    if window.low > TOTAL || window.high > TOTAL || !met.rises {
-        return false;
-    }
-    let least = first_after(window.low) as u64;
-    let most = last_after(window.high + 1) as u64;
-    if met.count > 0 && (met.first[0] < least || met.last > most) {
-        return false;
-    }
-    let mut complete = true;
-    for number in first_after(window.high + 1)..last_after(window.low) + 1 {
-        complete = complete && met.first.contains(&(number as u64));
-    }
-    complete
+// Whether a walk is lawful between the lists of its window. Before a count its change may have been made already.
+fn is_lawful(lists: &[Vec<Named>], met: &[Named], window: Window) -> bool {
+    let from = window.low as usize;
+    let after = window.high as usize + 1;
+    let to = if after < lists.len() {
+        after
+    } else {
+        after - 1
+    };
+    from <= to && to < lists.len() && is_lawful_walk(lists, from, to, met)
 }
 
-// Goes in, walks to the end and comes out.
-fn walk_once(list: &ImageList, pass: Pass) -> (Pass, u32, bool)
+// Goes in, walks to the end and comes out. Gives how many changes were counted by then, and whether the walk was lawful.
+fn walk_once(alloc: Global, list: &ImageList, lists: &[Vec<Named>], pass: Pass) -> (Pass, u32, bool)
     requires { pass.table ≡ list.now }
     ensures { result.0.table ≡ list.now }
 {
@@ -175,20 +160,24 @@ fn walk_once(list: &ImageList, pass: Pass) -> (Pass, u32, bool)
             break;
         }
     }
-    let met = read(&mut hold, list);
+    let met = read(alloc, &mut hold, list);
     let (pass, window) = hold.leave(list);
-    (pass, window.high, is_lawful(&met, window))
+    let lawful = match met {
+        Ok(met) => is_lawful(lists, &met, window),
+        Err(_) => false,
+    };
+    (pass, window.high, lawful)
 }
 
 // Walks until all changes were made, and says whether each walk was lawful.
-fn walk_all(list: &ImageList, pass: Pass) -> bool
+fn walk_all(alloc: Global, list: &ImageList, lists: &[Vec<Named>], pass: Pass) -> bool
     requires { pass.table ≡ list.now }
 {
     let mut pass = pass;
     for _ in 0..MOST_TRIES {
-        let (out, high, lawful) = walk_once(list, pass);
+        let (out, high, lawful) = walk_once(alloc, list, lists, pass);
         pass = out;
-        if !lawful || high == TOTAL {
+        if !lawful || high as usize + 1 == lists.len() {
             return lawful;
         }
     }
@@ -196,24 +185,34 @@ fn walk_all(list: &ImageList, pass: Pass) -> bool
 }
 
 // Two passes, each on a thread of its own.
-fn walk_both<R: Threads + Sync>(rt: &R, list: &ImageList, first: Pass, second: Pass) -> (bool, bool)
+fn walk_both<R: Threads + Sync>(
+    rt: &R,
+    alloc: Global,
+    list: &ImageList,
+    lists: &[Vec<Named>],
+    first: Pass,
+    second: Pass,
+) -> (bool, bool)
     requires { (first.table ≡ list.now) × (second.table ≡ list.now) }
 {
     thread::join(
         rt,
         move || -> bool
             requires { first.table ≡ list.now }
-        { walk_all(list, first) },
+        { walk_all(alloc, list, lists, first) },
         move || -> bool
             requires { second.table ≡ list.now }
-        { walk_all(list, second) },
+        { walk_all(alloc, list, lists, second) },
     )
 }
 
 // A pass and the writer, each on a thread of its own.
 fn walk_beside<R: Threads + Sync>(
     rt: &R,
+    alloc: Global,
     list: &ImageList,
+    lists: &[Vec<Named>],
+    changes: &[Change],
     writer: Writer,
     pass: Pass,
 ) -> (bool, bool)
@@ -223,40 +222,45 @@ fn walk_beside<R: Threads + Sync>(
         rt,
         move || -> bool
             requires { writer.table ≡ list.now }
-        { change_all(list, writer) },
+        { change_all(list, writer, changes) },
         move || -> bool
             requires { pass.table ≡ list.now }
-        { walk_all(list, pass) },
+        { walk_all(alloc, list, lists, pass) },
     )
 }
 
 // The writer and three passes. Says whether all changes were made and all walks were lawful.
 fn run<R: Threads + Sync>(
     rt: &R,
+    alloc: Global,
     list: &ImageList,
+    lists: &[Vec<Named>],
+    changes: &[Change],
     writer: Writer,
-    first: Pass,
-    second: Pass,
-    third: Pass,
+    passes: (Pass, Pass, Pass),
 ) -> bool
     requires writer { writer.table ≡ list.now }
-    requires passes { (first.table ≡ list.now) × (second.table ≡ list.now) × (third.table ≡ list.now) }
+    requires passes { (passes.0.table ≡ list.now) × (passes.1.table ≡ list.now) × (passes.2.table ≡ list.now) }
 {
+    let (first, second, third) = passes;
     let ((made, one), (two, three)) = thread::join(
         rt,
         move || -> (bool, bool)
             requires { IsSync R.row × (writer.table ≡ list.now) × (first.table ≡ list.now) }
-        { walk_beside(rt, list, writer, first) },
+        { walk_beside(rt, alloc, list, lists, changes, writer, first) },
         move || -> (bool, bool)
             requires { IsSync R.row × (second.table ≡ list.now) × (third.table ≡ list.now) }
-        { walk_both(rt, list, second, third) },
+        { walk_both(rt, alloc, list, lists, second, third) },
     );
     made && one && two && three
 }
 
 #[test]
 fn walks_are_lawful_while_the_list_changes(rt: HostRuntime) -> Result<(), Fail> {
-    let Ok((list, writer, mut passes)) = ImageList::open(rt.alloc(), NODES, 3) else {
+    let alloc = rt.alloc();
+    let changes = all_changes(alloc)?;
+    let lists = lists_after(alloc, &changes)?;
+    let Ok((list, writer, mut passes)) = ImageList::open(alloc, NODES, 3) else {
         panic!(rt; "no memory")
     };
     let Some(third) = passes.pop() else {
@@ -268,6 +272,7 @@ fn walks_are_lawful_while_the_list_changes(rt: HostRuntime) -> Result<(), Fail> 
     let Some(first) = passes.pop() else {
         panic!(rt; "no pass")
     };
-    assert!(rt; run(&rt, &list, writer, first, second, third));
+    let all = (first, second, third);
+    assert!(rt; run(&rt, alloc, &list, &lists, &changes, writer, all));
     Ok(())
 }

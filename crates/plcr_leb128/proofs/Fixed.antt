@@ -1,5 +1,5 @@
 -- Numbers of a fixed size and single bytes, in a piece of memory and in a list.
-use Rattle.std.proofs.Common.{◌≡◌, ◌≤◌, ◌<◌, ℕ, zero, suc, ◌+◌, ◌%◌, ◌^◌, inl, inr, List, [], ◌∷◌, Option, Some, None, option_map, true, false, length, take, drop, slice_index, refl, sym, ap, subst, ◌∙◌, arith}
+use Rattle.std.proofs.Common.{◌≡◌, ◌≤◌, ◌<◌, ℕ, zero, suc, ◌+◌, ◌%◌, ◌^◌, inl, inr, List, [], Option, Some, None, option_map, true, false, length, take, drop, slice_index, refl, sym, ap, ◌∙◌, arith}
 use Rattle.std.specs.Prelude.{is_some, nat_le}
 use Rattle.std.proofs.lemmas.Bool.{cases_lt}
 use Rattle.std.proofs.lemmas.Bool.Decides.{nat_tests}
@@ -7,6 +7,7 @@ use Rattle.std.proofs.Math.Seq.{drop-cons}
 use Rattle.byteorder.specs.Endian.{little_number}
 use Rattle.byteorder.specs.Numbers.{little_from-take}
 use Rattle.plcr_memory.specs.Regions.{Contents, byte_at, bytes_at, cons_known, number_at}
+use Rattle.plcr_memory.proofs.Fronts.{bytes_count, bytes_within}
 use Rattle.plcr_leb128.specs.Cells.{bytes_of, number_in, piece_bytes, list_bytes}
 
 -- bytes within a piece are those of the memory
@@ -83,41 +84,6 @@ list_has xs n place h = ap is_some (list_run xs n place h)
 
 pub list_lacks : (xs : List ℕ) (n place : ℕ) → length xs < place + n → is_some (list_bytes xs place n) ≡ false
 list_lacks xs n place h = ap is_some (list_past xs n place h)
-
-cons_some : (o : Option ℕ) (r : Option (List ℕ)) (xs : List ℕ) → cons_known o r ≡ Some xs → (b : ℕ) × (bs : List ℕ) × (o ≡ Some b) × (r ≡ Some bs) × (xs ≡ b ∷ bs)
-cons_some None r xs h = cc
-cons_some (Some b) None xs h = cc
-cons_some (Some b) (Some bs) xs h = (b, bs, refl, refl, cc)
-
--- as many bytes as are asked for
-bytes_count : (m : Contents) (at size : ℕ) (xs : List ℕ) → bytes_at m at size ≡ Some xs → length xs ≡ size
-bytes_count m at zero xs h =
-    let none : [] ≡ xs = cc in
-    sym (ap length none)
-bytes_count m at (suc size) xs h =
-    let c = cons_some (byte_at m at) (bytes_at m (at + 1) size) xs h in
-    ap length c.4 ∙ ap (λ (n : ℕ). suc n) (bytes_count m (at + 1) size c.1 c.3)
-
--- the first of them, and those behind
-bytes_front : (m : Contents) (at n size : ℕ) (xs : List ℕ) → n ≤ size → bytes_at m at size ≡ Some xs → bytes_at m at n ≡ Some (take n xs)
-bytes_front m at zero size xs le h = refl
-bytes_front m at (suc n) zero xs le h = absurd (omega arith)
-bytes_front m at (suc n) (suc size) xs le h =
-    let c = cons_some (byte_at m at) (bytes_at m (at + 1) size) xs h in
-    let rest : bytes_at m (at + 1) n ≡ Some (take n c.1) = bytes_front m (at + 1) n size c.1 (omega (arith, le)) c.3 in
-    ap (λ (o : Option ℕ). cons_known o (bytes_at m (at + 1) n)) c.2 ∙ ap (λ (r : Option (List ℕ)). cons_known (Some c.0) r) rest
-    ∙ ap (λ (ys : List ℕ). let r : Option (List ℕ) = Some (take (suc n) ys) in r) (sym c.4)
-
-bytes_within : (m : Contents) (at n place size : ℕ) (xs : List ℕ) → place + n ≤ size → bytes_at m at size ≡ Some xs → bytes_at m (at + place) n ≡ Some (take n (drop place xs))
-bytes_within m at n zero size xs le h =
-    let here : at ≡ at + 0 = omega arith in
-    subst (λ (a : ℕ). bytes_at m a n ≡ Some (take n xs)) here (bytes_front m at n size xs (omega (arith, le)) h)
-bytes_within m at n (suc place) zero xs le h = absurd (omega (arith, le))
-bytes_within m at n (suc place) (suc size) xs le h =
-    let c = cons_some (byte_at m at) (bytes_at m (at + 1) size) xs h in
-    let rest : bytes_at m ((at + 1) + place) n ≡ Some (take n (drop place c.1)) = bytes_within m (at + 1) n place size c.1 (omega (arith, le)) c.3 in
-    let same : at + suc place ≡ (at + 1) + place = omega arith in
-    ap (λ (a : ℕ). bytes_at m a n) same ∙ rest ∙ ap (λ (ys : List ℕ). let r : Option (List ℕ) = Some (take n (drop (suc place) ys)) in r) (sym c.4)
 
 -- bytes that end within the addresses of 64 bits stand where they are counted from an address, modulo 2^64
 bytes_modulo : (m : Contents) (at place n size : ℕ) → place + n ≤ size → at + size ≤ 2 ^ 64 → bytes_at m ((at + place) % 2 ^ 64) n ≡ bytes_at m (at + place) n

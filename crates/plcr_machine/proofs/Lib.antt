@@ -16,6 +16,7 @@ pub mod Follows
 pub mod ListsMade
 pub mod Counted
 pub mod Makers
+pub mod Between
 pub mod Staying
 pub mod Renaming
 pub mod EventsMade

@@ -73,7 +73,7 @@ nothing_else nodes passes past h l g owner own =
     g.1 ∙ nothing_added g.0 past (ap length (sym g.1) ∙ same)
 
 -- an entry is one of a pass's own or it is not
-own_cases : (p : ℕ) (e : Entry) (past : List Entry) → (own_entries p (e ∷ past) ≡ own_entries p past) ⊎ (own_entries p (e ∷ past) ≡ e ∷ own_entries p past)
+pub own_cases : (p : ℕ) (e : Entry) (past : List Entry) → (own_entries p (e ∷ past) ≡ own_entries p past) ⊎ (own_entries p (e ∷ past) ≡ e ∷ own_entries p past)
 own_cases p (Announce q seen) past = by_cases (eqb q p) (λ d. inr (rw d refl)) (λ d. inl (rw d refl))
 own_cases p (Enter q) past = by_cases (eqb q p) (λ d. inr (rw d refl)) (λ d. inl (rw d refl))
 own_cases p (Leave q) past = by_cases (eqb q p) (λ d. inr (rw d refl)) (λ d. inl (rw d refl))

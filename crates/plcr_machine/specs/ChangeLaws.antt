@@ -53,6 +53,12 @@ abbrev pub NothingElse : Type 0
 NothingElse = (nodes passes : ℕ) (past history : List Entry) → IsLegal nodes passes history → Grows past history → owner_entries history ≡ owner_entries past
     → ((pass : ℕ) → pass < passes → own_entries pass history ≡ own_entries pass past) → history ≡ past
 
+-- where a pass, or the writer, has at the end of a history no more entries than at an earlier moment, it had no more at any moment between
+abbrev pub PartsBetween : Type 0
+PartsBetween = (early between late : List Entry) → Grows early between → Grows between late
+    → ((pass : ℕ) → own_entries pass late ≡ own_entries pass early → own_entries pass between ≡ own_entries pass early)
+    × (owner_entries late ≡ owner_entries early → owner_entries between ≡ owner_entries early)
+
 -- a look at a pass that was out finds no stamp, as long as the pass made no more entries
 abbrev pub MetFindsNobody : Type 0
 MetFindsNobody = (nodes passes pass stamp : ℕ) (met past : List Entry) → IsFalse (is_announced pass met) → own_entries pass past ≡ own_entries pass met
@@ -85,6 +91,11 @@ ChangesStay = (nodes passes : ℕ) (past history : List Entry) (names : List (Li
 abbrev pub MetWereListed : Type 0
 MetWereListed = (nodes passes : ℕ) (history : List Entry) (a b : ℕ) (met : List Image) → IsLegal nodes passes history → Meets load_number (list_after history) 0 a b met
     → RisesAbove load_number 0 met × ((image : Image) → Contains met image → (j : ℕ) × (a ≤ j) × (j ≤ b) × Contains (list_after history j) image)
+
+-- what a walk has met it has met in longer histories too, and up to any later number of changes
+abbrev pub MeetingsStay : Type 0
+MeetingsStay = (past history : List Entry) (a b c : ℕ) (met : List Image) → Grows past history → b ≤ changes past → b ≤ c
+    → Meets load_number (list_after past) 0 a b met → Meets load_number (list_after history) 0 a c met
 
 -- and so it was by headers and names
 abbrev pub MetWereNamed : Type 0

@@ -3,7 +3,7 @@
 
 ghost use Rattle.plcr_machine.specs.Lists.{load_number};
 ghost use Rattle.plcr_machine.specs.Changes.{load_of};
-ghost use Rattle.plcr_machine.specs.ChangeLaws.{ChangesLeaveTheLists, ChangesStay, UnloadsAreLoads, WriterTakesFirst, NodesAreCounted, NoneIsFree, EachEntryHasOneMaker, NothingElse, MetFindsNobody, BeforeEnterStays, BeforeEnterIsEntered, NumbersGrow, EndedWalksStay, LawfulWhenWider, MetWereListed, MetWereNamed, FollowWithoutNodes, EndedWalkOfChangesIsLawful};
+ghost use Rattle.plcr_machine.specs.ChangeLaws.{ChangesLeaveTheLists, ChangesStay, UnloadsAreLoads, WriterTakesFirst, NodesAreCounted, NoneIsFree, EachEntryHasOneMaker, NothingElse, PartsBetween, MetFindsNobody, BeforeEnterStays, BeforeEnterIsEntered, NumbersGrow, EndedWalksStay, LawfulWhenWider, MetWereListed, MetWereNamed, MeetingsStay, FollowWithoutNodes, EndedWalkOfChangesIsLawful};
 
 /// The changes of a history, by headers and names, leave its lists, and stay as it goes on.
 pub fn changes_leave_the_lists()
@@ -23,6 +23,7 @@ pub fn nodes_are_counted()
 pub fn each_entry_has_one_maker()
     ensures makers { EachEntryHasOneMaker }
     ensures nothing { NothingElse }
+    ensures between { PartsBetween }
 {}
 
 /// A look at a pass that was met finds no stamp.
@@ -52,6 +53,7 @@ pub fn ended_walks_stay()
 pub fn met_were_listed()
     ensures listed { MetWereListed }
     ensures named { MetWereNamed }
+    ensures stay { MeetingsStay }
 {}
 
 /// What follows, and which walks are lawful, is the same without the nodes.

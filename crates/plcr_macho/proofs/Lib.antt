@@ -15,3 +15,4 @@ pub mod Agreeing
 pub mod Indexing
 pub mod Reached
 pub mod Searched
+pub mod Windowed

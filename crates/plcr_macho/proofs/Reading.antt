@@ -1,40 +1,11 @@
 -- Bytes of a list and of a memory.
-use Rattle.std.proofs.Common.{◌≡◌, ◌≤◌, ◌<◌, ℕ, zero, suc, ◌+◌, ◌-◌, List, [], ◌∷◌, take, drop, Option, Some, None, is_some, refl, sym, ap, subst, ◌∙◌, arith}
+use Rattle.std.proofs.Common.{◌≡◌, ◌≤◌, ◌<◌, ℕ, ◌+◌, ◌-◌, List, [], ◌∷◌, take, drop, Option, Some, None, is_some, refl, sym, ap, subst, ◌∙◌, arith}
 use Rattle.std.specs.Prelude.{IsSome, unwrap_or}
 use Rattle.plcr_memory.specs.Regions.{Contents, byte_at, bytes_at, cons_known}
+use Rattle.plcr_memory.proofs.Fronts.{bytes_front, bytes_back}
 use Rattle.plcr_loader.specs.Commands.{IsPlain}
 use Rattle.plcr_macho.specs.Sources.{plus, memory_bytes}
 use Rattle.plcr_macho.specs.inner.Keeping.{bytes_there}
-
--- what stands behind a byte before others
-pub cons_known_some : (o : Option ℕ) (r : Option (List ℕ)) (xs : List ℕ) → cons_known o r ≡ Some xs → (b : ℕ) × (bs : List ℕ) × (o ≡ Some b) × (r ≡ Some bs) × (xs ≡ b ∷ bs)
-cons_known_some (Some b) (Some bs) xs h = (b, bs, refl, refl, cc)
-cons_known_some (Some b) None xs h = cc
-cons_known_some None r xs h = cc
-
--- fewer bytes from the same address on
-pub bytes_front : (m : Contents) (a k n : ℕ) (xs : List ℕ) → k ≤ n → bytes_at m a n ≡ Some xs → bytes_at m a k ≡ Some (take k xs)
-bytes_front m a zero n xs le h = refl
-bytes_front m a (suc k) zero xs le h = absurd (omega arith)
-bytes_front m a (suc k) (suc n) xs le h =
-    let p = cons_known_some (byte_at m a) (bytes_at m (a + 1) n) xs h in
-    let rest : bytes_at m (a + 1) k ≡ Some (take k p.1) = bytes_front m (a + 1) k n p.1 (omega (arith, le)) p.3 in
-    ap (λ (o : Option ℕ). cons_known o (bytes_at m (a + 1) k)) p.2 ∙ ap (λ (r : Option (List ℕ)). cons_known (Some p.0) r) rest
-    ∙ ap (λ (ys : List ℕ). let r : Option (List ℕ) = Some (take (suc k) ys) in r) (sym p.4)
-
--- bytes from a later address on
-pub bytes_back : (m : Contents) (a k n : ℕ) (xs : List ℕ) → bytes_at m a (k + n) ≡ Some xs → bytes_at m (a + k) n ≡ Some (drop k xs)
-bytes_back m a zero n xs h =
-    let none : 0 + n ≡ n = omega arith in
-    let here : a ≡ a + 0 = omega arith in
-    subst (λ (x : ℕ). bytes_at m x n ≡ Some xs) here (subst (λ (k : ℕ). bytes_at m a k ≡ Some xs) none h)
-bytes_back m a (suc k) n xs h =
-    let more : suc k + n ≡ suc (k + n) = omega arith in
-    let all : bytes_at m a (suc (k + n)) ≡ Some xs = subst (λ (k : ℕ). bytes_at m a k ≡ Some xs) more h in
-    let p = cons_known_some (byte_at m a) (bytes_at m (a + 1) (k + n)) xs all in
-    let rest : bytes_at m ((a + 1) + k) n ≡ Some (drop k p.1) = bytes_back m (a + 1) k n p.1 p.3 in
-    let same : a + suc k ≡ (a + 1) + k = omega arith in
-    ap (λ (x : ℕ). bytes_at m x n) same ∙ rest ∙ ap (λ (ys : List ℕ). let r : Option (List ℕ) = Some (drop (suc k) ys) in r) (sym p.4)
 
 -- fewer bytes from the same place of a memory
 pub memory_is_plain : (m : Contents) (start : ℕ) → IsPlain (memory_bytes m start)

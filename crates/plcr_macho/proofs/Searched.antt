@@ -1,14 +1,11 @@
 -- Which spots can't have an address, so that a search may pass them over.
-use Rattle.std.proofs.Common.{◌≡◌, ◌≤◌, ◌<◌, ℕ, suc, ◌+◌, ◌-◌, ◌^◌, Bool, true, false, ◌&&◌, ltb, leb, if◌then◌else◌, List, [], ◌∷◌, ◌++◌, length, get_or, take, drop, Some, None, refl, sym, ap, ◌∙◌, subst, arith}
+use Rattle.std.proofs.Common.{◌≡◌, ◌≤◌, ◌<◌, ℕ, suc, ◌+◌, ◌-◌, ◌^◌, Bool, false, ◌&&◌, ltb, leb, if◌then◌else◌, List, [], ◌∷◌, ◌++◌, length, get_or, take, drop, Some, None, refl, sym, ap, ◌∙◌, subst, arith}
 use Rattle.std.proofs.lemmas.Bool.{le-ltb, lt-leb}
 use Rattle.std.proofs.lemmas.List.{take-append-drop, get_or-take, get_or-drop, length-take, length-drop}
+use Rattle.plcr_base.proofs.Plain.{and_false}
 use Rattle.plcr_macho.specs.declared.spot.Spot.{Spot}
 use Rattle.plcr_macho.specs.Index.{has_address, lesser, least_over}
 use Rattle.plcr_macho.specs.Spots.{end_of, extent_of, extents_of}
-
-and-false : (b : Bool) → (b && false) ≡ false
-and-false true = refl
-and-false false = refl
 
 -- none of the spots has the address
 abbrev pub NoneHas : ℕ → List Spot → Type 0
@@ -20,7 +17,7 @@ starts_past address s past = ap (λ (b : Bool). b && ltb (address - s.start) s.s
 
 pub ends_before : (address : ℕ) (s : Spot) → end_of s < address → address < 2 ^ 64 → has_address address (extent_of s) ≡ false
 ends_before address s before most =
-    ap (λ (b : Bool). leb s.start address && b) (le-ltb (address - s.start) s.size (omega (arith, before, most))) ∙ and-false (leb s.start address)
+    ap (λ (b : Bool). leb s.start address && b) (le-ltb (address - s.start) s.size (omega (arith, before, most))) ∙ and_false (leb s.start address)
 
 -- spots that haven't the address change no answer
 pub passed_over : (address : ℕ) (front rest : List Spot) → NoneHas address front → least_over (extents_of (front ++ rest)) address ≡ least_over (extents_of rest) address

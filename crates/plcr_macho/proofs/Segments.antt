@@ -3,6 +3,7 @@ use Rattle.std.proofs.Common.{◌≡◌, ◌≤◌, ◌<◌, ℕ, ◌+◌, ◌*�
 use Rattle.std.specs.Prelude.{◌≢◌, ◌==◌, ◌&&◌, not, is_some}
 use Rattle.std.specs.Option.{option_map}
 use Rattle.std.proofs.lemmas.Bool.Decides.{nat_tests}
+use Rattle.plcr_base.proofs.Plain.{not_equal}
 use Rattle.plcr_base.specs.Chains.{◌>>=◌, passed, result_map}
 use Rattle.plcr_loader.specs.declared.constants.TheConstants.{LC_SEGMENT_64, LC_SYMTAB, LC_UUID, SEG_LINKEDIT, SEG_TEXT}
 use Rattle.plcr_loader.specs.declared.load_command.TheConstants as load_command
@@ -143,9 +144,6 @@ gain_fails source end index at before c t frame kept =
     sym (fails before c (image_trouble index c) t kept)
     ∙ ap (λ (r : Result Command Trouble). result_map (gain_with before) (r >>= λ (c : Command). passed c (image_trouble index c))) frame
 
-not_eq : (a b : ℕ) → a ≢ b → (a == b) ≡ false
-not_eq a b h = grind (arith, nat_tests)
-
 other_two : (index : ℕ) (c : Command) → (c.cmd == LC_SEGMENT_64) ≡ false → (c.cmd == LC_SYMTAB) ≡ false → (c.cmd == LC_UUID) ≡ false → nat_lt c.cmdsize load_command.LENGTH ≡ false → kept_in index c ≡ Ok nothing
 unfolding kept_of
 other_two index c p q r s = rw (p, q, r, s) refl
@@ -154,4 +152,4 @@ other_two index c p q r s = rw (p, q, r, s) refl
 pub other_kept_is : (index : ℕ) (c : Command) (k : Kept) → k ≡ nothing → c.cmd ≢ LC_SEGMENT_64 → c.cmd ≢ LC_SYMTAB → c.cmd ≢ LC_UUID → load_command.LENGTH ≤ c.cmdsize → Ok k ≡ kept_in index c
 other_kept_is index c k none p q r least =
     ap (λ (k : Kept). let x : Result Kept Trouble = Ok k in x) none
-    ∙ sym (other_two index c (not_eq c.cmd LC_SEGMENT_64 p) (not_eq c.cmd LC_SYMTAB q) (not_eq c.cmd LC_UUID r) (fits c.cmdsize load_command.LENGTH least))
+    ∙ sym (other_two index c (not_equal c.cmd LC_SEGMENT_64 p) (not_equal c.cmd LC_SYMTAB q) (not_equal c.cmd LC_UUID r) (fits c.cmdsize load_command.LENGTH least))

@@ -4,7 +4,7 @@ ghost use Rattle.plcr_macho.specs.inner.Keeping.{header_of};
 ghost use Rattle.plcr_macho.specs.Loading.{cpu_of, head_at};
 
 use crate::image::ImageFault;
-use crate::source::bytes_from;
+use crate::window::bytes_from;
 use plcr_loader::mach_header_64::{CPUSUBTYPE, CPUTYPE, LENGTH, MAGIC, NCMDS, SIZEOFCMDS};
 use plcr_loader::{CPU_TYPE_ARM64, CPU_TYPE_X86_64, MH_MAGIC_64};
 use plcr_memory::Memory;

@@ -23,6 +23,7 @@ mod spot;
 mod spots;
 mod standing;
 mod tables;
+mod window;
 
 pub use image::{Image, ImageFault, Part, Symtab};
 pub use images::Images;

@@ -10,6 +10,7 @@ use crate::header::{Header, header_at};
 use crate::image::{Image, ImageFault, Part, Symtab};
 use crate::kept::{Kept, Segment, Tables, Text};
 use crate::source::MemoryBytes;
+use crate::window::Window;
 use plcr_loader::{Trouble, mach_header_64};
 use plcr_memory::Memory;
 use plcr_regs::Arch;
@@ -103,14 +104,17 @@ fn image_of(address: u64, header: &Header, kept: &Kept) -> Result<Image, ImageFa
 
 /// The Mach-O image whose header stands at an address, or the first fault: of the header, of each load command in
 /// order, then that there is no `__TEXT`. It takes no memory, and at most about as many steps, each with a search among
-/// the regions by halves, as there are regions and bytes of the file that these map, whatever the header says.
+/// the regions by halves, as there are regions and bytes of the file that these map, whatever the header says. Where one
+/// region has the load commands in the file, two searches serve.
 pub fn parse(memory: &Memory, arch: Arch, header: u64) -> Result<Image, ImageFault>
     ensures { result ≡ image_at memory.now arch header }
 {
     let head = header_at(memory, arch, header)?;
+    let start = header.wrapping_add(mach_header_64::LENGTH as u64);
+    let window = Window::new(memory, start, u64::from(head.size));
     let source = MemoryBytes {
-        memory,
-        start: header.wrapping_add(mach_header_64::LENGTH as u64),
+        memory: &window,
+        start,
     };
     match kept_behind(&source, &head) {
         Ok(kept) => image_of(header, &head, &kept),

@@ -9,9 +9,9 @@ use crate::image::Part;
 use crate::kept::Parts;
 use crate::source::mapped_bytes;
 use crate::standing::Standing;
+use crate::window::Window;
 use plcr_loader::section_64::{ADDR, LENGTH, SECTNAME, SIZE};
 use plcr_loader::segment_command_64;
-use plcr_memory::Memory;
 
 /// Names of sections, with the zeros that follow them in their field.
 pub const UNWIND_INFO: [u8; 16] = *b"__unwind_info\0\0\0";
@@ -48,9 +48,9 @@ fn parts_of(section: &[u8; LENGTH]) -> Parts
     }
 }
 
-// How many sections from an address on begin with a zero, as far as the zeros go that one region has there. Such a
-// section has neither name.
-fn nameless(memory: &Memory, at: u64) -> u64
+// How many sections from an address on begin with a zero, as far as the zeros go that one region has there without
+// bytes of the file. Such a section has neither name.
+fn nameless(memory: &Window, at: u64) -> u64
     ensures { (k : ℕ) → k < result → byte_at memory.now (at + LENGTH * k) ≡ Some 0 }
 {
     let zeros = memory.zeros_from(at);
@@ -62,7 +62,7 @@ fn nameless(memory: &Memory, at: u64) -> u64
 }
 
 // What is kept of so many sections from an address on, which stand within `size` mapped bytes.
-fn parts_at(memory: &Memory, at: u64, size: u64, count: u32) -> Parts
+fn parts_at(memory: &Window, at: u64, size: u64, count: u32) -> Parts
     requires there { IsSome (bytes_at memory.now at size) }
     requires ends { at + size ≤ 2 ^ 64 }
     requires within { LENGTH * count ≤ size }

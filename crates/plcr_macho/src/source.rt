@@ -2,14 +2,14 @@ ghost use Rattle.std.specs.Prelude.{◌≡◌, IsSome, Some};
 ghost use Rattle.plcr_memory.specs.Regions.{bytes_at};
 ghost use Rattle.plcr_macho.specs.Sources.{memory_bytes, plus};
 
+use crate::window::Window;
 use plcr_loader::load_command::LENGTH;
 use plcr_loader::{LoadCommand, Source};
-use plcr_memory::Memory;
 
 /// The memory of a process as what load commands are read from. Places count from an address, modulo 2^64.
 #[derive(Clone, Copy)]
 pub struct MemoryBytes<'a> {
-    pub memory: &'a Memory,
+    pub memory: &'a Window<'a>,
     pub start: u64,
 }
 
@@ -22,24 +22,12 @@ impl MemoryBytes<'_> {
     }
 }
 
-/// The bytes from an address on, where all are mapped.
-pub fn bytes_from<const N: usize>(memory: &Memory, at: u64) -> Option<[u8; N]>
-    ensures { result ≡ bytes_at memory.now at N }
-{
-    let mut bytes = [0; N];
-    if memory.copy(at, &mut bytes) {
-        Some(bytes)
-    } else {
-        None
-    }
-}
-
 /// The bytes from an address on, all of which are mapped.
-pub fn mapped_bytes<const N: usize>(memory: &Memory, at: u64) -> [u8; N]
+pub fn mapped_bytes<const N: usize>(memory: &Window, at: u64) -> [u8; N]
     requires { IsSome (bytes_at memory.now at N) }
     ensures { bytes_at memory.now at N ≡ Some result }
 {
-    let Some(bytes) = bytes_from(memory, at) else {
+    let Some(bytes) = memory.bytes_from(at) else {
         unreachable!()
     };
     bytes
@@ -50,7 +38,7 @@ impl Source for MemoryBytes<'_> {
 
     #[tactic(auto, unfolding(crate::specs::Sources::memory_bytes))]
     fn load_command(&self, at: u64) -> Option<LoadCommand> {
-        let front = bytes_from::<LENGTH>(self.memory, self.address(at))?;
+        let front = self.memory.bytes_from::<LENGTH>(self.address(at))?;
         Some(LoadCommand::read(&front))
     }
 

@@ -5,14 +5,14 @@ ghost use Rattle.plcr_macho.specs.inner.Keeping.{Stands, command_of};
 ghost use Rattle.plcr_macho.specs.Sources.{memory_bytes};
 
 use crate::source::{MemoryBytes, mapped_bytes};
+use crate::window::Window;
 use plcr_loader::load_command::LENGTH;
 use plcr_loader::{Trouble, frame_at};
-use plcr_memory::Memory;
 
 /// A load command that stands in memory: which it is, its size in bytes, its place in the list, and its address.
 #[derive(Clone, Copy)]
 pub struct Standing<'a> {
-    pub memory: &'a Memory,
+    pub memory: &'a Window<'a>,
     pub cmd: u32,
     pub cmdsize: u32,
     pub place: u64,

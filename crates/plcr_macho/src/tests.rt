@@ -228,6 +228,28 @@ fn large(rt: HostRuntime) -> Result<(), Fail> {
     Ok(())
 }
 
+// An image is the same, wherever one region of memory ends and the next one begins in it, and where the file ends
+// within one and zeros follow.
+#[test]
+fn in_two_regions(rt: HostRuntime) -> Result<(), Fail> {
+    let len = large_image(rt.alloc(), 0x19)?.len();
+    let whole = large_image(rt.alloc(), 0x19)?;
+    let whole = memory_of(rt.alloc(), whole, &[bytes(A0, 0, len)])?;
+    let want = parse(&whole, Arch::X86_64, A0);
+    assert!(rt; want.is_ok());
+    for cut in 1..len {
+        let file = large_image(rt.alloc(), 0x19)?;
+        let parts = [bytes(A0, 0, cut), bytes(A0 + cut as u64, cut, len - cut)];
+        let memory = memory_of(rt.alloc(), file, &parts)?;
+        assert_eq!(rt; parse(&memory, Arch::X86_64, A0), want, "{cut}");
+    }
+    // The last command ends with six numbers, whose upper bytes are zero.
+    let file = large_image(rt.alloc(), 0x19)?;
+    let memory = memory_of(rt.alloc(), file, &[padded(A0, len as u64, 0, len - 7)])?;
+    assert_eq!(rt; parse(&memory, Arch::X86_64, A0), want);
+    Ok(())
+}
+
 // An image that lies below the address that it was linked at.
 #[test]
 fn moved_down(rt: HostRuntime) -> Result<(), Fail> {

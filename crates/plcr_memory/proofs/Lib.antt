@@ -5,3 +5,4 @@ pub mod Orders
 pub mod Searches
 pub mod Ranges
 pub mod Numbers
+pub mod Fronts

@@ -37,8 +37,3 @@ pub record IsWalk (old : WalkerState) (met : ℕ) (new : WalkerState) : Type 0 w
 abbrev pub AreWalks : WalkerState → ℕ → ℕ → WalkerState → Type 0
 AreWalks old zero met new = (met ≡ 0) × (new ≡ old)
 AreWalks old (suc walks) met new = (before : ℕ) × (between : WalkerState) × AreWalks old walks before between × ((last : ℕ) × IsWalk between last new × (met ≡ before + last))
-
--- each of the passes made so many walks, and came out so, with so many images met in all
-abbrev pub WalkEach : ℕ → List WalkerState → List (WalkerState × ℕ) → Type 0
-WalkEach walks passes ends = (i : ℕ) (pass : WalkerState) (end : WalkerState × ℕ) → i < length passes
-    → AreWalks (slice_index_or passes i pass) walks (slice_index_or ends i end).1 (slice_index_or ends i end).0

@@ -1,5 +1,5 @@
-//! A race of the image list: `changes NODES ROUNDS` loads and unloads alone, `walks READERS ROUNDS` walks on threads while
-//! a writer loads and unloads. `bench/imagelist.py` runs it.
+//! A race of the image list: `changes NODES ROUNDS` loads and unloads alone, `walks NODES READERS ROUNDS` walks on threads
+//! while a writer loads and unloads. `bench/imagelist.py` runs it.
 #![tactic(auto)]
 
 mod changes;
@@ -20,9 +20,13 @@ fn main(rt: HostRuntime) -> io::Result<ExitCode> {
     }
     match words::read(words.as_slice()) {
         Some(Task::Changes { nodes, rounds }) => changes::race(&rt, nodes, rounds)?,
-        Some(Task::Walks { readers, rounds }) => walks::race(&rt, readers, rounds)?,
+        Some(Task::Walks {
+            nodes,
+            readers,
+            rounds,
+        }) => walks::race(&rt, nodes, readers, rounds)?,
         None => {
-            println!(rt; "changes NODES ROUNDS\nwalks READERS ROUNDS")?;
+            println!(rt; "changes NODES ROUNDS\nwalks NODES READERS ROUNDS")?;
             let good = words.is_empty();
             return Ok(if good {
                 ExitCode::SUCCESS

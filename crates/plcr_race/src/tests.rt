@@ -5,8 +5,10 @@ ghost use Rattle.plcr_imagelist.specs.Walk.{images_of, IsSameWalk};
 
 use crate::list::{fill, load, open, unload};
 use crate::walks::walk;
+use crate::words::{Task, read};
 use plcr_imagelist::{Hold, ImageList, Pass, Window};
 use plcr_macho::Images;
+use std::alloc::Global;
 use std::test::Fail;
 
 // The header of the first of any images, which are few and have short names, if there is one.
@@ -81,5 +83,33 @@ fn what_is_not_refused_counts(rt: HostRuntime) -> Result<(), Fail> {
     assert!(rt; !unloaded);
     let (_, met) = walk(&list, pass, 2);
     assert_eq!(rt; met, 6);
+    Ok(())
+}
+
+// The race that the words of a line name.
+fn named(alloc: Global, line: &str) -> Result<Option<Task>, Fail> {
+    let mut words = Vec::new(alloc);
+    for word in line.split(' ') {
+        words.push(String::from_str(alloc, word)?)?;
+    }
+    Ok(read(&words))
+}
+
+#[test]
+fn words_name_a_race(rt: HostRuntime) -> Result<(), Fail> {
+    let alloc = rt.alloc();
+    let changes = Task::Changes {
+        nodes: 4096,
+        rounds: 7,
+    };
+    let walks = Task::Walks {
+        nodes: 128,
+        readers: 2,
+        rounds: 9,
+    };
+    assert_eq!(rt; named(alloc, "changes 4096 7")?, Some(changes));
+    assert_eq!(rt; named(alloc, "walks 128 2 9")?, Some(walks));
+    assert_eq!(rt; named(alloc, "walks 2 9")?, None);
+    assert_eq!(rt; named(alloc, "changes 4096 x")?, None);
     Ok(())
 }

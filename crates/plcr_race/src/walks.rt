@@ -3,7 +3,8 @@ ghost use Rattle.std.specs.Prelude.{◌≡◌, ◌≤◌, ◌*◌, length, All, 
 ghost use Rattle.std.specs.Thread.{IsSync};
 ghost use Rattle.plcr_machine.specs.declared.limits.TheConstants.{MOST_NODES};
 ghost use Rattle.plcr_imagelist.specs.Holds.{WalkerState};
-ghost use Rattle.plcr_race.specs.Counting.{AreWalks, IsWalk, MakesChanges, WalkEach};
+ghost use Rattle.plcr_race.specs.Counting.{AreWalks, IsWalk, MakesChanges};
+ghost use Rattle.plcr_race.specs.inner.Walking.{WalkEach};
 
 use crate::list::{fill, load, open, unload};
 use plcr_imagelist::{ImageList, Pass, Writer};
@@ -14,9 +15,9 @@ use std::thread::Threads;
 use std::time::Instant;
 use std::{io, thread};
 
-const NODES: u32 = 128;
-
+/// So many images are in the list, where it has the nodes.
 const IMAGES: u32 = 100;
+
 /// The rounds after which the writer gives up, many hours of them.
 const MOST_ROUNDS: u64 = 1_000_000_000_000;
 
@@ -145,10 +146,11 @@ fn run<R: Threads + Sync>(
 /// meanwhile.
 pub fn race<R: Threads + Sync + Clock + Alloc<A = Global> + Print>(
     rt: &R,
+    nodes: u32,
     readers: u32,
     rounds: u32,
 ) -> io::Result<()> {
-    let (list, writer, passes) = open(rt.alloc(), NODES, readers)?;
+    let (list, writer, passes) = open(rt.alloc(), nodes, readers)?;
     let (writer, _) = fill(&list, writer, IMAGES);
     let start = Instant::now(rt)?;
     let ((_, made), ends) = run(rt, &list, writer, passes, rounds);

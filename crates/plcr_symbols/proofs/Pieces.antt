@@ -6,7 +6,7 @@ use Rattle.plcr_loader.specs.declared.nlist_64.TheConstants.{LENGTH}
 use Rattle.plcr_macho.specs.declared.image.Symtab.{Symtab}
 use Rattle.plcr_macho.specs.declared.image.Image.{Image}
 use Rattle.plcr_macho.specs.Sources.{plus}
-use Rattle.plcr_macho.proofs.Reading.{bytes_back, bytes_front}
+use Rattle.plcr_memory.proofs.Fronts.{bytes_back, bytes_front}
 use Rattle.plcr_symbols.specs.declared.symbol.SymbolAt.{SymbolAt}
 use Rattle.plcr_symbols.specs.Symbols.{greater, greatest, row_at, row_before, rows_from}
 use Rattle.plcr_symbols.specs.inner.Gaps.{Gains, Gathers, gap_symbol, gathered, kept_at, rows_in}

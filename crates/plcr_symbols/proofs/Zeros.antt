@@ -6,7 +6,7 @@ use Rattle.std.specs.Option.{option_and_then}
 use Rattle.std.proofs.lemmas.Bool.{false≢true}
 use Rattle.std.proofs.lemmas.Bool.Decides.{nat_tests}
 use Rattle.plcr_memory.specs.Regions.{Contents, byte_at, bytes_at, cons_known}
-use Rattle.plcr_macho.proofs.Reading.{cons_known_some}
+use Rattle.plcr_memory.proofs.Fronts.{cons_known_some}
 use Rattle.plcr_symbols.specs.Symbols.{zero_within}
 
 pub eq_is : (x y : ℕ) → x ≡ y → nat_eq x y ≡ true

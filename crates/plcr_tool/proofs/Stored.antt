@@ -6,7 +6,7 @@ use Rattle.plcr_base.specs.Bytes.{IsBytes}
 use Rattle.plcr_memory.specs.declared.region.Region.{Region}
 use Rattle.plcr_memory.specs.Regions.{Contents, covers, byte_in, byte_among, byte_at, bytes_at}
 use Rattle.plcr_loader.specs.Fields.{number}
-use Rattle.plcr_macho.proofs.Reading.{cons_known_some}
+use Rattle.plcr_memory.proofs.Fronts.{cons_known_some}
 
 -- so many bytes
 pub record IsPiece (n : ℕ) (xs : List ℕ) : Type 0 where

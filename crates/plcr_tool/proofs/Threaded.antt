@@ -22,7 +22,14 @@ use Rattle.plcr_regs.specs.declared.registers.Registers.{Registers}
 use Rattle.plcr_regs.specs.Frames.{code_address, cut, frame_pc, register_at}
 use Rattle.plcr_regs.specs.Names.{register_names, register_count}
 use Rattle.plcr_regs.specs.Places.{pc_place, fp_place, sp_place}
+use Rattle.plcr_loader.specs.declared.nlist_64.TheConstants.{N_VALUE}
+use Rattle.plcr_macho.specs.declared.image.Image.{Image}
+use Rattle.plcr_macho.specs.Containing.{first_over}
 use Rattle.plcr_macho.specs.Images.{Listed}
+use Rattle.plcr_symbols.specs.declared.symbol.SymbolAt.{SymbolAt}
+use Rattle.plcr_symbols.specs.Laws.{row_of}
+use Rattle.plcr_symbols.specs.Symbols.{rows_of, symbol_at}
+use Rattle.plcr_symbols.proofs.Lawful.{symbol_found, symbol_named}
 use Rattle.plcr_frameptr.specs.declared.saved.TheConstants.{SAVED_FRAME}
 use Rattle.plcr_frameptr.specs.Callers.{IsCaller}
 use Rattle.plcr_frameptr.specs.Saved.{caller_of, saved_frame}
@@ -33,9 +40,10 @@ use Rattle.plcr_cursor.specs.declared.limits.TheConstants.{MOST_FRAMES}
 use Rattle.plcr_cursor.specs.Frames.{Answer, caller_in, first_given, frames_from, frames_of, given_by, is_bad, is_listed, listed, next_of}
 use Rattle.plcr_cursor.proofs.Chained.{are_frames}
 use Rattle.plcr_encode.specs.declared.context.Context.{Context}
-use Rattle.plcr_encode.specs.Frames.{frame_of, pc_of, thread_frames}
+use Rattle.plcr_encode.specs.Frames.{frame_of, lookup_in, pc_of, symbol_of, thread_frames}
 use Rattle.plcr_encode.specs.Values.{value_at, register_at as register_named, registers_of, thread_of, threads_of}
-use Rattle.plcr_tool.specs.Laws.{IsHandedState, AreHandedStates, IsHandedFrame, IsHandedRegister, IsHandedThread, AreHandedThreads}
+use Rattle.plcr_encode.proofs.Named.{mapped_length}
+use Rattle.plcr_tool.specs.Laws.{IsHandedState, AreHandedStates, IsHandedSymbol, IsHandedFrame, IsHandedRegister, IsHandedThread, AreHandedThreads}
 use Rattle.plcr_tool.proofs.Stored.{piece_there, eight_small}
 
 -- what holds of each that a function gives
@@ -154,11 +162,31 @@ all_small : (memory : Contents) (images : List Listed) (state : Registers) (bits
 unfolding frames_of
 all_small memory images state bits bytes handed = frames_small memory images MOST_FRAMES (Some (first_given state bits)) bytes handed
 
+-- a symbol that is found
+symbol_handed : (memory : Contents) (image : Image) (address : ℕ) (found : Option SymbolAt) → symbol_at memory image address ≡ found → IfSome (option_map (symbol_of memory) found) IsHandedSymbol
+symbol_handed memory image address None is = tt
+symbol_handed memory image address (Some symbol) is =
+    let named = symbol_named memory image address symbol is in
+    let lies = symbol_found memory image address symbol is in
+    let count = mapped_length memory symbol.name_at symbol.name_len named.0 in
+    let row = row_of (rows_of memory lies.table) lies.index in
+    record {
+      name = omega (arith, count, named.1);
+      typed = record {
+        start_address = subst (λ (n : ℕ). n < 2 ^ 64) (sym lies.value) (mod_below (number N_VALUE row + image.slide) (2 ^ 64) (lit< tt));
+        end_address = tt;
+      };
+    }
+
+symbol_in_handed : (memory : Contents) (address : ℕ) (first : Option (ℕ × Image)) → IfSome (option_map (symbol_of memory) (option_and_then (λ (found : ℕ × Image). symbol_at memory found.1 address) first)) IsHandedSymbol
+symbol_in_handed memory address None = tt
+symbol_in_handed memory address (Some found) = symbol_handed memory found.1 address (symbol_at memory found.1 address) refl
+
 -- what is written of a frame
-frame_handed : (given : Given) → IsSmallFrame given → IsHandedFrame (frame_of given)
-frame_handed given small = record {
+frame_handed : (memory : Contents) (arch : Arch) (listed : List Listed) (given : Given) → IsSmallFrame given → IsHandedFrame (frame_of memory arch listed given)
+frame_handed memory arch listed given small = record {
   pc = known_small (frame_pc given.frame) (cut_small given.frame (register_at given.frame.registers (pc_place given.frame.registers.arch)) (value_small given.frame.registers.value _ small));
-  symbol = refl;
+  symbol = symbol_in_handed memory (lookup_in given) (first_over memory arch (lookup_in given) 0 listed);
 }
 
 -- a register of a state
@@ -173,12 +201,13 @@ thread_handed : (memory : Contents) (images : List Listed) (context : Context) (
 thread_handed memory images context number state bytes small handed =
     let frames = frames_of memory images state context.bits in
     let few : length frames ≤ MOST_FRAMES = (are_frames memory images state context.bits).few in
-    let same : length (map frame_of frames) ≡ length frames = length-map frames frame_of in
+    let frame = frame_of memory state.arch images in
+    let same : length (map frame frames) ≡ length frames = length-map frames frame in
     let count : length (registers_of state) ≡ register_count state.arch = length-map-range_with_len (register_named state) 0 (register_count state.arch) in
     let most : register_count state.arch ≤ 34 = count_small state.arch in
     record {
       thread_number = small;
-      frames = all_mapped_from IsSmallFrame IsHandedFrame frame_of frame_handed frames (all_small memory images state context.bits bytes handed);
+      frames = all_mapped_from IsSmallFrame IsHandedFrame frame (frame_handed memory state.arch images) frames (all_small memory images state context.bits bytes handed);
       few_frames = omega (arith, few, same);
       registers = all_mapped IsHandedRegister (register_named state) (register_handed state handed) (range_with_len 0 (register_count state.arch));
       few_registers = omega (arith, count, most);

@@ -5,12 +5,13 @@ use Rattle.std.specs.List.{AllByRecursion}
 use Rattle.std.specs.Int.{w64}
 use Rattle.std.proofs.lemmas.Int.{fits_signed_from_abs}
 use Rattle.std.proofs.Math.Nat.{suc-mul}
+use Rattle.plcr_base.proofs.Plain.{some_weaker}
 use Rattle.plcr_base.specs.declared.limits.TheConstants.{IMAGE_NAME_BYTES}
 use Rattle.plcr_wire.specs.Message.{Number, Bytes, Field, field_spelling, number_field, bytes_field, spelling}
 use Rattle.plcr_regs.specs.declared.arch.Arch.{Arch}
 use Rattle.plcr_regs.specs.declared.arch.Arch.TheVariants.{X86_64, Arm64}
 use Rattle.plcr_report.specs.Spelling.{file_head, spelling_of}
-use Rattle.plcr_report.specs.Messages.{maybe, each, frame_message, register_message, thread_message, system_message, application_message, processor_message, image_message, signal_message, process_message, info_message, report_message}
+use Rattle.plcr_report.specs.Messages.{maybe, each, symbol_message, frame_message, register_message, thread_message, system_message, application_message, processor_message, image_message, signal_message, process_message, info_message, report_message}
 use Rattle.plcr_report.specs.declared.messages.Report.{Report}
 use Rattle.plcr_report.specs.declared.messages.Thread.{Thread}
 use Rattle.plcr_report.specs.declared.messages.Frame.{Frame}
@@ -18,13 +19,14 @@ use Rattle.plcr_report.specs.declared.messages.Symbol.{Symbol}
 use Rattle.plcr_report.specs.declared.messages.Register.{Register}
 use Rattle.plcr_report.specs.declared.messages.Image.{Image}
 use Rattle.plcr_report.specs.declared.messages.Processor.{Processor}
+use Rattle.plcr_symbols.specs.declared.limits.TheConstants.{SYMBOL_NAME_BYTES}
 use Rattle.plcr_encode.specs.declared.context.Context.{Context}
 use Rattle.plcr_encode.specs.Values.{report_of, architecture_number, system_of, application_of, signal_of, process_of, info_of}
 use Rattle.plcr_encode.proofs.Lengths.{number_short, bytes_short}
 use Rattle.plcr_decode.specs.Fits.{TypedSymbol, TypedFrame, TypedRegister, TypedThread, TypedProcessor, TypedImage, TypedReport}
 use Rattle.plcr_decode.specs.Reads.{reads}
 use Rattle.plcr_decode.proofs.Bounds.{file_again}
-use Rattle.plcr_tool.specs.Laws.{IsHandedContext, IsHandedFrame, IsHandedRegister, IsHandedThread, AreHandedThreads, IsHandedImage, AreHandedImages}
+use Rattle.plcr_tool.specs.Laws.{IsHandedContext, IsHandedSymbol, IsHandedFrame, IsHandedRegister, IsHandedThread, AreHandedThreads, IsHandedImage, AreHandedImages}
 
 -- fields that are spelt in at most so many bytes
 pub record AtMost (n : ℕ) (fs : List Field) : Type 0 where
@@ -65,10 +67,6 @@ all_weaker : {A : Type 0} (P Q : A → Type 0) → ((x : A) → P x → Q x) →
 all_weaker P Q f [] p = tt
 all_weaker P Q f (x ∷ xs) p = (f x p.0, all_weaker P Q f xs p.1)
 
-some_weaker : {A : Type 0} (P Q : A → Type 0) → ((x : A) → P x → Q x) → (o : Option A) → IfSome o P → IfSome o Q
-some_weaker P Q f None p = tt
-some_weaker P Q f (Some x) p = f x p
-
 -- a register, whose name has at most 8 bytes
 register_typed : (register : Register) → IsHandedRegister register → TypedRegister register
 register_typed register handed = record { value = handed.value }
@@ -78,31 +76,41 @@ unfolding register_message
 register_len register handed =
     with_bytes 1 register.name 8 _ 20 (lit< tt) handed.name (lit< tt) (with_number 2 register.value [] 0 (lit< tt) handed.value no_field)
 
--- a frame with no symbol
-frame_with : (pc : ℕ) (symbol : Option Symbol) → symbol ≡ None → pc < 2 ^ 64 → AtMost 20 (frame_message (record { pc = pc; symbol = symbol }))
-unfolding frame_message
-frame_with pc None none fits = with_number 3 pc [] 0 (lit< tt) fits no_field
-frame_with pc (Some symbol) none fits = absurd (cc)
+-- a number that may not be there
+with_maybe_number : (field : ℕ) (o : Option ℕ) (fs : List Field) (n : ℕ) → field < 2 ^ 32 → IfSome o (λ value. value < 2 ^ 64) → AtMost n fs → AtMost (20 + n) (map (λ v. record { number = field; value = v }) (maybe (λ value. Number value ∷ []) o) ++ fs)
+with_maybe_number field None fs n small fits others = let rest = others.short in record { short = omega arith }
+with_maybe_number field (Some value) fs n small fits others = with_number field value fs n small fits others
 
-frame_len : (frame : Frame) → IsHandedFrame frame → AtMost 20 (frame_message frame)
-frame_len frame handed = frame_with frame.pc frame.symbol handed.symbol handed.pc
+-- a symbol
+symbol_len : (symbol : Symbol) → IsHandedSymbol symbol → AtMost 1084 (symbol_message symbol)
+unfolding symbol_message
+symbol_len symbol handed =
+    with_bytes 1 symbol.name SYMBOL_NAME_BYTES _ 40 (lit< tt) handed.name (lit< tt)
+    (with_number 2 symbol.start_address _ 20 (lit< tt) handed.typed.start_address (with_maybe_number 3 symbol.end_address [] 0 (lit< tt) handed.typed.end_address no_field))
+
+-- a frame
+frame_len : (frame : Frame) → IsHandedFrame frame → AtMost 1124 (frame_message frame)
+unfolding frame_message
+frame_len frame handed =
+    let symbol = some_weaker IsHandedSymbol (λ s. length (spelling (symbol_message s)) ≤ 1084) (λ s h. (symbol_len s h).short) frame.symbol handed.symbol in
+    with_number 3 frame.pc _ 1104 (lit< tt) handed.pc (with_maybe 6 (λ s. spelling (symbol_message s)) frame.symbol 1084 [] 0 (lit< tt) (lit< tt) symbol no_field)
 
 frame_typed : (frame : Frame) → IsHandedFrame frame → TypedFrame frame
-frame_typed frame handed = record { pc = handed.pc; symbol = subst (λ (o : Option Symbol). IfSome o TypedSymbol) (sym handed.symbol) tt }
+frame_typed frame handed = record { pc = handed.pc; symbol = some_weaker IsHandedSymbol TypedSymbol (λ s h. h.typed) frame.symbol handed.symbol }
 
 bool_small : (b : Bool) → (if b then 1 else 0) < 2 ^ 64
 bool_small true = lit< tt
 bool_small false = lit< tt
 
 -- a thread, whatever its number and whether it crashed
-thread_len : (thread : Thread) → IsHandedThread thread → AtMost 22832 (thread_message thread)
+thread_len : (thread : Thread) → IsHandedThread thread → AtMost 588080 (thread_message thread)
 unfolding thread_message
 thread_len thread handed =
     let each_register = all_weaker IsHandedRegister (λ r. AtMost 48 (register_message r)) register_len thread.registers handed.registers in
     let registers = with_rows 4 register_message thread.registers 48 [] 0 (lit< tt) (lit< tt) each_register no_field in
     let flag = with_number 3 (if thread.crashed then 1 else 0) _ (length thread.registers * (20 + 48) + 0) (lit< tt) (bool_small thread.crashed) registers in
-    let each_frame = all_weaker IsHandedFrame (λ f. AtMost 20 (frame_message f)) frame_len thread.frames handed.frames in
-    let frames = with_rows 2 frame_message thread.frames 20 _ _ (lit< tt) (lit< tt) each_frame flag in
+    let each_frame = all_weaker IsHandedFrame (λ f. AtMost 1124 (frame_message f)) frame_len thread.frames handed.frames in
+    let frames = with_rows 2 frame_message thread.frames 1124 _ _ (lit< tt) (lit< tt) each_frame flag in
     let all = (with_number 1 thread.thread_number _ _ (lit< tt) (let small = handed.thread_number in omega arith) frames).short in
     let few : length thread.registers ≤ 34 = handed.few_registers in
     let most : length thread.frames ≤ 512 = handed.few_frames in
@@ -191,13 +199,13 @@ tail_len context handed fs same =
 root_len : (context : Context) (threads : List Thread) (images : List Image) → IsHandedContext context → AreHandedThreads threads → AreHandedImages images → length (spelling (report_message (report_of context threads images))) < 2 ^ 63
 unfolding report_message report_of
 root_len context threads images about states walked =
-    let short = all_weaker IsHandedThread (λ t. AtMost 22832 (thread_message t)) thread_len threads states.each in
+    let short = all_weaker IsHandedThread (λ t. AtMost 588080 (thread_message t)) thread_len threads states.each in
     let each_image = all_weaker IsHandedImage (λ image. AtMost 1200 (image_message image)) image_len images walked.each in
     let tail = tail_len context about _ refl in
     let behind = with_rows 4 image_message images 1200 _ 12884902108 (lit< tt) (lit< tt) each_image tail in
-    let middle = with_rows 3 thread_message threads 22832 _ (length images * (20 + 1200) + 12884902108) (lit< tt) (lit< tt) short behind in
-    let second = with_bytes 2 (spelling (application_message (application_of context))) 8589934632 _ (length threads * (20 + 22832) + (length images * (20 + 1200) + 12884902108)) (lit< tt) (application_len context about).short (lit< tt) middle in
-    let all = with_bytes 1 (spelling (system_message (system_of context))) 4294967376 _ (20 + 8589934632 + (length threads * (20 + 22832) + (length images * (20 + 1200) + 12884902108))) (lit< tt) (system_len context about).short (lit< tt) second in
+    let middle = with_rows 3 thread_message threads 588080 _ (length images * (20 + 1200) + 12884902108) (lit< tt) (lit< tt) short behind in
+    let second = with_bytes 2 (spelling (application_message (application_of context))) 8589934632 _ (length threads * (20 + 588080) + (length images * (20 + 1200) + 12884902108)) (lit< tt) (application_len context about).short (lit< tt) middle in
+    let all = with_bytes 1 (spelling (system_message (system_of context))) 4294967376 _ (20 + 8589934632 + (length threads * (20 + 588080) + (length images * (20 + 1200) + 12884902108))) (lit< tt) (system_len context about).short (lit< tt) second in
     let short = all.short in
     let few = states.few in
     let less = walked.few in

@@ -1,5 +1,5 @@
 -- What is handed in for a report: each number has the width of its type, and names and uuids have lawful lengths.
-use Rattle.std.specs.Prelude.{◌≡◌, ◌^◌, ◌<◌, ◌≤◌, List, length, All, None, IfSome}
+use Rattle.std.specs.Prelude.{◌≡◌, ◌^◌, ◌<◌, ◌≤◌, List, length, All, IfSome}
 use Rattle.std.specs.List.{AllByRecursion}
 use Rattle.plcr_base.specs.Limits.{IsImageName}
 use Rattle.plcr_regs.specs.declared.registers.Registers.{Registers}
@@ -8,8 +8,10 @@ use Rattle.plcr_cursor.specs.declared.limits.TheConstants.{MOST_FRAMES}
 use Rattle.plcr_report.specs.declared.messages.Frame.{Frame}
 use Rattle.plcr_report.specs.declared.messages.Image.{Image}
 use Rattle.plcr_report.specs.declared.messages.Register.{Register}
+use Rattle.plcr_report.specs.declared.messages.Symbol.{Symbol}
 use Rattle.plcr_report.specs.declared.messages.Thread.{Thread}
-use Rattle.plcr_decode.specs.Fits.{TypedProcessor}
+use Rattle.plcr_symbols.specs.declared.limits.TheConstants.{SYMBOL_NAME_BYTES}
+use Rattle.plcr_decode.specs.Fits.{TypedProcessor, TypedSymbol}
 use Rattle.plcr_encode.specs.declared.context.Context.{Context}
 use Rattle.plcr_macho.specs.Images.{Listed}
 use Rattle.plcr_encode.specs.Conditions.{AreWhole, AreNamable, IsWritable}
@@ -30,10 +32,15 @@ pub record AreHandedStates (context : Context) (states : List Registers) : Type 
   pub whole : AreWhole context.arch states
   pub each : AllByRecursion IsHandedState states
 
--- a frame with no symbol
+-- a symbol: its name is within its limit
+pub record IsHandedSymbol (symbol : Symbol) : Type 0 where
+  pub name : length symbol.name ≤ SYMBOL_NAME_BYTES
+  pub typed : TypedSymbol symbol
+
+-- a frame, with such a symbol or none
 pub record IsHandedFrame (frame : Frame) : Type 0 where
   pub pc : frame.pc < 2 ^ 64
-  pub symbol : frame.symbol ≡ None
+  pub symbol : IfSome frame.symbol IsHandedSymbol
 
 -- a register whose name has at most 8 bytes
 pub record IsHandedRegister (register : Register) : Type 0 where

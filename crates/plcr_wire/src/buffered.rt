@@ -139,6 +139,7 @@ impl<'a, K: Sink, const ROOM: usize> Put for Pieces<'a, K, ROOM> {
 }
 
 impl<'a, K: Sink, const ROOM: usize> Ink for Pieces<'a, K, ROOM> {
+    #[inline(always)]
     fn raw(&mut self, bytes: &[u8]) {
         if self.failed {
             return;

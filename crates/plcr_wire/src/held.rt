@@ -39,6 +39,7 @@ pub(crate) fn put_held<K: Sink, const ROOM: usize>(
 }
 
 /// Holds these bytes too, one after the other.
+#[inline(always)]
 fn push_each<const ROOM: usize>(held: &mut ArrayVec<u8, ROOM>, bytes: &[u8])
     requires { array_vec_len held.old + length bytes.now ≤ ROOM }
     ensures { held.new.items ≡ held.old.items ++ bytes.now }
@@ -49,6 +50,7 @@ fn push_each<const ROOM: usize>(held: &mut ArrayVec<u8, ROOM>, bytes: &[u8])
 }
 
 /// Holds these bytes too.
+#[inline(always)]
 pub(crate) fn push_all<const ROOM: usize>(held: &mut ArrayVec<u8, ROOM>, bytes: &[u8])
     requires { array_vec_len held.old + length bytes.now ≤ ROOM }
     ensures { held.new.items ≡ held.old.items ++ bytes.now }

@@ -16,6 +16,7 @@ use crate::varint::VARINT_BYTES;
 use crate::wires::{Wire, tag_wire};
 
 // A varint whose first byte isn't its last, and what is left.
+#[inline(always)]
 #[tactic(auto, unfolding(crate::specs::Reading::number_at))]
 fn long_number_of(bytes: &[u8], end: usize) -> Result<(u64, &[u8]), WireFault>
     requires { length bytes.now ≤ end }
@@ -49,6 +50,7 @@ fn long_number_of(bytes: &[u8], end: usize) -> Result<(u64, &[u8]), WireFault>
 }
 
 // The first byte, and what is left.
+#[inline(always)]
 fn first_of(bytes: &[u8]) -> Option<(u64, &[u8])>
     ensures { MatchOption result (bytes.now ≡ []) (λ x. (bytes.now ≡ x.0 ∷ x.1.now) × (x.0 < 256)) }
 {
@@ -57,6 +59,7 @@ fn first_of(bytes: &[u8]) -> Option<(u64, &[u8])>
 }
 
 // A varint, and what is left. Most have one byte.
+#[inline(always)]
 #[tactic(auto, unfolding(crate::specs::Reading::number_at))]
 fn number_of(bytes: &[u8], end: usize) -> Result<(u64, &[u8]), WireFault>
     requires { length bytes.now ≤ end }
@@ -73,6 +76,7 @@ fn number_of(bytes: &[u8], end: usize) -> Result<(u64, &[u8]), WireFault>
 }
 
 // Eight bytes as a number, and what is left.
+#[inline(always)]
 #[tactic(auto, unfolding(crate::specs::Reading::fixed_at))]
 fn fixed64_of(bytes: &[u8], end: usize) -> Result<(u64, &[u8]), WireFault>
     ensures reads { Returns (λ x. (x.0, x.1.now)) result (fixed_at w64 end bytes.now) }
@@ -89,6 +93,7 @@ fn fixed64_of(bytes: &[u8], end: usize) -> Result<(u64, &[u8]), WireFault>
 }
 
 // Four bytes as a number, and what is left.
+#[inline(always)]
 #[tactic(auto, unfolding(crate::specs::Reading::fixed_at))]
 fn fixed32_of(bytes: &[u8], end: usize) -> Result<(u32, &[u8]), WireFault>
     ensures reads { Returns (λ x. (x.0, x.1.now)) result (fixed_at w32 end bytes.now) }
@@ -103,6 +108,7 @@ fn fixed32_of(bytes: &[u8], end: usize) -> Result<(u32, &[u8]), WireFault>
 }
 
 // A length and so many bytes, and what is left.
+#[inline(always)]
 #[tactic(auto, unfolding(crate::specs::Reading::text_at))]
 fn text_of(bytes: &[u8], end: usize) -> Result<(&[u8], &[u8]), WireFault>
     requires { length bytes.now ≤ end }
@@ -117,6 +123,7 @@ fn text_of(bytes: &[u8], end: usize) -> Result<(&[u8], &[u8]), WireFault>
 }
 
 // A value of this wire type, and what is left.
+#[inline(always)]
 #[tactic(auto, unfolding(crate::specs::Reading::value_at))]
 fn value_of(bytes: &[u8], end: usize, wire: Wire) -> Result<(ValueSlice<'_>, &[u8]), WireFault>
     requires { length bytes.now ≤ end }
@@ -145,6 +152,7 @@ fn value_of(bytes: &[u8], end: usize, wire: Wire) -> Result<(ValueSlice<'_>, &[u
 
 /// The field that these bytes, the last of a message that ends at `end`, begin with. Its faults have places
 /// in the message. Needs no memory.
+#[inline(always)]
 #[tactic(auto, unfolding(crate::specs::Reading::field_at))]
 pub fn field_of(bytes: &[u8], end: usize) -> Result<FieldSlice<'_>, WireFault>
     requires { length bytes.now ≤ end }

@@ -40,6 +40,7 @@ pub(crate) fn tag_number(field: u32, wire: u8) -> u64
 }
 
 // The wire type that a tag names, where it is the tag of a field that may be.
+#[inline(always)]
 pub(crate) fn tag_wire(tag: u64) -> Option<Wire>
     ensures { result ≡ spec.tag_wire tag }
 {

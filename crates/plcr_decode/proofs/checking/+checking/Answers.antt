@@ -1,5 +1,6 @@
 -- The first fault is that of a field or of the message in it; where there is none, what is known of all fields tells.
 use Rattle.std.proofs.Common.{◌≡◌, ◌<◌, [], rules, sym, ap, ◌∙◌, length, Some, None, arith}
+use Rattle.std.proofs.lemmas.List.{nil_from_length}
 use Rattle.std.proofs.lemmas.Result.{err_from_is_err_and}
 use Rattle.plcr_report.specs.declared.kinds.Holds.TheVariants as holds
 use Rattle.plcr_wire.specs.Reading.{field_slice, value_slice}
@@ -7,47 +8,47 @@ use Rattle.plcr_decode.specs.Fields.{fields_of}
 use Rattle.plcr_decode.specs.Scan as spec
 use Rattle.plcr_decode.proofs.Listed.{fields_none}
 use Rattle.plcr_decode.proofs.Scans.{scan_fault, scan_none}
-use Rattle.plcr_decode.proofs.Marked.{nothing, field_fault, field_more, held_is, known_small, marks_more, marks_tell}
+use Rattle.plcr_decode.proofs.Marked.{field_fault, field_more, held_is, known_small, marks_more, marks_tell}
 use Rattle.plcr_decode.proofs.checking.+checking.Goals as goal
 
-pub check-returns-in_err-step-clause-fault : goal.check-returns-in_err-step-clause-fault
-check-returns-in_err-step-clause-fault t c =
+pub pass_field-returns-in_err-step-clause-fault : goal.pass_field-returns-in_err-step-clause-fault
+pass_field-returns-in_err-step-clause-fault t c =
     let p = err_from_is_err_and c.from_residual.result c.from_residual.ensures.1 in
-    let some : 0 < length c.loop-rest.rest.now = omega arith in
-    rw (p.1, p.2) (sym c.loop-rest.invariant.same ∙ scan_fault c.args.kind c.args.end c.loop-rest.rest.now _ some c.in_err-step.ensures.reads)
+    rw (p.1, p.2) (scan_fault c.args.kind c.args.end c.args.bytes.now _ c.requires.some c.in_err-step.ensures.reads)
 
-pub check-returns-in_err-take-clause-fault : goal.check-returns-in_err-take-clause-fault
-check-returns-in_err-take-clause-fault t c =
+pub pass_field-returns-in_err-take-clause-fault : goal.pass_field-returns-in_err-take-clause-fault
+pass_field-returns-in_err-take-clause-fault t c =
     let p = err_from_is_err_and c.from_residual-in_err-take.result c.from_residual-in_err-take.ensures.1 in
-    let some : 0 < length c.loop-rest.rest.now = omega arith in
     let step = c.in_ok-step.step in
-    rw (p.1, p.2) (sym c.loop-rest.invariant.same ∙ field_fault c.args.kind c.args.end c.loop-rest.rest.now step.holds (value_slice step.piece.value) step.piece.rest.now _
-    some c.in_ok-step.ensures.reads (sym c.in_err-take.ensures.exact))
+    rw (p.1, p.2) (field_fault c.args.kind c.args.end c.args.bytes.now step.holds (value_slice step.piece.value) step.piece.rest.now _
+    c.requires.some c.in_ok-step.ensures.reads (sym c.in_err-take.ensures.exact))
+
+pub pass_field-returns-clause-more : goal.pass_field-returns-clause-more
+pass_field-returns-clause-more t c =
+    let step = c.in_ok-step.step in
+    field_more c.args.kind c.args.end c.args.bytes.now step.holds (value_slice step.piece.value) step.piece.rest.now
+    c.requires.some c.in_ok-step.ensures.reads (sym c.in_ok-take.ensures.exact)
 
 pub check-loop-rest-preserved : goal.check-loop-rest-preserved
 check-loop-rest-preserved t c =
-    let some : 0 < length c.loop-rest.rest.now = omega arith in
-    let step = c.in_ok-step.step in
+    let piece = c.in_ok-piece.piece in
+    let passed = c.in_ok-piece.ensures in
     record {
-      short =
-          let less = c.in_ok-step.ensures.shorter in
-          omega arith;
-      same =
-          sym (field_more c.args.kind c.args.end c.loop-rest.rest.now step.holds (value_slice step.piece.value) step.piece.rest.now
-          some c.in_ok-step.ensures.reads (sym c.in_ok-take.ensures.exact)) ∙ c.loop-rest.invariant.same;
+      short = let less = passed.shorter in omega arith;
+      same = sym passed.more ∙ c.loop-rest.invariant.same;
       marks =
-          marks_more c.args.kind (field_slice step.piece).0 c.loop-rest.marks c.take.new.marks (fields_of c.args.bytes.now) (fields_of step.piece.rest.now) (fields_of c.loop-rest.rest.now)
-          c.in_ok-step.ensures.field c.in_ok-take.ensures.marks c.loop-rest.invariant.marks;
+          marks_more c.args.kind (field_slice piece).0 c.loop-rest.marks c.pass_field.new.marks (fields_of c.args.bytes.now) (fields_of piece.rest.now) (fields_of c.loop-rest.rest.now)
+          passed.field passed.marks c.loop-rest.invariant.marks;
     }
 
 pub check-returns-clause-none : goal.check-returns-clause-none
 check-returns-clause-none t c =
-    let none : c.loop-rest.rest.now ≡ [] = nothing c.loop-rest.rest.now (omega arith) in
+    let none : c.loop-rest.rest.now ≡ [] = nil_from_length c.loop-rest.rest.now (omega arith) in
     sym c.loop-rest.invariant.same ∙ (ap (spec.scan c.args.kind c.args.end) none ∙ scan_none c.args.kind c.args.end)
 
 pub check-returns-clause-lack : goal.check-returns-clause-lack
 check-returns-clause-lack t c =
-    let none : c.loop-rest.rest.now ≡ [] = nothing c.loop-rest.rest.now (omega arith) in
+    let none : c.loop-rest.rest.now ≡ [] = nil_from_length c.loop-rest.rest.now (omega arith) in
     c.lack.ensures
     ∙ marks_tell c.args.kind c.loop-rest.marks (fields_of c.args.bytes.now) (fields_of c.loop-rest.rest.now) (ap fields_of none ∙ fields_none) c.loop-rest.invariant.marks
 

@@ -7,13 +7,16 @@ use Rattle.plcr_decode.specs.inner.Marks.{MarksUpTo}
 use Rattle.plcr_decode.proofs.checking.+checking.Given as goal
 
 abbrev pub decreases-check : goal.decreases-check
-decreases-check l = 3 * length l.bytes.now
+decreases-check l = 4 * length l.bytes.now + 1
+
+abbrev pub decreases-pass_field : goal.decreases-pass_field
+decreases-pass_field l = 4 * length l.bytes.now
 
 abbrev pub decreases-take : goal.decreases-take
-decreases-take l = 3 * value_slice_len l.step.piece.value + 2
+decreases-take l = 4 * value_slice_len l.step.piece.value + 3
 
 abbrev pub decreases-take_message : goal.decreases-take_message
-decreases-take_message l = 3 * length l.text.now + 1
+decreases-take_message l = 4 * length l.text.now + 2
 
 abbrev pub invariant-check-loop-rest : goal.invariant-check-loop-rest
 invariant-check-loop-rest l = record {

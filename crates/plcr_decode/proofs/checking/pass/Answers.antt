@@ -1,5 +1,6 @@
 -- A message that may stand in parts holds none: its faults are those of its fields.
 use Rattle.std.proofs.Common.{◌≡◌, ◌<◌, [], true, cond, sym, ap, ◌∙◌, length, arith}
+use Rattle.std.proofs.lemmas.List.{nil_from_length}
 use Rattle.std.proofs.lemmas.Result.{err_from_is_err_and}
 use Rattle.plcr_wire.specs.Reading.{field_slice, value_slice}
 use Rattle.plcr_decode.specs.Fields.{fields_of, has}
@@ -7,7 +8,7 @@ use Rattle.plcr_decode.specs.Scan as spec
 use Rattle.plcr_decode.specs.inner.Marks.{seen}
 use Rattle.plcr_decode.proofs.Listed.{fields_none}
 use Rattle.plcr_decode.proofs.Scans.{scan_fault, scan_none}
-use Rattle.plcr_decode.proofs.Marked.{nothing, leaf_more, sees_next, or_none}
+use Rattle.plcr_decode.proofs.Marked.{leaf_more, sees_next, or_none}
 use Rattle.plcr_decode.proofs.checking.pass.Goals as goal
 
 pub returns-in_err-step-clause-fault : goal.returns-in_err-step-clause-fault
@@ -28,17 +29,17 @@ loop-rest-preserved c =
           sym (leaf_more c.args.kind c.args.end c.loop-rest.rest.now step.holds step.piece.number (value_slice step.piece.value) step.piece.rest.now
           c.requires.joined some c.in_ok-step.ensures.known c.in_ok-step.ensures.reads) ∙ c.loop-rest.invariant.same;
       sees = λ m less.
-          sees_next c.loop-rest.fields c.and-fields.result (field_slice step.piece).0 m (fields_of step.piece.rest.now) (c.and-fields.ensures m less)
-          ∙ ap (λ gs. cond (seen c.loop-rest.fields m) true (has m gs)) (sym c.in_ok-step.ensures.field) ∙ c.loop-rest.invariant.sees m less;
+          sees_next c.loop-rest.seen c.note.new.self (field_slice step.piece).0 m (fields_of step.piece.rest.now) (c.note.ensures m less)
+          ∙ ap (λ gs. cond (seen c.loop-rest.seen m) true (has m gs)) (sym c.in_ok-step.ensures.field) ∙ c.loop-rest.invariant.sees m less;
     }
 
 pub returns-clause-none : goal.returns-clause-none
 returns-clause-none c =
-    let none : c.loop-rest.rest.now ≡ [] = nothing c.loop-rest.rest.now (omega arith) in
+    let none : c.loop-rest.rest.now ≡ [] = nil_from_length c.loop-rest.rest.now (omega arith) in
     sym c.loop-rest.invariant.same ∙ (ap (spec.scan c.args.kind c.args.end) none ∙ scan_none c.args.kind c.args.end)
 
 pub returns-clause-seen : goal.returns-clause-seen
 returns-clause-seen c = λ m less.
-    let none : c.loop-rest.rest.now ≡ [] = nothing c.loop-rest.rest.now (omega arith) in
-    sym (or_none (seen c.loop-rest.fields m))
-    ∙ ap (λ gs. cond (seen c.loop-rest.fields m) true (has m gs)) (sym (ap fields_of none ∙ fields_none)) ∙ c.loop-rest.invariant.sees m less
+    let none : c.loop-rest.rest.now ≡ [] = nil_from_length c.loop-rest.rest.now (omega arith) in
+    sym (or_none (seen c.loop-rest.seen m))
+    ∙ ap (λ gs. cond (seen c.loop-rest.seen m) true (has m gs)) (sym (ap fields_of none ∙ fields_none)) ∙ c.loop-rest.invariant.sees m less

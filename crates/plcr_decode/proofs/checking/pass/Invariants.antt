@@ -9,7 +9,7 @@ abbrev pub invariant-loop-rest : goal.invariant-loop-rest
 invariant-loop-rest l = record {
   short : length l.rest ≤ length l.fn.bytes;
   same : spec.scan l.kind l.end l.rest ≡ spec.scan l.kind l.end l.fn.bytes;
-  sees : (m : ℕ) → m < 10 → cond (seen l.fields m) true (has m (fields_of l.rest)) ≡ cond (seen l.fn.before m) true (has m (fields_of l.fn.bytes));
+  sees : (m : ℕ) → m < 10 → cond (seen l.seen m) true (has m (fields_of l.rest)) ≡ cond (seen l.fn.seen m) true (has m (fields_of l.fn.bytes));
 }
 
 abbrev pub decreases-loop-rest : goal.decreases-loop-rest

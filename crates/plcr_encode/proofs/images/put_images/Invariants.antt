@@ -1,6 +1,7 @@
 use Rattle.std.proofs.Common.{◌≡◌, ◌+◌, ◌*◌, ◌≤◌, length, map, drop}
 use Rattle.plcr_wire.specs.Message.{spelling}
 use Rattle.plcr_report.specs.Messages.{image_message}
+use Rattle.plcr_encode.specs.declared.limits.TheConstants.{FIELD_BYTES, IMAGE_BYTES}
 use Rattle.plcr_encode.specs.Images.{image_of, images_of}
 use Rattle.plcr_encode.specs.inner.Rows.{message_fields}
 use Rattle.plcr_encode.proofs.Rows.{WroteUpTo}
@@ -15,7 +16,7 @@ invariant-loop-i g l =
     record {
       wrote : WroteUpTo (g.W.Put.pen l.initial.ink) (g.W.Put.pen l.ink) all left;
       size : l.length + length left ≡ length all;
-      short : l.length ≤ 2068 * l.i;
+      short : l.length ≤ (FIELD_BYTES + IMAGE_BYTES) * l.i;
       same : g.I.Images.images l.images ≡ listed;
       follows : g.I.Images.follows l.fn.images l.images;
     }

@@ -2,6 +2,7 @@ use Rattle.std.proofs.Common.{◌≡◌, ◌+◌, ◌*◌, ◌≤◌, length, ma
 use Rattle.std.specs.List.{enumerate_from}
 use Rattle.plcr_wire.specs.Message.{spelling}
 use Rattle.plcr_report.specs.Messages.{thread_message}
+use Rattle.plcr_encode.specs.declared.limits.TheConstants.{FIELD_BYTES, THREAD_BYTES}
 use Rattle.plcr_encode.specs.inner.Rows.{message_fields}
 use Rattle.plcr_encode.specs.Values.{thread_of, threads_of}
 use Rattle.plcr_encode.proofs.Rows.{WroteUpTo}
@@ -16,7 +17,7 @@ invariant-loop-number g l =
     record {
       wrote : WroteUpTo (g.W.Put.pen l.initial.ink) (g.W.Put.pen l.ink) all left;
       size : l.length + length left ≡ length all;
-      short : l.length ≤ 32788 * l.number;
+      short : l.length ≤ (FIELD_BYTES + THREAD_BYTES) * l.number;
       same : g.I.Images.images l.images ≡ listed;
       still : g.I.Images.extents l.images ≡ g.I.Images.extents l.fn.images;
       follows : g.I.Images.follows l.fn.images l.images;

@@ -7,5 +7,5 @@ use Rattle.plcr_encode.proofs.threads.ThreadPartMessage.put.Goals as goal
 
 pub returns : goal.returns
 returns g c =
-    rw (spelling-thread (thread_with c.args.self.now.crashed c.args.self.now.number (map frame_in c.args.self.now.rows.now) c.args.self.now.state.now))
+    rw (spelling-thread (thread_with c.args.self.now.crashed c.args.self.now.number (map (frame_in c.args.self.now.memory.now) c.args.self.now.rows.now) c.args.self.now.state.now))
     (wrote_twice _ _ _ _ _ c.put_number.ensures (wrote_twice _ _ _ _ _ c.put_frames.ensures (wrote_twice _ _ _ _ _ c.put_flag.ensures c.put_registers.ensures)))

@@ -32,8 +32,8 @@ invariant_of-self c =
     let same : c.args.header ≡ header_in (last_of b.free.items) b.owner.filled = subst (λ (s : BooksState). c.args.header ≡ header_in s.spare s.owner.filled) (sym c.self.view_is) c.requires.header in
     let header : c.args.header ≡ header_in node b.owner.filled = same ∙ ap (λ n. header_in n b.owner.filled) last in
     let nodes = ap (λ (s : OwnerState). s.nodes) c.link.ensures.entry.now in
-    let room = c.self.invariant.1 in let popped_room = c.pop.ensures.capacity in let pushed_room = c.push_reserved.ensures.capacity in (
-      books_linked b.owner node c.link.new.self b.bounds.items b.free.items c.pop.new.self.items b.removed.items b.images.items c.push_reserved.new.self.items b.changes b.loads c.args.header
-          c.link.ensures.entry owes parts header c.push_reserved.ensures.items c.self.invariant.0,
+    let room = c.self.invariant.1 in let popped_room = c.pop.ensures.capacity in let pushed_room = c.push_back_reserved.ensures.capacity in (
+      books_linked b.owner node c.link.new.self b.bounds.items b.free.items c.pop.new.self.items b.removed.items b.images.items c.push_back_reserved.new.self.items b.changes b.loads c.args.header
+          c.link.ensures.entry owes parts header c.push_back_reserved.ensures.items c.self.invariant.0,
       (omega arith, omega arith, omega arith),
     )

@@ -1,4 +1,4 @@
-use Rattle.std.proofs.Common.{sym, subst, [], ap, ◌∙◌}
+use Rattle.std.proofs.Common.{sym, subst, []}
 use Rattle.plcr_imagelist.proofs.Stepping.{begun}
 use Rattle.plcr_machine.specs.Passes.{IsPaced}
 use Rattle.plcr_imagelist.specs.States.{ChangeState, WriterState}

@@ -1,8 +1,8 @@
-use Rattle.std.proofs.Common.{sym, subst, [], ◌∷◌, List, ap, ◌∙◌}
+use Rattle.std.proofs.Common.{sym, subst, [], ◌∷◌, ap, ◌∙◌}
 use Rattle.plcr_imagelist.specs.Loading.{IsLoaded}
 use Rattle.plcr_imagelist.proofs.Whole.{finished_load, made_again, finished_made}
 use Rattle.plcr_machine.specs.declared.change.Change.{Change}
-use Rattle.plcr_machine.specs.declared.change.Change.TheVariants.{Loads, Unloads}
+use Rattle.plcr_machine.specs.declared.change.Change.TheVariants.{Loads}
 use Rattle.plcr_imagelist.specs.Listing.{AddsChanges, change_of}
 use Rattle.plcr_imagelist.proofs.Changed.{adds_more, finished_adds, has_lists}
 use Rattle.plcr_imagelist.proofs.writer.Writer.load.Goals as goal

@@ -1,9 +1,8 @@
-use Rattle.std.proofs.Common.{refl, [], ◌∷◌, List, ap, sym, ◌∙◌, subst}
+use Rattle.std.proofs.Common.{refl, [], ◌∷◌, subst}
 use Rattle.plcr_machine.specs.Lists.{live}
 use Rattle.plcr_imagelist.specs.Finding.{first_with}
 use Rattle.plcr_imagelist.proofs.Whole.{unloads, unloads_first, unload_refused, made_again, finished_made}
 use Rattle.plcr_machine.specs.declared.change.Change.{Change}
-use Rattle.plcr_machine.specs.declared.change.Change.TheVariants.{Loads, Unloads}
 use Rattle.plcr_imagelist.specs.Listing.{AddsChanges, change_of}
 use Rattle.plcr_imagelist.proofs.Changed.{adds_more, finished_adds, has_lists}
 use Rattle.plcr_imagelist.proofs.writer.Writer.unload.Goals as goal

@@ -1,0 +1,16 @@
+-- Which of the readers' answers counts, as they are asked.
+use Rattle.std.specs.Prelude.{if◌then◌else◌, Option, Some, None}
+use Rattle.plcr_memory.specs.Regions.{Contents}
+use Rattle.plcr_macho.specs.declared.image.Image.{Image}
+use Rattle.plcr_regs.specs.declared.frame.Frame.{Frame}
+use Rattle.plcr_cursor.specs.declared.given.Answer.{Answer}
+use Rattle.plcr_cursor.specs.Frames.{call_frame_answer, compact_answer, is_bad, saved_answer}
+
+-- an answer, or the next one where it is Bad
+abbrev pub or_next : Answer → Answer → Answer
+or_next answer next = if is_bad answer.step then next else answer
+
+-- the answer that counts for a frame of code in an image, or in none
+abbrev pub answer_by : Contents → Frame → Option Image → Answer
+answer_by memory frame None = saved_answer memory frame
+answer_by memory frame (Some image) = or_next (or_next (compact_answer memory frame image) (call_frame_answer memory frame image)) (saved_answer memory frame)

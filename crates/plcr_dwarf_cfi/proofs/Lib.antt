@@ -1,0 +1,12 @@
+pub mod Callers
+pub mod Commons
+pub mod FoundFirst
+pub mod Fronts
+pub mod RunsFound
+pub mod Searches
+pub mod SpelledForward
+pub mod SpelledList
+pub mod SpelledOut
+pub mod Stored
+pub mod Tables
+pub mod Texts

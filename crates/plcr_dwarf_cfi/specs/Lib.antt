@@ -1,0 +1,12 @@
+pub mod Caller
+pub mod Covering
+pub mod Entries
+pub mod Faults
+pub mod Instructions
+pub mod Lists
+pub mod Pointers
+pub mod Rows
+pub mod Runs
+pub mod Sections
+pub mod Spelling
+pub mod inner

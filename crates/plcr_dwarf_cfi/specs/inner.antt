@@ -1,0 +1,4 @@
+-- Definitions that only private functions' contracts cite.
+pub mod Keeping
+pub mod Settings
+pub mod Texts
