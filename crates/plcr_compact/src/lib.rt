@@ -11,6 +11,7 @@ mod encoding;
 mod entry_kind;
 mod finding;
 mod known;
+mod laws;
 mod layout;
 mod masks;
 mod permutation;
@@ -26,6 +27,7 @@ pub use bad::{
 pub use compact::{find, step, step_from};
 pub use encoding::{Encoding, Permutation, SavedRegister};
 pub use known::{KNOWN_INDEXES, KNOWN_PAGES, KnownSections};
+pub use laws::{entries_are_chosen, permutations_are_orders};
 pub use section::{Entry, Found, PageHeader, SectionHeader, Table};
 
 #[cfg(test)]

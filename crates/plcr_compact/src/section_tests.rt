@@ -5,7 +5,7 @@ use std::alloc::Global;
 use std::test::*;
 
 // A memory with the section of the compressed page in which some words, by their index, are others.
-fn patched(alloc: Global, patches: &[(usize, u32)]) -> Result<Memory, MemoryFault> {
+fn patched(alloc: Global, patches: &[(usize, u32); 2]) -> Result<Memory, MemoryFault> {
     let mut words = COMPRESSED;
     for (index, word) in patches {
         if *index < words.len() {
@@ -16,7 +16,7 @@ fn patched(alloc: Global, patches: &[(usize, u32)]) -> Result<Memory, MemoryFaul
 }
 
 // What the section says where some of its words are others, twice by what is kept, too.
-fn bad_of(alloc: Global, patches: &[(usize, u32)], offset: u64) -> Result<u8, MemoryFault> {
+fn bad_of(alloc: Global, patches: &[(usize, u32); 2], offset: u64) -> Result<u8, MemoryFault> {
     let memory = patched(alloc, patches)?;
     let image = image_with(84);
     let found = find(&memory, &image, offset);

@@ -1,5 +1,5 @@
 use crate::fixtures::*;
-use crate::{find, step, step_from};
+use crate::{KnownSections, entries_are_chosen, find, permutations_are_orders, step, step_from};
 use plcr_macho::Image;
 use plcr_memory::{Memory, MemoryFault};
 use plcr_regs::{Arch, Frame, Registers, Step, fp_place, sp_place};
@@ -310,14 +310,28 @@ fn signatures_are_cut(rt: HostRuntime) -> Result<(), Fail> {
     Ok(())
 }
 
-// The reader itself asks for the address before a return address, and for that of an exact frame.
+// The reader itself, where the frame's address is known and not below the image, and what it says by what is kept.
+fn whole_step(memory: &Memory, image: &Image, frame: &Frame) -> Option<(Step, Step)> {
+    match frame.lookup() {
+        Some(address) if address >= image.header => {
+            let mut known = KnownSections::new(memory);
+            Some((step(memory, image, frame), known.step(7, image, frame)))
+        }
+        _ => None,
+    }
+}
+
+// The reader asks for the address before a return address, and for that of an exact frame.
 #[test]
 fn the_address_that_is_looked_up(rt: HostRuntime) -> Result<(), Fail> {
+    entries_are_chosen();
+    permutations_are_orders();
     let memory = memory_with(rt.alloc(), &COMPRESSED)?;
     let mut frame = frame_at(Arch::X86_64, 64, 0x1100, &[(RSP, 0x7100)]);
     let want = caller(Arch::X86_64, 64, &[(RIP, 0x8100), (RSP, 0x8108)]);
-    assert!(rt; step(&memory, &image_with(84), &frame) == want);
+    assert!(rt; whole_step(&memory, &image_with(84), &frame) == Some((want, want)));
     frame.exact = false;
-    assert!(rt; step(&memory, &image_with(84), &frame) == Step::Bad(4));
+    let bad = Step::Bad(4);
+    assert!(rt; whole_step(&memory, &image_with(84), &frame) == Some((bad, bad)));
     Ok(())
 }
