@@ -1,4 +1,5 @@
 pub mod Choosing
+pub mod Emptied
 pub mod Fields
 pub mod Founded
 pub mod Naming

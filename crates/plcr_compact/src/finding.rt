@@ -7,19 +7,20 @@ use crate::bad::{NO_ENCODING, NO_ENTRY};
 use crate::entry_kind::EntryKind;
 use crate::layout::ENCODING_LENGTH;
 use crate::reading::{header, page_header};
-use crate::search::{check, entry_at, entry_for};
+use crate::search::{check, check_index, entry_at, entry_for};
 use crate::section::{Entry, Found, PageHeader, SectionHeader, Table};
 use crate::words::word;
+use crate::zeros::SectionCells;
 use plcr_leb128::Cells;
 
 /// The header of a section, whose index is read whole.
 #[tactic(auto, using(crate::proofs::Founded::index_checked, crate::proofs::Founded::index_unread, crate::proofs::Founded::index_unchecked))]
-pub fn index<C: Cells>(section: &C) -> Result<SectionHeader, u8>
+pub fn index<C: SectionCells>(section: &C) -> Result<SectionHeader, u8>
     ensures header { result ≡ index_header (C.cells section.now) }
     ensures near { IfOk result (λ header. IsNear header.common × IsNear header.index) }
 {
     let header = header(section)?;
-    check(section, EntryKind::Index, &header.index)?;
+    check_index(section, &header.index)?;
     Ok(header)
 }
 
@@ -152,7 +153,7 @@ pub fn entry_of<C: Cells>(
 
 /// What a section says of an offset.
 #[tactic(auto, using(crate::proofs::Founded::search_unread, crate::proofs::Founded::search_no_page, crate::proofs::Founded::search_bad_page, crate::proofs::Founded::search_found))]
-pub fn find_in<C: Cells>(section: &C, offset: u64) -> Result<Found, u8>
+pub fn find_in<C: SectionCells>(section: &C, offset: u64) -> Result<Found, u8>
     ensures { result ≡ found_in (C.cells section.now) offset }
 {
     let header = index(section)?;

@@ -10,6 +10,7 @@ use crate::compact::{section, step_from};
 use crate::finding::{entry_of, index, page, page_for};
 use crate::layout::MOST_OFFSET;
 use crate::section::{Entry, Found, PageHeader, SectionHeader};
+use crate::zeros::SectionCells;
 use plcr_leb128::{Cells, Piece, Stored};
 use plcr_macho::{Image, Part};
 use plcr_memory::Memory;
@@ -154,7 +155,12 @@ impl<'m> KnownSections<'m> {
     }
 
     // The header of a section with its index.
-    fn index<C: Cells>(&mut self, slot: usize, part: Part, words: &C) -> Result<SectionHeader, u8>
+    fn index<C: SectionCells>(
+        &mut self,
+        slot: usize,
+        part: Part,
+        words: &C,
+    ) -> Result<SectionHeader, u8>
         requires { C.cells words.now ≡ section_at self.old part }
         ensures header { IndexIs self.old part result }
         ensures same { self.new ≡ self.old }
@@ -194,7 +200,7 @@ impl<'m> KnownSections<'m> {
 
     // What a section says of an offset.
     #[tactic(auto, using(crate::proofs::Founded::search_unread, crate::proofs::Founded::search_no_page, crate::proofs::Founded::search_bad_page, crate::proofs::Founded::search_found))]
-    fn find_in<C: Cells>(
+    fn find_in<C: SectionCells>(
         &mut self,
         slot: usize,
         part: Part,

@@ -19,6 +19,7 @@ mod reading;
 mod search;
 mod section;
 mod words;
+mod zeros;
 
 pub use bad::{
     DWARF_MODE, FALLING_OFFSETS, MISSING_WORD, NO_ENCODING, NO_ENTRY, NO_REGISTERS, NO_UNWIND_INFO,

@@ -1,6 +1,6 @@
 use crate::fixtures::*;
 use crate::{KnownSections, find};
-use plcr_memory::{Memory, MemoryFault};
+use plcr_memory::{Memory, MemoryFault, Region};
 use std::alloc::Global;
 use std::test::*;
 
@@ -124,6 +124,25 @@ fn sections_in_pieces(rt: HostRuntime) -> Result<(), Fail> {
             (0x1100, 0x0303_2000),
             "{cut}"
         );
+    }
+    Ok(())
+}
+
+// An index of billions of entries, of which the file has the first at most; all others are zeros.
+#[test]
+fn indexes_of_zeros(rt: HostRuntime) -> Result<(), Fail> {
+    for (first, bad) in [(0, 4), (1, 5)] {
+        let mut file = Vec::new(rt.alloc());
+        add_words(&mut file, &[1, 28, 0, 0, 0, 28, u32::MAX, first])?;
+        let zeros = Region {
+            start: SECTION,
+            size: 1 << 40,
+            from: 0,
+            len: 32,
+        };
+        let memory = memory_of(rt.alloc(), file, &[zeros])?;
+        assert_eq!(rt; find(&memory, &image_with(1 << 40), 0x1105), Err(bad));
+        assert_eq!(rt; find(&memory, &image_with(1 << 32), 0x1105), Err(2));
     }
     Ok(())
 }

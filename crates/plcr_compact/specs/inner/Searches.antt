@@ -25,6 +25,10 @@ size_by Index = INDEX_ENTRY
 size_by Regular = REGULAR_ENTRY
 size_by (Compressed first) = COMPRESSED_ENTRY
 
+-- an entry of the index whose bytes are zero
+abbrev pub empty : Entry
+empty = record { function = 0; value = 0 }
+
 -- the entries of a table
 unfoldable pub entries_in : Source → EntryKind → Table → Answer (List Entry)
 entries_in section kind table = entries_at (entry_by kind section) (size_by kind) table.count table.at
