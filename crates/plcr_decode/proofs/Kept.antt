@@ -1,5 +1,5 @@
 -- Values kept under their numbers.
-use Rattle.std.proofs.Common.{◌≡◌, ◌≢◌, ℕ, zero, suc, ◌+◌, ◌-◌, ◌^◌, ◌<◌, ◌≤◌, ◌==◌, List, [], ◌∷◌, length, Bool, true, false, cond, Some, None, set, get_or, replicate, refl, sym, ap, subst, ◌∙◌, append-nil, arith}
+use Rattle.std.proofs.Common.{◌≡◌, ◌≢◌, ℕ, zero, suc, ◌+◌, ◌<◌, ◌≤◌, ◌==◌, List, [], ◌∷◌, length, Bool, true, false, cond, Some, None, set, get_or, replicate, refl, sym, ap, subst, ◌∙◌, append-nil, arith}
 use Rattle.std.proofs.lemmas.Bool.Decides.{nat_tests}
 use Rattle.std.proofs.lemmas.List.{get_or-set_other}
 use Rattle.std.proofs.lemmas.Grind.{get_or-set_at}
@@ -8,7 +8,7 @@ use Rattle.plcr_wire.specs.Reading.{value_slice}
 use Rattle.plcr_wire.specs.declared.slices.ValueSlice.{ValueSlice}
 use Rattle.plcr_decode.specs.Fields.{fields_of, messages_in, together, joined, last_or, last_value}
 use Rattle.plcr_decode.specs.declared.found.Kept.{Kept}
-use Rattle.plcr_decode.specs.inner.Lasts.{nothing, under, shown, again, KeepsOne, KeepsUpTo, Keeps}
+use Rattle.plcr_decode.specs.inner.Lasts.{nothing, shown, again, KeepsOne, KeepsUpTo, Keeps}
 
 pub equal : (m n : ℕ) → (m == n) ≡ true → n ≡ m
 equal m n h = grind (arith, nat_tests)

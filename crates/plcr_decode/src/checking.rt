@@ -18,7 +18,8 @@ use crate::scanning::{Step, step_of, text_of};
 use plcr_report::{Holds, Kind};
 use plcr_wire::FieldSlice;
 
-/// Whether a message of this kind may stand in parts, in several fields. None of these holds another message.
+/// Whether a message of this kind may stand in parts, in several fields. None of these holds
+/// another message.
 #[inline(always)]
 fn is_joined(kind: Kind) -> bool
     ensures { result ≡ view.is_joined kind }
@@ -33,8 +34,8 @@ fn is_joined(kind: Kind) -> bool
     }
 }
 
-/// Passes a part of a message that may stand in parts, and notes the numbers of its fields beside those of the parts
-/// before it.
+/// Passes a part of a message that may stand in parts, and notes the numbers of its fields beside
+/// those of the parts before it.
 fn pass(seen: &mut Seen, kind: Kind, bytes: &[u8], end: usize) -> Result<(), DecodeFault>
     requires within { length bytes.now ≤ end }
     requires joined { view.is_joined kind ≡ true }
@@ -141,8 +142,8 @@ fn pass_field<'a>(
     Ok(step.piece)
 }
 
-/// Checks a message that ends at `end`: what it lacks, where it has no fault in reading order. Passes each of its bytes
-/// once, and takes no memory.
+/// Checks a message that ends at `end`: what it lacks, where it has no fault in reading order.
+/// Passes each of its bytes once, and takes no memory.
 #[inline(never)]
 #[cycle(checking)]
 fn check(kind: Kind, bytes: &[u8], end: usize) -> Result<Option<Lack>, DecodeFault>
@@ -161,8 +162,8 @@ fn check(kind: Kind, bytes: &[u8], end: usize) -> Result<Option<Lack>, DecodeFau
     Ok(marks.lack(kind))
 }
 
-/// Checks the root message, which ends at `end`, as every message is checked, and keeps what its fields have: of each
-/// number the last value and how many there are.
+/// Checks the root message, which ends at `end`, as every message is checked, and keeps what its
+/// fields have: of each number the last value and how many there are.
 pub(crate) fn check_root<'a>(bytes: &'a [u8], end: usize) -> Result<Found<'a>, DecodeFault>
     requires { length bytes.now ≤ end }
     ensures fault { IfErr result (λ e. before (spec.scan kinds.Root end bytes.now) (whole kinds.Root (fields_of bytes.now)) ≡ Err e) }

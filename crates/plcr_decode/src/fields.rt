@@ -10,8 +10,8 @@ ghost use Rattle.plcr_decode.specs.inner.Views.{left, size};
 use crate::scanning::text_of;
 use plcr_wire::{FieldSlice, field_of};
 
-/// The fields that are left of a message: those of its present part, and those of the parts that stand in the
-/// fields of one number of the message around it.
+/// The fields that are left of a message: those of its present part, and those of the parts that
+/// stand in the fields of one number of the message around it.
 #[derive(Clone, Copy)]
 pub(crate) struct Fields<'a> {
     part: &'a [u8],
@@ -46,6 +46,7 @@ fn part_of<'a>(piece: FieldSlice<'a>, number: u32) -> &'a [u8]
 }
 
 /// What is left of a message from its first field of this number on.
+#[inline(never)]
 #[tactic(auto, using(crate::proofs::Listed::messages_step))]
 fn from_first(bytes: &[u8], number: u32) -> &[u8]
     ensures { joined number (fields_of result.now) ≡ joined number (fields_of bytes.now) }

@@ -142,6 +142,7 @@ impl<'a> Found<'a> {
     }
 
     /// Whether a field of this number stands there.
+    #[inline(always)]
     pub(crate) fn has(&self, number: u32) -> bool
         requires { number < NUMBERS }
         ensures { result ≡ has number self.now }
@@ -152,8 +153,9 @@ impl<'a> Found<'a> {
         }
     }
 
-    /// The fields of the one message whose parts stand in the fields of this number, where these are the fields of
-    /// this message.
+    /// The fields of the one message whose parts stand in the fields of this number, where these
+    /// are the fields of this message.
+    #[inline(always)]
     #[tactic(auto, using(crate::proofs::Kept::joined_once))]
     pub(crate) fn message(&self, bytes: &'a [u8], number: u32) -> Fields<'a>
         requires within { number < NUMBERS }

@@ -1,4 +1,5 @@
-//! Reads the file of a crash report: the report that its bytes spell, or their first fault with its place.
+//! Reads the file of a crash report: the report that its bytes spell, or their first fault with its
+//! place.
 #![tactic(auto)]
 
 mod checking;

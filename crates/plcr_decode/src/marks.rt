@@ -1,4 +1,5 @@
-//! What is known of a message once its fields are passed: which of them stand there, and what the messages in it lack.
+//! What is known of a message once its fields are passed: which of them stand there, and what the
+//! messages in it lack.
 ghost use Rattle.std.specs.Prelude.{◌≡◌, ◌<◌, ◌==◌, ℕ, if◌then◌else◌, true, false};
 ghost use Rattle.std.specs.List.{AllByRecursion};
 ghost use Rattle.plcr_report.specs.Schema.{rows};
@@ -75,7 +76,8 @@ pub(crate) struct Marks {
     pub(crate) fields: Seen,
     /// Of each message that may stand in parts, by its number, those of its own fields.
     pub(crate) parts: [Seen; NUMBERS],
-    /// What the first message lacks that lacks a field, of those in the fields of a number that repeats.
+    /// What the first message lacks that lacks a field, of those in the fields of a number that
+    /// repeats.
     pub(crate) lacks: [Option<Lack>; NUMBERS],
 }
 
@@ -113,6 +115,7 @@ impl Marks {
     }
 
     /// What a message of this kind lacks: a field of its own, or else what the messages in it do.
+    #[inline(always)]
     #[tactic(auto, using(crate::proofs::Marked::small_rows))]
     pub(crate) fn lack(&self, kind: Kind) -> Option<Lack>
         ensures { told_lack result ≡ marks_by kind self.now }
@@ -140,6 +143,7 @@ impl Marks {
     }
 
     /// What the messages lack that stand in this field.
+    #[inline(always)]
     fn lack_in(&self, entry: Entry) -> Option<Lack>
         requires { Small (row_of entry) }
         ensures { told_lack result ≡ held_by self.now (row_of entry).holds (row_of entry).label (row_of entry).number }
@@ -153,6 +157,7 @@ impl Marks {
     }
 
     /// What the one message lacks that stands in the fields of this number, where there is one.
+    #[inline(always)]
     #[tactic(auto, using(crate::proofs::Marked::small_rows))]
     fn lack_joined(&self, number: u32, kind: Kind) -> Option<Lack>
         requires { number < NUMBERS }

@@ -32,7 +32,9 @@ pub(crate) trait Row: Sized {
         ensures { IfOk result (λ x. x ≡ value (fields_of bytes.now)) };
 }
 
-/// The one message in the fields of this number, where there is one. What was found are the fields of these bytes.
+/// The one message in the fields of this number, where there is one. What was found are the fields
+/// of these bytes.
+#[inline(always)]
 pub(crate) fn build_one<'a, T: Part>(
     alloc: Global,
     found: &Found<'a>,
@@ -70,8 +72,8 @@ fn build_row<T: Row + Drop>(
     Ok(())
 }
 
-/// The messages in the fields of two numbers, whose counts are known: takes the room of so many, and goes through the
-/// fields once.
+/// The messages in the fields of two numbers, whose counts are known: takes the room of so many,
+/// and goes through the fields once.
 #[tactic(auto, using(crate::proofs::Rowed::rows_more, crate::proofs::Rowed::room_now, crate::proofs::Rowed::room_more))]
 fn build_each<A: Row + Drop, B: Row + Drop>(
     alloc: Global,

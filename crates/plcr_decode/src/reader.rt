@@ -57,8 +57,9 @@ fn root_of(bytes: &[u8]) -> Result<&[u8], DecodeFault>
 ///
 /// # Errors
 ///
-/// The first fault of the file, in reading order: its beginning, then its fields, each submessage where it
-/// stands, and then the fields that a message has to have. `Memory` comes only where the file spells a report.
+/// The first fault of the file, in reading order: its beginning, then its fields, each submessage
+/// where it stands, and then the fields that a message has to have. `Memory` comes only where the
+/// file spells a report.
 #[tactic(auto, unfolding(crate::specs::Reads::reads))]
 pub fn decode(alloc: Global, bytes: &[u8]) -> Result<Report, DecodeFault>
     ensures report { IfOk result (λ report. reads bytes.now ≡ Ok report) }

@@ -1,5 +1,5 @@
-//! The fields of each message, after PLCrashReporter's crash_report.proto: what they hold, and how often they stand
-//! there.
+//! The fields of each message, after PLCrashReporter's crash_report.proto: what they hold, and how
+//! often they stand there.
 ghost use Rattle.std.specs.Prelude.{◌≡◌};
 ghost use Rattle.plcr_decode.specs.inner.Entries.{rows_of};
 ghost use Rattle.plcr_report.specs.Schema.{rows, rule};
@@ -9,7 +9,8 @@ use plcr_report::{
     Symbol, System, Thread,
 };
 
-/// A field of a message by its number and what it holds: it stands there once, at most once, or any number of times.
+/// A field of a message by its number and what it holds: it stands there once, at most once, or any
+/// number of times.
 #[derive(Clone, Copy)]
 pub(crate) enum Entry {
     Required(u32, Holds),

@@ -28,8 +28,9 @@ const FILE: [u8; 271] = [
     0x0a, 0x03, 0x61, 0x70, 0x70, 0x10, 0x00, 0x28, 0x00, 0x30, 0x01, 0x4a, 0x02, 0x08, 0x00,
 ];
 
-/// What stands in another order behind the head: the info first, then an unknown field, then the system in two
-/// parts, then the application with another version before its own. What follows is as in the file above.
+/// What stands in another order behind the head: the info first, then an unknown field, then the
+/// system in two parts, then the application with another version before its own. What follows is
+/// as in the file above.
 const MOVED: &[u8] =
     b"\x4a\x02\x08\x00\x78\x05\x0a\x05\x08\x00\x12\x01\x30\x0a\x04\x18\x01\x20\x00\x12\x0b\x0a\x03app\x12\x01\x39\x12\x01\x31";
 
@@ -87,8 +88,9 @@ fn a_file_is_read_and_shown(rt: HostRuntime) -> Result<(), Fail> {
     Ok(())
 }
 
-/// A report with all that may be there or not: a time below zero, bytes that can't be seen, empty texts, a
-/// symbol, images with and without what isn't always known, numbers above their width, a process without a name.
+/// A report with all that may be there or not: a time below zero, bytes that can't be seen, empty
+/// texts, a symbol, images with and without what isn't always known, numbers above their width, a
+/// process without a name.
 const RICH: &[u8] = b"plcrash\x01\
     \x0a\x11\x08\x00\x12\x00\x18\x06\x20\xff\xff\xff\xff\xff\xff\xff\xff\xff\x01\
     \x12\x06\x0a\x01\x5c\x12\x01\x0a\
@@ -110,3 +112,35 @@ image 0x0000000000000000 0 o \\- - -
 signal s \\x7f 0x0000000000000001
 process - 5 2 1
 ";
+
+/// A report whose rows stand among other fields and among each other: images and threads by turns,
+/// and a thread's registers before, between and behind its frames.
+const MIXED: &[u8] = b"plcrash\x01\
+    \x22\x07\x08\x00\x10\x00\x1a\x01n\
+    \x1a\x1a\x22\x05\x0a\x01a\x10\x01\x12\x02\x18\x10\x08\x03\x22\x05\x0a\x01b\x10\x02\x12\x02\x18\x11\x18\x00\
+    \x22\x07\x08\x00\x10\x00\x1a\x01m\
+    \x1a\x04\x08\x04\x18\x01\
+    \x12\x06\x0a\x01p\x12\x01v\
+    \x0a\x09\x08\x00\x12\x01\x30\x18\x01\x20\x00\
+    \x32\x08\x0a\x01s\x12\x01t\x18\x02";
+
+const MIXED_TEXT: &[u8] = b"report 1
+system 0 0 1 0
+application p v
+thread 3
+frame 0 0x0000000000000010
+frame 1 0x0000000000000011
+register a 0x0000000000000001
+register b 0x0000000000000002
+thread 4 crashed
+image 0x0000000000000000 0 n - - -
+image 0x0000000000000000 0 m - - -
+signal s t 0x0000000000000002
+";
+
+#[test]
+fn rows_stand_among_each_other(rt: HostRuntime) -> Result<(), Fail> {
+    let alloc = rt.alloc();
+    assert_eq!(rt; shown(alloc, MIXED)?.bytes(), MIXED_TEXT);
+    Ok(())
+}

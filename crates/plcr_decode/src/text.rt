@@ -191,10 +191,10 @@ fn put_report<W: Ink>(ink: &mut W, report: &Report)
     put_info(ink, &report.report_info);
 }
 
-/// Writes a report as lines of text, each with a newline: its version, its system and application, its threads
-/// with their frames and registers, its images, and its signal, process and info where they are there. Bytes of
-/// a text that can't be seen, spaces and backslashes are written as `\x` and two digits. Takes no memory. The sink is
-/// given pieces of at most 4,096 bytes.
+/// Writes a report as lines of text, each with a newline: its version, its system and application,
+/// its threads with their frames and registers, its images, and its signal, process and info where
+/// they are there. Bytes of a text that can't be seen, spaces and backslashes are written as `\x`
+/// and two digits. Takes no memory. The sink is given pieces of at most 4,096 bytes.
 ///
 /// # Errors
 ///

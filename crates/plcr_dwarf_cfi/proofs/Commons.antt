@@ -1,5 +1,5 @@
 -- Common information entries, by what is kept of their texts.
-use Rattle.std.proofs.Common.{◌≡◌, ℕ, ◌+◌, Bool, true, false, List, [], ◌∷◌, Option, Some, None, Ok, Err, Result, refl, ap}
+use Rattle.std.proofs.Common.{◌≡◌, ℕ, ◌+◌, Bool, true, false, List, [], ◌∷◌, Option, Some, None, Ok, Err, Result, refl}
 use Rattle.std.specs.Prelude.{ok_or}
 use Rattle.plcr_base.specs.Chains.{◌>>=◌, result_map}
 use Rattle.plcr_dwarf_cfi.specs.declared.entries.CommonInformation.{CommonInformation}

@@ -1,10 +1,9 @@
 -- The entry that is found is the first that covers the address.
-use Rattle.std.proofs.Common.{◌≡◌, ℕ, Bool, true, false, cond, List, [], ◌∷◌, ◌++◌, Option, Some, None, Ok, Err, Result, refl, sym, ap, subst, ◌∙◌}
+use Rattle.std.proofs.Common.{◌≡◌, ℕ, Bool, true, false, cond, List, [], ◌∷◌, ◌++◌, Option, Some, None, Ok, Err, refl, ap, subst, ◌∙◌}
 use Rattle.plcr_dwarf_cfi.specs.declared.entries.Entry.{Entry}
 use Rattle.plcr_dwarf_cfi.specs.declared.entries.Entry.TheVariants.{Common, Description}
 use Rattle.plcr_dwarf_cfi.specs.declared.entries.FrameDescription.{FrameDescription}
 use Rattle.plcr_dwarf_cfi.specs.declared.fault.CallFrameFault.{CallFrameFault}
-use Rattle.plcr_dwarf_cfi.specs.declared.fault.CallFrameFault.TheVariants.{NotCovered}
 use Rattle.plcr_dwarf_cfi.specs.Entries.{at_end, covers, description_over, first_over, found_in, or_behind}
 use Rattle.plcr_dwarf_cfi.specs.Lists.{Listed}
 use Rattle.plcr_dwarf_cfi.specs.Covering.{IsFirstOver, IsNowhere, NoneOver}

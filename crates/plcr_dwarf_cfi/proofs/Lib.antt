@@ -2,6 +2,7 @@ pub mod Callers
 pub mod Commons
 pub mod FoundFirst
 pub mod Fronts
+pub mod Running
 pub mod RunsFound
 pub mod Searches
 pub mod SpelledForward

@@ -1,6 +1,5 @@
 -- What instructions make of a table is what a front of them makes.
 use Rattle.std.proofs.Common.{◌≡◌, ◌⊎◌, inl, inr, ℕ, Bool, true, false, cond, List, [], ◌∷◌, ◌++◌, Option, Some, None, Ok, Err, Result, refl, sym, ap, ◌∙◌}
-use Rattle.plcr_base.specs.Chains.{◌>>=◌}
 use Rattle.plcr_base.proofs.Chained.{bind_err, bind_ok}
 use Rattle.plcr_dwarf_cfi.specs.declared.entries.CommonInformation.{CommonInformation}
 use Rattle.plcr_dwarf_cfi.specs.declared.fault.CallFrameFault.{CallFrameFault}

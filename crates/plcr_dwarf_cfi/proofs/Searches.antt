@@ -1,5 +1,5 @@
 -- The search for a frame description entry, entry by entry.
-use Rattle.std.proofs.Common.{◌≡◌, ◌<◌, ℕ, zero, suc, ◌+◌, ◌-◌, Option, Some, None, Ok, Err, Result, refl, ap, ◌∙◌, arith}
+use Rattle.std.proofs.Common.{◌≡◌, ◌<◌, ℕ, zero, ◌+◌, ◌-◌, Option, Some, None, Ok, Err, refl, ap, ◌∙◌, arith}
 use Rattle.plcr_dwarf_cfi.specs.declared.common.Recent.{Recent}
 use Rattle.plcr_dwarf_cfi.specs.declared.entries.Entry.{Entry}
 use Rattle.plcr_dwarf_cfi.specs.declared.entries.FrameDescription.{FrameDescription}
@@ -8,12 +8,9 @@ use Rattle.plcr_dwarf_cfi.specs.declared.fault.CallFrameFault.TheVariants.{NotCo
 use Rattle.plcr_dwarf_cfi.specs.Entries.{description_for, description_over, entries_of, entry_at, found_in}
 use Rattle.plcr_dwarf_cfi.specs.Lists.{listed}
 use Rattle.plcr_dwarf_cfi.specs.Sections.{Section}
+use Rattle.plcr_dwarf_cfi.specs.inner.Fronts.{found_from}
 use Rattle.plcr_dwarf_cfi.specs.inner.Texts.{IsRecent}
 use Rattle.plcr_dwarf_cfi.proofs.Texts.{one_more}
-
--- what is found from a place on
-unfoldable pub found_from : Section → ℕ → ℕ → ℕ → Result FrameDescription CallFrameFault
-found_from s a n place = found_in a (listed (entry_at s) n place)
 
 pub search_start : (s : Section) (a : ℕ) → found_from s a (s.size + 1 - 0) 0 ≡ description_for s a
 unfolding found_from description_for entries_of

@@ -1,18 +1,17 @@
 -- Each instruction ends behind its opcode, within the section.
-use Rattle.std.proofs.Common.{◌≡◌, ◌≢◌, ◌≤◌, ◌<◌, inl, inr, ℕ, zero, suc, ◌+◌, ◌-◌, ◌==◌, Bool, true, false, cond, List, [], ◌∷◌, Option, Some, None, Ok, Err, Result, refl, sym, ap, subst, ◌∙◌, arith}
-use Rattle.std.specs.Prelude.{is_some, nat_lt, ok_or, unwrap_or}
+use Rattle.std.proofs.Common.{◌≡◌, ◌≤◌, ℕ, ◌+◌, ◌==◌, Bool, true, false, cond, List, [], ◌∷◌, Option, Some, None, Ok, Err, Result, refl, ap, arith}
+use Rattle.std.specs.Prelude.{is_some, nat_lt}
 use Rattle.plcr_base.specs.Chains.{◌>>=◌}
 use Rattle.plcr_base.proofs.Chained.{bind_ok, ok_or_ok}
 use Rattle.plcr_leb128.specs.declared.leb128.Number.{Number}
-use Rattle.plcr_leb128.specs.Cells.{Source, bytes_of}
-use Rattle.plcr_memory.specs.Regions.{number_at}
-use Rattle.plcr_dwarf_expr.specs.Decoding.{Row, among}
+use Rattle.plcr_leb128.specs.Cells.{bytes_of}
+use Rattle.plcr_dwarf_expr.specs.Decoding.{Row}
 use Rattle.plcr_dwarf_cfi.specs.declared.decode.Decoded.{Decoded}
 use Rattle.plcr_dwarf_cfi.specs.declared.entries.Encoding.{Encoding}
 use Rattle.plcr_dwarf_cfi.specs.declared.entries.Format.{Format}
 use Rattle.plcr_dwarf_cfi.specs.declared.entries.Format.TheVariants.{Absptr, Uleb128, Udata2, Udata4, Udata8, Sleb128, Sdata2, Sdata4, Sdata8}
 use Rattle.plcr_dwarf_cfi.specs.declared.fault.CallFrameFault.{CallFrameFault}
-use Rattle.plcr_dwarf_cfi.specs.declared.fault.CallFrameFault.TheVariants.{Truncated, UnknownInstruction}
+use Rattle.plcr_dwarf_cfi.specs.declared.fault.CallFrameFault.TheVariants.{Truncated}
 use Rattle.plcr_dwarf_cfi.specs.declared.instructions.Block.{Block}
 use Rattle.plcr_dwarf_cfi.specs.declared.instructions.Instruction.{Instruction}
 use Rattle.plcr_dwarf_cfi.specs.declared.opcodes.TheConstants.{DW_CFA_advance_loc, DW_CFA_offset, DW_CFA_restore}

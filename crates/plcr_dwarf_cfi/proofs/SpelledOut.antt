@@ -1,26 +1,19 @@
 -- The list of instructions is the one that the bytes spell: each takes some bytes of the section, so that no list is cut off.
-use Rattle.std.proofs.Common.{◌≡◌, ◌≢◌, ◌≤◌, ◌<◌, inl, inr, ℕ, zero, suc, ◌+◌, ◌-◌, ◌==◌, Bool, true, false, cond, List, [], ◌∷◌, length, Option, Some, None, option_map, Ok, Err, Result, refl, sym, ap, subst, ◌∙◌, arith}
-use Rattle.std.specs.Prelude.{◌%◌, ◌^◌, is_some, nat_lt, nat_le, ok_or, unwrap_or}
-use Rattle.std.proofs.lemmas.Bool.{cases_eq, eqb-false}
+use Rattle.std.proofs.Common.{◌≡◌, ◌≤◌, ℕ, zero, suc, ◌+◌, Bool, true, false, cond, List, [], ◌∷◌, length, Option, Some, None, option_map, Ok, Err, Result, refl, ap, subst, arith}
+use Rattle.std.specs.Prelude.{nat_lt, nat_le, ok_or}
 use Rattle.std.proofs.lemmas.Bool.Decides.{nat_tests}
 use Rattle.plcr_base.specs.Chains.{◌>>=◌, result_map}
 use Rattle.plcr_base.proofs.Chained.{bind_ok, ok_or_ok}
 use Rattle.plcr_memory.specs.Regions.{Contents}
 use Rattle.plcr_leb128.specs.declared.fault.Leb128Fault.{Leb128Fault}
-use Rattle.plcr_leb128.specs.declared.fault.Leb128Fault.TheVariants.{Absent, Long}
+use Rattle.plcr_leb128.specs.declared.fault.Leb128Fault.TheVariants.{Absent}
 use Rattle.plcr_leb128.specs.declared.leb128.Number.{Number}
 use Rattle.plcr_leb128.specs.declared.constants.TheConstants.{HIGH_BIT, MOST_BYTES}
-use Rattle.plcr_leb128.specs.Cells.{Bytes, Source, bytes_of, number_in, piece_bytes}
+use Rattle.plcr_leb128.specs.Cells.{Source, bytes_of, number_in, piece_bytes}
 use Rattle.plcr_leb128.specs.Leb128.{bytes_within, leb128_bytes, signed_at, signed_number, unsigned_at, unsigned_number}
-use Rattle.plcr_dwarf_expr.specs.Decoding.{Row, among}
-use Rattle.plcr_dwarf_cfi.specs.declared.decode.Decoded.{Decoded}
-use Rattle.plcr_dwarf_cfi.specs.declared.entries.Encoding.{Encoding}
 use Rattle.plcr_dwarf_cfi.specs.declared.entries.Extent.{Extent}
-use Rattle.plcr_dwarf_cfi.specs.declared.fault.CallFrameFault.{CallFrameFault}
-use Rattle.plcr_dwarf_cfi.specs.declared.fault.CallFrameFault.TheVariants.{Truncated, UnknownInstruction}
-use Rattle.plcr_dwarf_cfi.specs.declared.instructions.Block.{Block}
-use Rattle.plcr_dwarf_cfi.specs.declared.instructions.Instruction.{Instruction}
-use Rattle.plcr_dwarf_cfi.specs.Sections.{Section, byte, fixed, front_of, section_at, signed, sized, unsigned, whole, within}
+use Rattle.plcr_dwarf_cfi.specs.declared.fault.CallFrameFault.TheVariants.{Truncated}
+use Rattle.plcr_dwarf_cfi.specs.Sections.{Section, fixed, front_of, section_at, signed, unsigned, whole, within}
 
 -- what is read ends within the section
 pub record Inside (s : Section) : Type 0 where

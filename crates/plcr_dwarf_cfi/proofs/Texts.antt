@@ -1,6 +1,5 @@
 -- Augmentation texts, letter by letter.
 use Rattle.std.proofs.Common.{◌≡◌, ◌<◌, ℕ, zero, suc, ◌+◌, ◌-◌, ◌==◌, Bool, true, false, List, [], ◌∷◌, Option, Some, None, Ok, Err, Result, length, refl, ap, sym, ◌∙◌, arith}
-use Rattle.std.specs.Prelude.{◌&&◌, cond}
 use Rattle.std.specs.List.{list_all}
 use Rattle.plcr_base.specs.Chains.{◌>>=◌, result_map}
 use Rattle.plcr_leb128.specs.Cells.{Source}
@@ -10,9 +9,9 @@ use Rattle.plcr_dwarf_cfi.specs.declared.augmented.Summary.{Summary}
 use Rattle.plcr_dwarf_cfi.specs.declared.augmented.TextForm.{TextForm}
 use Rattle.plcr_dwarf_cfi.specs.declared.augmented.TextForm.TheVariants.{Empty, Accepted, Refused}
 use Rattle.plcr_dwarf_cfi.specs.declared.fault.CallFrameFault.{CallFrameFault}
-use Rattle.plcr_dwarf_cfi.specs.declared.fault.CallFrameFault.TheVariants.{Truncated, UnknownAugmentation}
-use Rattle.plcr_dwarf_cfi.specs.Entries.{Text, accepted, augmentation_text, is_accepted, is_letter, letter_at, letter_read, never, text_at, text_of}
-use Rattle.plcr_dwarf_cfi.specs.Lists.{Listed, Step, ended, fold_until, listed}
+use Rattle.plcr_dwarf_cfi.specs.declared.fault.CallFrameFault.TheVariants.{Truncated}
+use Rattle.plcr_dwarf_cfi.specs.Entries.{accepted, augmentation_text, is_letter, letter_at, letter_read, never, text_of}
+use Rattle.plcr_dwarf_cfi.specs.Lists.{Listed, fold_until, listed}
 use Rattle.plcr_dwarf_cfi.specs.Sections.{Section}
 use Rattle.plcr_dwarf_cfi.specs.inner.Texts.{summarized, summary, summary_of, unless, with_letter, with_letters}
 

@@ -1,5 +1,5 @@
 -- The caller by a row: DWARF 4, section 6.4.4; which registers a function keeps say the ABI supplements of both architectures.
-use Rattle.std.specs.Prelude.{ℕ, ◌+◌, ◌%◌, ◌^◌, ◌==◌, nat_lt, Bool, true, false, if◌then◌else◌, List, [], ◌∷◌, length, slice_index_or, slice_set, Option, Some, None, ok_or, unwrap_or, Result, Ok, Err}
+use Rattle.std.specs.Prelude.{ℕ, ◌+◌, ◌%◌, ◌^◌, ◌==◌, nat_lt, Bool, true, false, if◌then◌else◌, List, [], ◌∷◌, length, slice_set, Option, Some, None, ok_or, unwrap_or, Result, Ok, Err}
 use Rattle.plcr_base.specs.Chains.{◌>>=◌}
 use Rattle.plcr_memory.specs.Regions.{Contents, number_at}
 use Rattle.plcr_macho.specs.declared.image.Image.{Image}

@@ -1,5 +1,5 @@
 -- The entries of `__eh_frame`: Linux Standard Base Core, "The .eh_frame section"; DWARF 4, section 6.4.1.
-use Rattle.std.specs.Prelude.{ℕ, ◌+◌, ◌-◌, ◌==◌, ◌&&◌, ◌||◌, not, nat_le, nat_lt, Bool, true, false, if◌then◌else◌, List, [], ◌∷◌, length, Option, Some, None, ok_or, Result, Ok, Err}
+use Rattle.std.specs.Prelude.{ℕ, ◌+◌, ◌-◌, ◌==◌, ◌&&◌, ◌||◌, nat_le, nat_lt, Bool, true, false, if◌then◌else◌, List, [], ◌∷◌, length, Option, Some, None, ok_or, Result, Ok, Err}
 use Rattle.std.specs.List.{list_all}
 use Rattle.plcr_base.specs.Chains.{◌>>=◌}
 use Rattle.plcr_leb128.specs.declared.leb128.Number.{Number}
@@ -23,7 +23,7 @@ use Rattle.plcr_dwarf_cfi.specs.declared.fault.CallFrameFault.TheVariants.{Trunc
 use Rattle.plcr_dwarf_cfi.specs.declared.sections.TheConstants.{EXTENDED_LENGTH}
 use Rattle.plcr_dwarf_cfi.specs.Lists.{Listed, Step, ended, fold_until, listed}
 use Rattle.plcr_dwarf_cfi.specs.Pointers.{encoding_of, number_of, pointer_at}
-use Rattle.plcr_dwarf_cfi.specs.Sections.{Section, byte, fixed, passed_over, signed, sized, unsigned, within}
+use Rattle.plcr_dwarf_cfi.specs.Sections.{Section, byte, fixed, passed_over, signed, unsigned, within}
 
 -- what stands behind an entry's length: as many bytes as it says. A length of 32 bits with all bits set is followed by one of 64 bits
 abbrev pub extent_of : ℕ → ℕ → Extent

@@ -1,7 +1,6 @@
 -- The instructions that bytes spell: DWARF 4, sections 6.4.2 and 7.23 (figure 40); Linux Standard Base Core, "DWARF Extensions".
-use Rattle.std.specs.Prelude.{ℕ, ◌+◌, ◌-◌, ◌%◌, ◌^◌, ◌==◌, nat_lt, Bool, if◌then◌else◌, List, [], ◌∷◌, Option, Some, None, is_some, unwrap_or, option_map, Result, Ok, Err}
+use Rattle.std.specs.Prelude.{ℕ, ◌+◌, ◌-◌, ◌%◌, ◌^◌, ◌==◌, nat_lt, if◌then◌else◌, List, [], ◌∷◌, Some, None, is_some, unwrap_or, Result, Ok, Err}
 use Rattle.plcr_base.specs.Chains.{◌>>=◌}
-use Rattle.plcr_leb128.specs.Cells.{Source}
 use Rattle.plcr_dwarf_expr.specs.Decoding.{among, row, Row}
 use Rattle.plcr_dwarf_cfi.specs.declared.decode.Decoded.{Decoded}
 use Rattle.plcr_dwarf_cfi.specs.declared.entries.Encoding.{Encoding}

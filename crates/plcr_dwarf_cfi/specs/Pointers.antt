@@ -1,5 +1,5 @@
 -- Encoded pointers: Linux Standard Base Core, "DWARF Exception Header Encoding".
-use Rattle.std.specs.Prelude.{ℕ, ◌+◌, ◌-◌, ◌%◌, ◌^◌, ◌==◌, ◌||◌, nat_le, Bool, true, false, if◌then◌else◌, List, [], ◌∷◌, Option, Some, None, ok_or, Result, Ok, Err}
+use Rattle.std.specs.Prelude.{ℕ, ◌+◌, ◌-◌, ◌%◌, ◌^◌, ◌==◌, ◌||◌, nat_le, Bool, true, false, if◌then◌else◌, List, [], ◌∷◌, ok_or, Result, Ok, Err}
 use Rattle.std.specs.Int.{w16, w32, w64, cast_signed, cast_unsigned}
 use Rattle.plcr_base.specs.Chains.{◌>>=◌}
 use Rattle.plcr_memory.specs.Regions.{number_at}
@@ -12,7 +12,7 @@ use Rattle.plcr_dwarf_cfi.specs.declared.entries.Format.{Format}
 use Rattle.plcr_dwarf_cfi.specs.declared.entries.Format.TheVariants.{Absptr, Uleb128, Udata2, Udata4, Udata8, Sleb128, Sdata2, Sdata4, Sdata8}
 use Rattle.plcr_dwarf_cfi.specs.declared.fault.CallFrameFault.{CallFrameFault}
 use Rattle.plcr_dwarf_cfi.specs.declared.fault.CallFrameFault.TheVariants.{Truncated, UnknownEncoding}
-use Rattle.plcr_dwarf_cfi.specs.Sections.{Section, byte, signed, sized, unsigned}
+use Rattle.plcr_dwarf_cfi.specs.Sections.{Section, signed, sized, unsigned}
 
 -- the formats of numbers
 abbrev pub formats : List (Row Format)

@@ -1,5 +1,5 @@
 -- The row of a frame description entry at an address: DWARF 4, sections 6.4.1 to 6.4.3.
-use Rattle.std.specs.Prelude.{ℕ, ◌+◌, ◌*◌, ◌%◌, ◌^◌, nat_lt, Bool, true, false, if◌then◌else◌, List, [], ◌∷◌, length, replicate, slice_index_or, slice_set, Option, Some, None, Result, Ok, Err}
+use Rattle.std.specs.Prelude.{ℕ, ◌+◌, ◌*◌, ◌%◌, ◌^◌, nat_lt, Bool, false, if◌then◌else◌, List, [], ◌∷◌, length, replicate, slice_index_or, slice_set, Option, Some, None, Result, Ok, Err}
 use Rattle.std.specs.Option.{option_map_or}
 use Rattle.plcr_base.specs.Chains.{◌>>=◌}
 use Rattle.plcr_dwarf_cfi.specs.declared.entries.CommonInformation.{CommonInformation}
@@ -24,7 +24,7 @@ use Rattle.plcr_dwarf_cfi.specs.declared.row.RegisterRule.{RegisterRule}
 use Rattle.plcr_dwarf_cfi.specs.declared.row.RegisterRule.TheVariants as rules
 use Rattle.plcr_dwarf_cfi.specs.declared.row.Row.{Row}
 use Rattle.plcr_dwarf_cfi.specs.Instructions.{instructions_in}
-use Rattle.plcr_dwarf_cfi.specs.Lists.{Listed, run_until}
+use Rattle.plcr_dwarf_cfi.specs.Lists.{run_until}
 use Rattle.plcr_dwarf_cfi.specs.Sections.{Section, passed_over, within}
 
 -- where instructions have come: the row, the row behind those of the common information entry, the rows that are remembered, the last one first, and the location from which on the row holds

@@ -1,5 +1,5 @@
 -- What instructions make of a table, above the order in which they are carried out.
-use Rattle.std.specs.Prelude.{◌≡◌, ◌⊎◌, ℕ, Bool, true, false, List, [], ◌∷◌, ◌++◌, Option, Some, None, Result, Ok, Err}
+use Rattle.std.specs.Prelude.{◌≡◌, ℕ, true, false, List, [], ◌∷◌, ◌++◌, Option, Some, None, Ok, Err}
 use Rattle.plcr_dwarf_cfi.specs.declared.entries.CommonInformation.{CommonInformation}
 use Rattle.plcr_dwarf_cfi.specs.declared.fault.CallFrameFault.{CallFrameFault}
 use Rattle.plcr_dwarf_cfi.specs.declared.instructions.Instruction.{Instruction}

@@ -1,5 +1,5 @@
 -- What is read of a section of call frame information: numbers at places, which count from the section's start.
-use Rattle.std.specs.Prelude.{ℕ, ◌+◌, nat_le, ◌&&◌, Bool, if◌then◌else◌, List, Option, None, ok_or, Result, Ok, Err}
+use Rattle.std.specs.Prelude.{ℕ, ◌+◌, nat_le, ◌&&◌, Bool, if◌then◌else◌, None, ok_or, Result, Ok, Err}
 use Rattle.plcr_base.specs.Chains.{◌>>=◌}
 use Rattle.plcr_memory.specs.Regions.{Contents}
 use Rattle.plcr_leb128.specs.declared.fault.Leb128Fault.{Leb128Fault}

@@ -1,5 +1,5 @@
 -- Which instructions bytes spell, above the number of steps in which they are read.
-use Rattle.std.specs.Prelude.{◌≡◌, ◌≢◌, ◌≤◌, ◌<◌, ℕ, List, [], ◌∷◌, Option, Some, None, Ok, Err}
+use Rattle.std.specs.Prelude.{◌≡◌, ◌≢◌, ℕ, List, [], ◌∷◌, Option, Some, None, Ok, Err}
 use Rattle.plcr_dwarf_cfi.specs.declared.decode.Decoded.{Decoded}
 use Rattle.plcr_dwarf_cfi.specs.declared.entries.Encoding.{Encoding}
 use Rattle.plcr_dwarf_cfi.specs.declared.entries.Extent.{Extent}

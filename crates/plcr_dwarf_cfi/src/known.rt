@@ -1,21 +1,29 @@
-//! What was found in the sections of a memory, kept so that an address is searched once.
+//! What was found in the sections of a memory, kept so that an address is searched once, and the front of a section that
+//! was read so that others are found sooner.
 ghost use Rattle.std.specs.Prelude.{◌≡◌, ◌<◌, All, IfSome, IsSome};
 ghost use Rattle.plcr_regs.specs.Frames.{IfFrame, IsOfThread, frame_lookup};
 ghost use Rattle.plcr_dwarf_cfi.specs.Caller.{call_frame};
 ghost use Rattle.plcr_dwarf_cfi.specs.Entries.{description_for};
 ghost use Rattle.plcr_dwarf_cfi.specs.Sections.{section_at};
-ghost use Rattle.plcr_dwarf_cfi.specs.inner.Keeping.{Holds, IsFound};
+ghost use Rattle.plcr_dwarf_cfi.specs.inner.Fronts.{IsRun};
+ghost use Rattle.plcr_dwarf_cfi.specs.inner.Keeping.{FrontHolds, Holds, IsFound};
 
 use crate::entries::FrameDescription;
 use crate::fault::CallFrameFault;
-use crate::steps::{find, step_from};
+use crate::front::{FRONT_RUNS, Run, description_with};
+use crate::sections::Surroundings;
+use crate::steps::step_from;
+use plcr_leb128::{Piece, Stored};
 use plcr_macho::{Image, Part};
 use plcr_memory::Memory;
 use plcr_regs::{Frame, Step};
 use std::marker::Model;
 
 /// The answers for so many addresses are kept.
-pub const KNOWN_DESCRIPTIONS: usize = 1024;
+pub const KNOWN_DESCRIPTIONS: usize = 512;
+
+/// The fronts of so many sections are kept.
+pub const KNOWN_FRONTS: usize = 32;
 
 // Addresses of code have much in common, so that slots are chosen by all of their bits (Knuth, multiplicative hashing).
 const SPREAD: u64 = 0x9e37_79b9_7f4a_7c15;
@@ -28,12 +36,107 @@ pub struct KnownDescription {
     pub answer: Result<FrameDescription, CallFrameFault>,
 }
 
+/// The front of a section that was read.
+#[derive(Clone, Copy)]
+pub struct KnownFront {
+    pub part: Part,
+    pub runs: [Run; FRONT_RUNS],
+}
+
 // The slot of an address.
 fn slot_of(address: u64) -> usize
     ensures { result < KNOWN_DESCRIPTIONS }
 {
     let spread = address.wrapping_mul(SPREAD) >> 32;
     (spread % KNOWN_DESCRIPTIONS as u64) as usize
+}
+
+// The slot of a section.
+fn front_slot(part: Part) -> usize
+    ensures { result < KNOWN_FRONTS }
+{
+    let spread = part.at.wrapping_mul(SPREAD) >> 32;
+    (spread % KNOWN_FRONTS as u64) as usize
+}
+
+#[tactic(auto, using(crate::proofs::Running::run_empty))]
+fn no_runs(memory: &Memory, part: Part) -> [Run; FRONT_RUNS]
+    ensures { All (IsRun (section_at memory.now part.at part.size)) result }
+{
+    [Run::at(0); FRONT_RUNS]
+}
+
+// What is kept of the front of a section.
+fn recall_front(
+    memory: &Memory,
+    slots: &[Option<KnownFront>; KNOWN_FRONTS],
+    part: Part,
+) -> Option<[Run; FRONT_RUNS]>
+    requires { All (FrontHolds memory.now) slots.now }
+    ensures { IfSome result (All (IsRun (section_at memory.now part.at part.size))) }
+{
+    let known = slots[front_slot(part)]?;
+    if known.part.at == part.at && known.part.size == part.size {
+        Some(known.runs)
+    } else {
+        None
+    }
+}
+
+// The same, and no runs where nothing is kept.
+fn front_of(
+    memory: &Memory,
+    slots: &[Option<KnownFront>; KNOWN_FRONTS],
+    part: Part,
+) -> [Run; FRONT_RUNS]
+    requires { All (FrontHolds memory.now) slots.now }
+    ensures { All (IsRun (section_at memory.now part.at part.size)) result }
+{
+    match recall_front(memory, slots, part) {
+        Some(runs) => runs,
+        None => no_runs(memory, part),
+    }
+}
+
+fn keep_front(memory: &Memory, slots: &mut [Option<KnownFront>; KNOWN_FRONTS], known: KnownFront)
+    requires hold { All (FrontHolds memory.now) slots.old }
+    requires is { All (IsRun (section_at memory.now known.part.at known.part.size)) known.runs }
+    ensures { All (FrontHolds memory.now) slots.new }
+{
+    let slot = front_slot(known.part);
+    slots[slot] = Some(known);
+}
+
+fn no_fronts(memory: &Memory) -> [Option<KnownFront>; KNOWN_FRONTS]
+    ensures { All (FrontHolds memory.now) result }
+{
+    [None; KNOWN_FRONTS]
+}
+
+// What `find` says, over the front of the section that was read.
+#[tactic(auto, using(crate::proofs::Stored::stored_description, crate::proofs::Stored::runs_stored, crate::proofs::Stored::stored_runs))]
+fn find_with(
+    memory: &Memory,
+    part: Part,
+    address: u64,
+    runs: &mut [Run; FRONT_RUNS],
+) -> Result<FrameDescription, CallFrameFault>
+    requires { All (IsRun (section_at memory.now part.at part.size)) runs.old }
+    ensures found { IsFound memory.now part address result }
+    ensures known { All (IsRun (section_at memory.now part.at part.size)) runs.new }
+{
+    let around = Surroundings {
+        memory,
+        at: part.at,
+        size: part.size,
+    };
+    match memory.stored(part.at, part.size) {
+        Some(bytes) => description_with(&Stored(bytes), &around, address, runs),
+        None => {
+            let piece = Piece::new(memory, part.at, part.size);
+            description_with(&piece, &around, address, runs)
+        }
+    }
 }
 
 // What is kept of an address in a section.
@@ -79,18 +182,18 @@ fn no_descriptions(memory: &Memory) -> [Option<KnownDescription>; KNOWN_DESCRIPT
 pub struct KnownDescriptions<'m> {
     memory: &'m Memory,
     slots: [Option<KnownDescription>; KNOWN_DESCRIPTIONS],
+    fronts: [Option<KnownFront>; KNOWN_FRONTS],
 }
 
 impl<'m> Model for KnownDescriptions<'m> {
-    ghost use Rattle.std.specs.Prelude.{All};
     ghost use Rattle.plcr_memory.specs.Regions.{Contents};
-    ghost use Rattle.plcr_dwarf_cfi.specs.inner.Keeping.{Holds};
+    ghost use Rattle.plcr_dwarf_cfi.specs.inner.Keeping.{HoldAll};
 
     ghost Value = { Contents };
 
     ghost view = { λ k. k.memory.now };
 
-    ghost invariant = { λ k. All (Holds k.memory.now) k.slots };
+    ghost invariant = { λ k. HoldAll k.memory.now k.slots k.fronts };
 }
 
 impl<'m> KnownDescriptions<'m> {
@@ -99,7 +202,12 @@ impl<'m> KnownDescriptions<'m> {
         ensures { result ≡ memory.now }
     {
         let slots = no_descriptions(memory);
-        KnownDescriptions { memory, slots }
+        let fronts = no_fronts(memory);
+        KnownDescriptions {
+            memory,
+            slots,
+            fronts,
+        }
     }
 
     /// What `find` says.
@@ -110,7 +218,9 @@ impl<'m> KnownDescriptions<'m> {
         if let Some(answer) = recall(self.memory, &self.slots, part, address) {
             return answer;
         }
-        let answer = find(self.memory, &part, address);
+        let mut runs = front_of(self.memory, &self.fronts, part);
+        let answer = find_with(self.memory, part, address, &mut runs);
+        keep_front(self.memory, &mut self.fronts, KnownFront { part, runs });
         let known = KnownDescription {
             part,
             address,

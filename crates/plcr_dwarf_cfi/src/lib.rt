@@ -13,6 +13,7 @@ mod entries;
 mod fault;
 #[cfg(test)]
 mod fixtures;
+mod front;
 mod instructions;
 mod known;
 mod laws;
@@ -28,12 +29,15 @@ mod unwind;
 
 pub use entries::{CommonInformation, Encoding, Extent, Format, FrameDescription};
 pub use fault::{CallFrameFault, EXPRESSION};
-pub use known::{KNOWN_DESCRIPTIONS, KnownDescriptions};
+pub use front::FRONT_RUNS;
+pub use known::{KNOWN_DESCRIPTIONS, KNOWN_FRONTS, KnownDescriptions};
 pub use laws::{instructions_are_spelled, rows_end_at_locations, the_first_is_found};
 pub use limits::{LINK_REGISTER, MOST_REMEMBERED, MOST_RULES};
 pub use steps::{find, step, step_from};
 
 #[cfg(test)]
 mod entry_tests;
+#[cfg(test)]
+mod known_tests;
 #[cfg(test)]
 mod tests;

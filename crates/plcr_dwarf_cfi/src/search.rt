@@ -72,9 +72,9 @@ fn entry_of<C: Cells>(
     description_at(cells, around, extent, id, recent)
 }
 
-// The entry at a place, and the place of the next one.
+/// The entry at a place, and the place of the next one.
 #[tactic(auto, unfolding(crate::specs::Entries::entry_at))]
-fn entry_at<C: Cells>(
+pub fn entry_at<C: Cells>(
     cells: &C,
     around: &Surroundings<'_>,
     place: u128,
@@ -103,8 +103,8 @@ fn covers(description: &FrameDescription, address: u64) -> bool
         && address - description.initial_location < description.address_range
 }
 
-// The entry's description, where it is one of code at the address.
-fn description_over(entry: &Entry, address: u64) -> Option<FrameDescription>
+/// The entry's description, where it is one of code at the address.
+pub fn description_over(entry: &Entry, address: u64) -> Option<FrameDescription>
     ensures { result ≡ description_over address entry.now }
 {
     match entry {

@@ -143,7 +143,10 @@ fn instructions_make_a_row(rt: HostRuntime) -> Result<(), Fail> {
     ];
     for (instructions, rbx, rsp, back) in cases {
         let found = by_instructions(rt.alloc(), instructions)?;
-        assert!(rt; found == caller(rbx, rsp, WORD.wrapping_add(back)), "{instructions:?}");
+        assert!(rt;
+            found == caller(rbx, rsp, WORD.wrapping_add(back)),
+            "{instructions:?}"
+        );
     }
     Ok(())
 }

@@ -1,3 +1,4 @@
+pub mod Groups
 pub mod Lengths
 pub mod Named
 pub mod Parsed

@@ -1,5 +1,5 @@
 -- How long the name of a symbol and a symbol are.
-use Rattle.std.proofs.Common.{◌≡◌, ℕ, zero, suc, ◌+◌, List, [], ◌∷◌, length, Option, Some, None, refl, ap, append-nil, length-append}
+use Rattle.std.proofs.Common.{◌≡◌, ℕ, zero, suc, ◌+◌, List, [], length, Option, Some, None, refl, ap, append-nil, length-append}
 use Rattle.std.specs.Prelude.{IsSome, unwrap_or}
 use Rattle.plcr_memory.specs.Regions.{Contents, byte_at, bytes_at, cons_known}
 use Rattle.plcr_wire.specs.Message.{field_spelling, bytes_field, number_field, spelling}

@@ -1,5 +1,5 @@
 -- The rows in which the frames of a thread are kept, one after the other as a walk tells them.
-use Rattle.std.proofs.Common.{◌≡◌, ℕ, ◌+◌, ◌<◌, ◌≤◌, List, [], ◌∷◌, ◌++◌, length, map, Option, Some, None, refl, sym, ap, ◌∙◌, append_assoc, append-nil, length-append, arith}
+use Rattle.std.proofs.Common.{◌≡◌, ℕ, ◌+◌, ◌<◌, ◌≤◌, List, [], ◌∷◌, ◌++◌, length, map, Option, Some, None, sym, ap, ◌∙◌, append_assoc, append-nil, length-append, arith}
 use Rattle.std.specs.Prelude.{unwrap_or}
 use Rattle.std.proofs.lemmas.List.{length-map}
 use Rattle.plcr_regs.specs.declared.arch.Arch.{Arch}
@@ -39,32 +39,31 @@ module _ (memory : Contents) (arch : Arch) (listed : List Listed) where
       λ k. record { pc = pc_at k; by = by_at k; lookup = at k; position = placed k; symbol = None }
 
   -- one more row is kept
-  pub row_more : (rows : List FrameRow) (before after all : List Given) (last now : Option Given) (answer : Option ℕ) (pc by lookup : ℕ) (position : Option ℕ)
+  pub row_more : (rows : List FrameRow) (before after : List Given) (whole : List FrameRow) (last now : Option Given) (answer : Option ℕ) (pc by lookup : ℕ) (position : Option ℕ)
       → Gives before after last now answer → answer ≡ Some pc
       → by ≡ unwrap_or (number_of now) 0 → lookup ≡ unwrap_or (lookup_of now) 0 → position ≡ position_of memory arch listed lookup
-      → rows ++ kept before ≡ kept all
-      → (rows ++ row_told pc by lookup position ∷ []) ++ kept after ≡ kept all
-  row_more rows [] after all last now answer pc by lookup position gives is by_is lookup_is position_is had = let none = gives.0 in absurd (cc)
-  row_more rows (x ∷ xs) after all last now answer pc by lookup position gives is by_is lookup_is position_is had =
+      → rows ++ kept before ≡ whole
+      → (rows ++ row_told pc by lookup position ∷ []) ++ kept after ≡ whole
+  row_more rows [] after whole last now answer pc by lookup position gives is by_is lookup_is position_is had = let none = gives.0 in absurd (cc)
+  row_more rows (x ∷ xs) after whole last now answer pc by lookup position gives is by_is lookup_is position_is had =
       let row = row_is x now pc by lookup position gives.2 (sym is ∙ gives.1) by_is lookup_is position_is in
       let others = gives.3 in
       append_assoc rows (row_told pc by lookup position ∷ []) (kept after) ∙ ((λ k. rows ++ (row k ∷ kept (others k))) ∙ had)
 
   -- where no frame comes, all rows are kept
-  pub rows_end : (rows : List FrameRow) (before after all : List Given) (last now : Option Given) (answer : Option ℕ)
-      → Gives before after last now answer → answer ≡ None → rows ++ kept before ≡ kept all → rows ≡ kept all
-  rows_end rows [] after all last now answer gives is had = sym (append-nil rows) ∙ had
-  rows_end rows (x ∷ xs) after all last now answer gives is had = let some = gives.0 in absurd (cc)
+  pub rows_end : (rows : List FrameRow) (before after : List Given) (whole : List FrameRow) (last now : Option Given) (answer : Option ℕ)
+      → Gives before after last now answer → answer ≡ None → rows ++ kept before ≡ whole → rows ≡ whole
+  rows_end rows [] after whole last now answer gives is had = sym (append-nil rows) ∙ had
+  rows_end rows (x ∷ xs) after whole last now answer gives is had = let some = gives.0 in absurd (cc)
 
   -- there is room for the row of a frame that comes
-  pub row_fits : (n : ℕ) (rows : List FrameRow) (before after all : List Given) (last now : Option Given) (answer : Option ℕ) (pc : ℕ)
-      → Gives before after last now answer → answer ≡ Some pc → rows ++ kept before ≡ kept all → length all ≤ n → length rows < n
-  row_fits n rows [] after all last now answer pc gives is had few = let none = gives.0 in absurd (cc)
-  row_fits n rows (x ∷ xs) after all last now answer pc gives is had few =
-      let sum : length rows + length (kept (x ∷ xs)) ≡ length (kept all) = sym (length-append rows (kept (x ∷ xs))) ∙ ap length had in
+  pub row_fits : (n : ℕ) (rows : List FrameRow) (before after : List Given) (whole : List FrameRow) (last now : Option Given) (answer : Option ℕ) (pc : ℕ)
+      → Gives before after last now answer → answer ≡ Some pc → rows ++ kept before ≡ whole → length whole ≤ n → length rows < n
+  row_fits n rows [] after whole last now answer pc gives is had few = let none = gives.0 in absurd (cc)
+  row_fits n rows (x ∷ xs) after whole last now answer pc gives is had few =
+      let sum : length rows + length (kept (x ∷ xs)) ≡ length whole = sym (length-append rows (kept (x ∷ xs))) ∙ ap length had in
       let left = length-map (x ∷ xs) (row_of memory arch listed) in
-      let whole = length-map all (row_of memory arch listed) in
-      omega (arith, sum, left, whole, few)
+      omega (arith, sum, left, few)
 
 -- a thread has no more frames than there are rows
 pub few_frames : (memory : Contents) (images : List Listed) (state : Registers) (bits : ℕ) → length (frames_of memory images state bits) ≤ MOST_FRAMES

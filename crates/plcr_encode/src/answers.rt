@@ -1,4 +1,4 @@
-//! The symbols of a thread's frames: one pass over the table of each image that its frames lie in.
+//! The symbols of frames: one pass over the table of each image that they lie in.
 ghost use Rattle.std.specs.Prelude.{◌≡◌, ◌<◌, ℕ, Option, All, IfSome, length, map};
 ghost use Rattle.std.specs.List.Sorted.{IsNonDecreasing, IsPermutation};
 ghost use Rattle.plcr_encode.specs.inner.FrameRows.{IsPlaced, symbol_by};
@@ -111,6 +111,7 @@ fn answer_rows<I: Images>(
 /// so that the table of each image is gone through once, and the rows keep their order.
 pub(crate) fn find_symbols<I: Images>(room: &mut Room, images: &mut I, memory: &Memory, arch: Arch)
     requires { All (IsPlaced (I.images images.old)) room.old.rows.items }
+    ensures counts { room.new.counts.items ≡ room.old.counts.items }
     ensures found { room.new.rows.items ≡ map (answered (symbol_by memory.now arch (I.images images.old))) room.old.rows.items }
     ensures same { I.images images.new ≡ I.images images.old }
     ensures index { I.extents images.new ≡ I.extents images.old }
@@ -118,6 +119,7 @@ pub(crate) fn find_symbols<I: Images>(room: &mut Room, images: &mut I, memory: &
 {
     let Room {
         rows,
+        counts: _,
         lookups,
         addresses,
         found,

@@ -1,9 +1,13 @@
-//! How long the parts of a report may be at most, in bytes.
+//! How many frames are found together, and how long the parts of a report may be at most, in bytes.
 use plcr_base::IMAGE_NAME_BYTES;
 use plcr_cursor::MOST_FRAMES;
 use plcr_regs::MOST_REGISTERS;
 use plcr_symbols::SYMBOL_NAME_BYTES;
 use plcr_wire::VARINT_BYTES;
+
+/// The frames of several threads are found together as long as they are no more than one thread may
+/// have. So there is always room for those of one more thread.
+pub const GROUP_FRAMES: usize = 2 * MOST_FRAMES;
 
 /// A field that is a number, or what stands before the bytes of a text or of a message.
 pub const FIELD_BYTES: u64 = 2 * VARINT_BYTES as u64;

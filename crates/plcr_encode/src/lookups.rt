@@ -1,13 +1,13 @@
-//! The addresses of a thread whose symbols are looked for, image by image.
+//! The addresses whose symbols are looked for, image by image.
 ghost use Rattle.std.specs.Prelude.{◌≡◌, ◌≤◌, ◌<◌, length, map};
 ghost use Rattle.std.specs.Bool.{OnTrue};
 ghost use Rattle.std.specs.List.{AllAdjacentBelow};
-ghost use Rattle.plcr_cursor.specs.declared.limits.TheConstants.{MOST_FRAMES};
+ghost use Rattle.plcr_encode.specs.declared.limits.TheConstants.{GROUP_FRAMES};
 ghost use Rattle.plcr_encode.specs.inner.Lookups.{Continues, address_of, lookups_for};
 
 use crate::frame_rows::FrameRow;
+use crate::limits::GROUP_FRAMES;
 use arrayvec::ArrayVec;
-use plcr_cursor::MOST_FRAMES;
 use plcr_symbols::SymbolAt;
 
 /// What is looked for a frame: an address, and the position of the image that has it.
@@ -30,8 +30,8 @@ impl Default for Lookup {
 }
 
 /// Lists what is looked for these rows, in place of what was listed before.
-pub(crate) fn list_lookups(lookups: &mut ArrayVec<Lookup, MOST_FRAMES>, rows: &[FrameRow])
-    requires { length rows.now ≤ MOST_FRAMES }
+pub(crate) fn list_lookups(lookups: &mut ArrayVec<Lookup, GROUP_FRAMES>, rows: &[FrameRow])
+    requires { length rows.now ≤ GROUP_FRAMES }
     ensures { lookups.new.items ≡ lookups_for rows.now }
 {
     lookups.clear();
@@ -47,11 +47,11 @@ pub(crate) fn list_lookups(lookups: &mut ArrayVec<Lookup, MOST_FRAMES>, rows: &[
 /// Lists the addresses that are looked for, with room for an answer to each, in place of those
 /// before.
 pub(crate) fn list_addresses(
-    addresses: &mut ArrayVec<u64, MOST_FRAMES>,
-    found: &mut ArrayVec<Option<SymbolAt>, MOST_FRAMES>,
+    addresses: &mut ArrayVec<u64, GROUP_FRAMES>,
+    found: &mut ArrayVec<Option<SymbolAt>, GROUP_FRAMES>,
     lookups: &[Lookup],
 )
-    requires { length lookups.now ≤ MOST_FRAMES }
+    requires { length lookups.now ≤ GROUP_FRAMES }
     ensures addresses { addresses.new.items ≡ map address_of lookups.now }
     ensures room { length found.new.items ≡ length lookups.now }
 {

@@ -18,6 +18,7 @@ use crate::images::put_images;
 use crate::parts::{ApplicationPart, InfoPart, ProcessPart, SignalPart, SystemPart};
 use crate::room::Room;
 use crate::threads::put_threads;
+use plcr_cursor::Known;
 use plcr_io::{PutFailed, Sink};
 use plcr_macho::Images;
 use plcr_memory::Memory;
@@ -41,10 +42,12 @@ fn put_root<I: Images, W: Ink>(
     ink: &mut W,
     room: &mut Room,
     images: &mut I,
+    known: &mut Known,
     memory: &Memory,
     threads: &[Registers],
     context: &Context,
 ) -> u64
+    requires memory { known.old ≡ memory.now }
     requires threads { AreWhole context.now.arch threads.now }
     requires context { IsWritable context.now }
     requires images { AreNamable (I.images images.old) }
@@ -57,7 +60,7 @@ fn put_root<I: Images, W: Ink>(
 {
     let system = put_message(ink, Report::SYSTEM_INFO, &SystemPart { context });
     let application = put_message(ink, Report::APPLICATION_INFO, &ApplicationPart { context });
-    let threads = put_threads(ink, room, images, memory, threads, context);
+    let threads = put_threads(ink, room, images, known, memory, threads, context);
     let images = put_images(ink, images, memory, context.arch);
     let signal = put_message(ink, Report::SIGNAL, &SignalPart { context });
     let process = put_message(ink, Report::PROCESS_INFO, &ProcessPart { context });
@@ -92,9 +95,18 @@ pub fn capture<I: Images, K: Sink>(
 {
     images.index(memory, context.arch);
     let mut room = Room::new();
+    let mut known = Known::new(memory);
     let mut buffered = Buffered::new(sink);
     let head = put_head(&mut buffered);
-    let length = put_root(&mut buffered, &mut room, images, memory, threads, context);
+    let length = put_root(
+        &mut buffered,
+        &mut room,
+        images,
+        &mut known,
+        memory,
+        threads,
+        context,
+    );
     buffered.finish()?;
     Ok(head + length)
 }

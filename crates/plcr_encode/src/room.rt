@@ -1,26 +1,30 @@
-//! The room in which a capture finds the frames of its threads, one thread after the other.
-ghost use Rattle.std.specs.Prelude.{◌≡◌, ◌≤◌, length};
-ghost use Rattle.plcr_cursor.specs.declared.limits.TheConstants.{MOST_FRAMES};
+//! The room in which a capture finds the frames of its threads, one group of threads after the other.
+ghost use Rattle.std.specs.Prelude.{◌≡◌};
 
 use crate::frame_rows::FrameRow;
+use crate::limits::GROUP_FRAMES;
 use crate::lookups::Lookup;
 use arrayvec::ArrayVec;
 use plcr_cursor::MOST_FRAMES;
 use plcr_symbols::SymbolAt;
 
-/// The frames of a thread, and what finding their symbols takes.
+/// The frames of a group of threads, and what finding their symbols takes.
 #[derive(Drop)]
 pub(crate) struct Room {
-    pub(crate) rows: ArrayVec<FrameRow, MOST_FRAMES>,
-    pub(crate) lookups: ArrayVec<Lookup, MOST_FRAMES>,
-    pub(crate) addresses: ArrayVec<u64, MOST_FRAMES>,
-    pub(crate) found: ArrayVec<Option<SymbolAt>, MOST_FRAMES>,
+    /// The frames, thread by thread.
+    pub(crate) rows: ArrayVec<FrameRow, GROUP_FRAMES>,
+    /// How many of them each thread has.
+    pub(crate) counts: ArrayVec<usize, MOST_FRAMES>,
+    pub(crate) lookups: ArrayVec<Lookup, GROUP_FRAMES>,
+    pub(crate) addresses: ArrayVec<u64, GROUP_FRAMES>,
+    pub(crate) found: ArrayVec<Option<SymbolAt>, GROUP_FRAMES>,
 }
 
 impl Room {
     pub(crate) fn new() -> Room {
         Room {
             rows: ArrayVec::new(),
+            counts: ArrayVec::new(),
             lookups: ArrayVec::new(),
             addresses: ArrayVec::new(),
             found: ArrayVec::new(),
@@ -29,9 +33,15 @@ impl Room {
 
     /// The rows of the frames that were found last.
     pub(crate) fn rows(&self) -> &[FrameRow]
-        ensures rows { result.now ≡ self.now.rows.items }
-        ensures few { length result.now ≤ MOST_FRAMES }
+        ensures { result.now ≡ self.now.rows.items }
     {
         self.rows.as_slice()
+    }
+
+    /// How many of them each thread has.
+    pub(crate) fn counts(&self) -> &[usize]
+        ensures { result.now ≡ self.now.counts.items }
+    {
+        self.counts.as_slice()
     }
 }

@@ -244,6 +244,46 @@ fn symbols_of_two_threads(rt: HostRuntime) -> Result<(), Fail> {
     Ok(())
 }
 
+// A stack of 300 saved frames from an address on, each of which goes back to `_next`.
+fn add_stack(made: &mut Made, start: u64) -> Result<(), AllocError> {
+    let from = made.file.len();
+    let mut here = start;
+    for _ in 1..300 {
+        here = here.wrapping_add(16);
+        made.add_numbers(&[here, A0 + 0xf81])?;
+    }
+    made.add_numbers(&[0, A0 + 0xf81])?;
+    made.place(start, from)
+}
+
+// Of threads whose frames are too many to be found together each has its own.
+#[test]
+fn symbols_of_many_frames(rt: HostRuntime) -> Result<(), Fail> {
+    let alloc = rt.alloc();
+    let mut made = Made::new(alloc);
+    made.add_image(A0, A0, 0x4000, &ROWS, NAMES)?;
+    add_stack(&mut made, 0x7000_0000)?;
+    let memory = made.memory(alloc)?;
+    let about = context(Arch::X86_64, 9, false);
+    let thread = stopped_at(0x7000_0000, A0 + 0xf50);
+    let mut out = MemOut::new(alloc, 40_000, 1000, Vec::new(alloc))?;
+    let _ = write_threads(&[image(A0, b"x")], &memory, &[thread; 4], &about, &mut out);
+    // What stands before the threads has 29 bytes; each thread has 301 frames, each of 23 bytes, and 204 others.
+    let mut rest = out.bytes().split_at(out.bytes().len().min(29)).1;
+    for number in 0..4u8 {
+        let (one, behind) = rest.split_at(rest.len().min(7127));
+        assert!(rt; one.starts_with(&[0x1a, 0xd4, 0x37, 0x08, number]));
+        let frames = one.split_at(one.len().min(5)).1;
+        assert!(rt; frames.starts_with(MAIN));
+        for frame in frames.split_at(frames.len().min(23)).1.chunks(23).take(300) {
+            assert_eq!(rt; frame, NEXT_AT_F81.as_slice());
+        }
+        rest = behind;
+    }
+    assert!(rt; rest.starts_with(b"\x22\x18"));
+    Ok(())
+}
+
 // Where an image lies counts, and not where it was linked, also where its slide passes the last
 // address.
 #[test]

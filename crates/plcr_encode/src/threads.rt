@@ -1,13 +1,18 @@
 //! The threads of a report, with their registers.
-ghost use Rattle.std.specs.Prelude.{◌≡◌, ◌+◌, ◌*◌, ◌<◌, ◌≤◌, length};
+ghost use Rattle.std.specs.Prelude.{◌≡◌, ◌+◌, ◌*◌, ◌^◌, ◌<◌, ◌≤◌, All, List, length, map};
+ghost use Rattle.std.specs.List.{enumerate_from};
 ghost use Rattle.plcr_cursor.specs.Walks.{IsIndex};
+ghost use Rattle.plcr_regs.specs.declared.registers.Registers as regs;
 ghost use Rattle.plcr_regs.specs.declared.limits.TheConstants.{MOST_REGISTERS};
 ghost use Rattle.plcr_wire.specs.Pen.{Wrote};
 ghost use Rattle.plcr_wire.specs.Message.{spelling};
 ghost use Rattle.plcr_report.specs.Messages.{register_message, thread_message};
+ghost use Rattle.plcr_report.specs.declared.messages.Frame as report_frame;
+ghost use Rattle.plcr_encode.specs.inner.FrameRows.{IsNamedIn};
+ghost use Rattle.plcr_encode.specs.inner.Groups.{AreRowsOf, numbered_thread};
 ghost use Rattle.plcr_encode.specs.inner.Rows.{message_fields};
 ghost use Rattle.plcr_regs.specs.Names.{register_count};
-ghost use Rattle.plcr_encode.specs.declared.limits.TheConstants.{FIELD_BYTES, REGISTER_BYTES, REGISTER_NAME_BYTES, THREADS_BYTES};
+ghost use Rattle.plcr_encode.specs.declared.limits.TheConstants.{FIELD_BYTES, REGISTER_BYTES, REGISTER_NAME_BYTES, THREAD_BYTES, THREADS_BYTES};
 ghost use Rattle.plcr_encode.specs.Conditions.{AreWhole};
 ghost use Rattle.plcr_encode.specs.Values.{register_at, registers_of, threads_of, value_at};
 
@@ -20,6 +25,7 @@ use crate::frame_parts::{frames_len, put_frames};
 use crate::frame_rows::FrameRow;
 use crate::frames::find_frames;
 use crate::room::Room;
+use plcr_cursor::Known;
 use plcr_macho::Images;
 use plcr_memory::Memory;
 use plcr_regs::{Registers, count, name};
@@ -144,16 +150,56 @@ impl Message for ThreadPart<'_> {
     ghost moderate = { lit< tt };
 }
 
-/// Writes the threads in these states, numbered from 0, and gives the length of what was written.
-/// The frames of a thread are found once, and kept in the rows while it is sized and written.
+/// Writes threads in these states, numbered from a number on, whose rows stand one behind the other,
+/// and gives the length of what was written. The counts tell how many rows each thread has.
+fn put_group<W: Ink>(
+    ink: &mut W,
+    memory: &Memory,
+    rows: &[FrameRow],
+    counts: &[usize],
+    states: &[Registers],
+    first: usize,
+    crashed: u32,
+) -> u64
+    requires few { first + length states.now < 2 ^ 32 }
+    requires rows { (frames : regs.Registers → List report_frame.Frame) × AreRowsOf frames memory.now rows.now counts.now states.now }
+    requires named { All (IsNamedIn memory.now) rows.now }
+    ensures wrote { (frames : regs.Registers → List report_frame.Frame) → AreRowsOf frames memory.now rows.now counts.now states.now
+        → Wrote (W.pen ink.old) (W.pen ink.new) (spelling (message_fields Report.THREADS thread_message (map (numbered_thread crashed frames) (enumerate_from first states.now)))) }
+    ensures size { (frames : regs.Registers → List report_frame.Frame) → AreRowsOf frames memory.now rows.now counts.now states.now
+        → result ≡ length (spelling (message_fields Report.THREADS thread_message (map (numbered_thread crashed frames) (enumerate_from first states.now)))) }
+    ensures short { result ≤ (FIELD_BYTES + THREAD_BYTES) * length states.now }
+{
+    let mut rest = rows;
+    let mut length = 0;
+    for (k, state) in states.iter().enumerate() {
+        let (own, behind) = rest.split_at(counts[k]);
+        let part = ThreadPart {
+            number: (first + k) as u32,
+            crashed,
+            memory,
+            rows: own,
+            state,
+        };
+        length += put_message(ink, Report::THREADS, &part);
+        rest = behind;
+    }
+    length
+}
+
+/// Writes the threads in these states, numbered from 0, and gives the length of what was written. The
+/// frames of a thread are found once, those of several threads together, and kept in the rows while
+/// the threads are sized and written.
 pub(crate) fn put_threads<I: Images, W: Ink>(
     ink: &mut W,
     room: &mut Room,
     images: &mut I,
+    known: &mut Known,
     memory: &Memory,
     states: &[Registers],
     context: &Context,
 ) -> u64
+    requires memory { known.old ≡ memory.now }
     requires whole { AreWhole context.now.arch states.now }
     requires bits { (32 ≤ context.now.bits) × (context.now.bits ≤ 64) }
     requires index { IsIndex memory.now context.now.arch (I.images images.old) (I.extents images.old) }
@@ -164,18 +210,28 @@ pub(crate) fn put_threads<I: Images, W: Ink>(
     ensures follows { I.follows images.old images.new }
 {
     let mut length = 0;
-    for (number, state) in states.iter().enumerate() {
-        // A read tells the proof how many places a state has.
-        let _first = state.value[0];
-        find_frames(room, images, memory, state, context.bits);
-        let part = ThreadPart {
-            number: number as u32,
-            crashed: context.crashed,
+    let mut done = 0;
+    while done < states.len() {
+        let left = &states[done..];
+        let count = find_frames(
+            room,
+            images,
+            known,
             memory,
-            rows: room.rows(),
-            state,
-        };
-        length += put_message(ink, Report::THREADS, &part);
+            context.arch,
+            left,
+            context.bits,
+        );
+        length += put_group(
+            ink,
+            memory,
+            room.rows(),
+            room.counts(),
+            &left[..count],
+            done,
+            context.crashed,
+        );
+        done += count;
     }
     length
 }

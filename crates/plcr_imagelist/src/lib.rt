@@ -6,6 +6,8 @@ mod books;
 mod bounds;
 mod change;
 mod hold;
+#[cfg(test)]
+mod holding_tests;
 mod index;
 #[cfg(test)]
 mod index_tests;

@@ -20,11 +20,13 @@ fn main(rt: HostRuntime) -> io::Result<ExitCode> {
     }
     match words::read(words.as_slice()) {
         Some(Task::Changes { nodes, rounds }) => changes::race(&rt, nodes, rounds)?,
-        Some(Task::Walks {
-            nodes,
-            readers,
-            rounds,
-        }) => walks::race(&rt, nodes, readers, rounds)?,
+        Some(
+            Task::Walks {
+                nodes,
+                readers,
+                rounds,
+            },
+        ) => walks::race(&rt, nodes, readers, rounds)?,
         None => {
             println!(rt; "changes NODES ROUNDS\nwalks NODES READERS ROUNDS")?;
             let good = words.is_empty();

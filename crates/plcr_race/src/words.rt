@@ -4,7 +4,10 @@
 #[derive(Clone, Copy, Debug, PartialEq, Eq)]
 pub enum Task {
     /// Loads and unloads in a list of so many nodes, so often.
-    Changes { nodes: u32, rounds: u32 },
+    Changes {
+        nodes: u32,
+        rounds: u32,
+    },
     /// Walks in a list of so many nodes by so many readers, each so often.
     Walks {
         nodes: u32,

@@ -5,11 +5,13 @@
 mod head;
 mod kinds;
 mod messages;
+mod numbers;
 
-pub use head::{MAGIC, VERSION};
+pub use head::{MAGIC, VERSION, file_head};
 pub use kinds::{Holds, Kind};
 pub use messages::{
     Application, Frame, Image, Info, Process, Processor, Register, Report, Signal, Symbol, System,
     Thread,
 };
+pub use numbers::field_numbers;
 pub use plcr_base::{Bytes, Rows};

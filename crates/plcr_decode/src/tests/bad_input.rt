@@ -102,7 +102,8 @@ fn lengths_and_varints_end_with_their_message(rt: HostRuntime) -> Result<(), Fai
             [b"\x1a\x0b\x12".as_slice(), MOST, b"\x78\x05"],
             DecodeFault::Truncated { at: 21 },
         ),
-        // A varint of ten bytes that has too many bits: as a tag, a length, a number, a number in a signal.
+        // A varint of ten bytes that has too many bits: as a tag, a length, a number, a number in a
+        // signal.
         (
             [b"".as_slice(), TOO_WIDE, b"\x00"],
             DecodeFault::BadVarint { at: 8 },
@@ -177,8 +178,8 @@ fn a_wrong_wire_type_is_told_once_the_value_is_passed(rt: HostRuntime) -> Result
 #[test]
 fn numbers_of_64_bits_are_read_and_shorter_ones_cut(rt: HostRuntime) -> Result<(), Fail> {
     let alloc = rt.alloc();
-    // The system and the application of the file, a signal at 2^64 - 1, and a process with the numbers 2^32 + 5,
-    // 2^64 - 1 and 2.
+    // The system and the application of the file, a signal at 2^64 - 1, and a process with the
+    // numbers 2^32 + 5, 2^64 - 1 and 2.
     let front = FILE.as_slice().split_at(29).0.split_at(8).1;
     let signal = b"\x32\x11\x0a\x01s\x12\x01c\x18".as_slice();
     let process = b"\x3a\x13\x10\x85\x80\x80\x80\x10\x28".as_slice();

@@ -4,7 +4,8 @@ use crate::{DecodeFault, decode};
 use plcr_report::Kind;
 use std::test::Fail;
 
-/// What the file cut to `n` bytes is refused with. Cut behind the signal or the process it is a report.
+/// What the file cut to `n` bytes is refused with. Cut behind the signal or the process it is a
+/// report.
 fn refused(n: usize) -> Option<DecodeFault> {
     let message = Kind::Root;
     match n {

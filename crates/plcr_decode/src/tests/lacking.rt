@@ -10,7 +10,8 @@ enum Value<'a> {
     Bytes(&'a [u8]),
 }
 
-/// A way to write a report with all fields: without these, in rising order of the fields or in falling one.
+/// A way to write a report with all fields: without these, in rising order of the fields or in
+/// falling one.
 #[derive(Clone, Copy)]
 struct Writing<'a> {
     alloc: Global,
@@ -208,7 +209,8 @@ impl<'a> Writing<'a> {
     }
 }
 
-/// What a report without these fields is refused with, its fields in rising order and in falling one.
+/// What a report without these fields is refused with, its fields in rising order and in falling
+/// one.
 fn refused_without(
     alloc: Global,
     left_out: &[(Kind, u8)],
@@ -270,7 +272,8 @@ fn each_field_is_required_or_not(rt: HostRuntime) -> Result<(), Fail> {
 #[test]
 fn of_several_that_lack_the_first_is_told(rt: HostRuntime) -> Result<(), Fail> {
     let alloc = rt.alloc();
-    // Of each pair the first is told: a message's own before those in it, then by number, wherever they stand.
+    // Of each pair the first is told: a message's own before those in it, then by number, wherever
+    // they stand.
     let rows = [
         ((Kind::Root, 6), (Kind::System, 1)),
         ((Kind::System, 2), (Kind::System, 4)),
@@ -340,7 +343,8 @@ fn within(alloc: Global, tags: &[u8], field: [u8; 2]) -> Result<Vec<u8>, Fail> {
 #[test]
 fn each_field_has_one_wire_type(rt: HostRuntime) -> Result<(), Fail> {
     let alloc = rt.alloc();
-    // For each message the tags of those around it and its own, its numbers, and its texts and messages.
+    // For each message the tags of those around it and its own, its numbers, and its texts and
+    // messages.
     let rows: [(&[u8], &[u8], &[u8]); 12] = [
         (b"", &[], &[1, 2, 3, 4, 6, 7, 9]),
         (b"\x0a", &[1, 3, 4], &[2, 5]),

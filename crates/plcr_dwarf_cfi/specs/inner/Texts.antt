@@ -1,5 +1,5 @@
 -- Augmentation texts, letter by letter, and common information entries that were read last.
-use Rattle.std.specs.Prelude.{◌≡◌, ℕ, ◌+◌, ◌==◌, not, Bool, true, false, if◌then◌else◌, List, [], ◌∷◌, length, Option, Some, None, IfSome, ok_or, Result, Ok, Err}
+use Rattle.std.specs.Prelude.{◌≡◌, ℕ, ◌+◌, ◌==◌, Bool, true, false, if◌then◌else◌, List, [], ◌∷◌, length, Option, Some, None, IfSome, ok_or, Result, Ok, Err}
 use Rattle.plcr_base.specs.Chains.{◌>>=◌, result_map}
 use Rattle.plcr_dwarf_cfi.specs.declared.augmentations.TheConstants.{AUGMENTED}
 use Rattle.plcr_dwarf_cfi.specs.declared.common.Recent.{Recent}

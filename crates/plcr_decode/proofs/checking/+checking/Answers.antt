@@ -1,5 +1,5 @@
 -- The first fault is that of a field or of the message in it; where there is none, what is known of all fields tells.
-use Rattle.std.proofs.Common.{◌≡◌, ◌<◌, [], rules, sym, ap, ◌∙◌, length, Some, None, arith}
+use Rattle.std.proofs.Common.{◌≡◌, [], rules, sym, ap, ◌∙◌, Some, None, arith}
 use Rattle.std.proofs.lemmas.List.{nil_from_length}
 use Rattle.std.proofs.lemmas.Result.{err_from_is_err_and}
 use Rattle.plcr_report.specs.declared.kinds.Holds.TheVariants as holds

@@ -6,7 +6,7 @@ use Rattle.plcr_wire.specs.Reading.{field_slice}
 use Rattle.plcr_decode.specs.Fields.{fields_of}
 use Rattle.plcr_decode.specs.Required.{whole}
 use Rattle.plcr_decode.specs.Scan as spec
-use Rattle.plcr_decode.specs.inner.Marks.{told_lack, before}
+use Rattle.plcr_decode.specs.inner.Marks.{before}
 use Rattle.plcr_decode.proofs.Kept.{keeps_more, keeps_all, few_more}
 use Rattle.plcr_decode.proofs.Listed.{fields_none}
 use Rattle.plcr_decode.proofs.Scans.{scan_none}

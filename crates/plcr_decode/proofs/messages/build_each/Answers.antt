@@ -1,5 +1,4 @@
 -- One field more is passed: its message is built where it is of one of the numbers.
-use Rattle.std.proofs.Common.{length}
 use Rattle.plcr_wire.specs.Reading.{field_slice}
 use Rattle.plcr_decode.specs.Fields.{fields_of}
 use Rattle.plcr_decode.proofs.Rowed.{rows_more, room_more}

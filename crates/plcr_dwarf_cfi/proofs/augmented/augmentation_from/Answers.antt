@@ -1,4 +1,4 @@
-use Rattle.std.proofs.Common.{◌≡◌, ◌∙◌, Ok, Some, sym, refl}
+use Rattle.std.proofs.Common.{◌≡◌, ◌∙◌, Ok, Some, sym}
 use Rattle.plcr_dwarf_cfi.specs.Entries.{letter_at}
 use Rattle.plcr_dwarf_cfi.specs.Sections.{Section}
 use Rattle.plcr_dwarf_cfi.specs.inner.Settings.{section}

@@ -1,4 +1,4 @@
-use Rattle.std.proofs.Common.{◌≡◌, ◌∙◌, sym, refl}
+use Rattle.std.proofs.Common.{◌∙◌, sym}
 use Rattle.plcr_dwarf_cfi.proofs.Texts.{text_ends, text_fails, text_start}
 use Rattle.plcr_dwarf_cfi.specs.inner.Settings.{section}
 use Rattle.plcr_dwarf_cfi.proofs.augmented.text_at.Goals as goal

@@ -1,4 +1,4 @@
-use Rattle.std.proofs.Common.{◌≡◌, ◌<◌, ◌∙◌, length, slice_index_or, None, Err, sym, refl, arith}
+use Rattle.std.proofs.Common.{◌≡◌, ◌<◌, ◌∙◌, length, slice_index_or, None, Err, sym, arith}
 use Rattle.plcr_dwarf_cfi.specs.Caller.{replaced_by}
 use Rattle.plcr_dwarf_cfi.proofs.Callers.{replaced_fails}
 use Rattle.plcr_dwarf_cfi.proofs.caller.replace_all.Goals as goal

@@ -1,7 +1,8 @@
-use Rattle.std.proofs.Common.{◌≡◌, ◌<◌, ◌∙◌, ℕ, ◌+◌, ◌-◌, ap, sym, refl, arith}
+use Rattle.std.proofs.Common.{◌≡◌, ◌<◌, ◌∙◌, ℕ, ◌+◌, ◌-◌, ap, sym, arith}
 use Rattle.plcr_dwarf_cfi.specs.Sections.{Section}
 use Rattle.plcr_dwarf_cfi.specs.inner.Settings.{section}
-use Rattle.plcr_dwarf_cfi.proofs.Searches.{found_from, search_fails, search_out, search_start}
+use Rattle.plcr_dwarf_cfi.proofs.Searches.{search_fails, search_out, search_start}
+use Rattle.plcr_dwarf_cfi.specs.inner.Fronts.{found_from}
 use Rattle.plcr_dwarf_cfi.proofs.search.description_for.Goals as goal
 
 pub loop-done-init : goal.loop-done-init

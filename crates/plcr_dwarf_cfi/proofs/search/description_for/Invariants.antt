@@ -1,8 +1,6 @@
-use Rattle.std.proofs.Common.{◌≡◌, ◌-◌, ◌+◌}
-use Rattle.plcr_dwarf_cfi.specs.Entries.{description_for}
+use Rattle.std.proofs.Common.{◌-◌, ◌+◌}
 use Rattle.plcr_dwarf_cfi.specs.inner.Settings.{section}
-use Rattle.plcr_dwarf_cfi.specs.inner.Texts.{IsRecent}
-use Rattle.plcr_dwarf_cfi.proofs.Searches.{Going, found_from}
+use Rattle.plcr_dwarf_cfi.proofs.Searches.{Going}
 use Rattle.plcr_dwarf_cfi.proofs.search.description_for.Given as goal
 
 abbrev pub invariant-loop-done : goal.invariant-loop-done

@@ -1,6 +1,4 @@
-use Rattle.std.proofs.Common.{◌≡◌, ◌∙◌, ℕ, ◌-◌, Ok, Err, Some, None, true, sym, ap, refl, arith}
-use Rattle.plcr_dwarf_cfi.specs.declared.entries.CommonInformation.{CommonInformation}
-use Rattle.plcr_dwarf_cfi.specs.declared.entries.Extent.{Extent}
+use Rattle.std.proofs.Common.{◌≡◌, ◌∙◌, ℕ, ◌-◌, Ok, Err, Some, true, sym, ap, arith}
 use Rattle.plcr_dwarf_cfi.specs.Instructions.{instruction_before}
 use Rattle.plcr_dwarf_cfi.specs.Rows.{applied, is_past}
 use Rattle.plcr_dwarf_cfi.specs.Sections.{Section, within}

@@ -1,10 +1,10 @@
-use Rattle.std.proofs.Common.{◌≡◌, ◌+◌, ◌-◌, List, length, map, take, drop, get_or, sym, subst, ◌∙◌, arith, ℕ, Option}
+use Rattle.std.proofs.Common.{◌≡◌, ◌+◌, ◌-◌, List, map, take, drop, sym, subst, ◌∙◌, arith, ℕ, Option}
 use Rattle.std.specs.List.Sorted.{IsNonDecreasing}
 use Rattle.std.proofs.lemmas.List.{length-drop, length-take-le}
 use borrow.Rule.Slice.PartMut.{put_mid}
 use Rattle.plcr_symbols.specs.declared.symbol.SymbolAt.{SymbolAt}
 use Rattle.plcr_encode.specs.inner.FrameRows.{symbol_by}
-use Rattle.plcr_encode.specs.inner.Lookups.{address_of, answer}
+use Rattle.plcr_encode.specs.inner.Lookups.{answer}
 use Rattle.plcr_encode.proofs.Runs.{answers_all, answers_more, replaced_length, rest_answers, rest_run, run_addresses, run_inside, run_rises, run_room, no_lookup}
 use Rattle.plcr_encode.proofs.answers.answer_all.Goals as goal
 

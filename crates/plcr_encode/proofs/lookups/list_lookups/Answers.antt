@@ -1,7 +1,4 @@
-use Rattle.std.proofs.Common.{◌≡◌, ◌<◌, ◌++◌, ◌∷◌, [], length, map, drop, get_or, ap, sym, ◌∙◌, append_assoc, arith}
-use Rattle.std.specs.List.{enumerate_from}
-use Rattle.plcr_encode.specs.inner.Lookups.{lookup_for, lookups_for}
-use Rattle.plcr_encode.proofs.Rows.{numbered_step}
+use Rattle.std.proofs.Common.{arith}
 use Rattle.plcr_encode.proofs.Spread.{lookups_fit, lookups_more}
 use Rattle.plcr_encode.proofs.lookups.list_lookups.Goals as goal
 

@@ -1,5 +1,5 @@
 -- What is kept and the fields that are left give the last values; each field passed has a byte at least.
-use Rattle.std.proofs.Common.{◌-◌, ◌≤◌, length}
+use Rattle.std.proofs.Common.{◌-◌, ◌≤◌}
 use Rattle.plcr_decode.specs.inner.Views.{left, size}
 use Rattle.plcr_decode.specs.inner.Lasts.{KeepsUpTo}
 use Rattle.plcr_decode.proofs.Kept.{Few}

@@ -1,5 +1,4 @@
-use Rattle.std.proofs.Common.{◌≡◌, ◌+◌, length, arith}
-use Rattle.plcr_wire.specs.Message.{bytes_field, field_spelling}
+use Rattle.std.proofs.Common.{arith}
 use Rattle.plcr_encode.specs.Frames.{name_of}
 use Rattle.plcr_encode.proofs.Named.{mapped_length, symbol_length}
 use Rattle.plcr_encode.proofs.frame_parts.SymbolPartMessage.len.Goals as goal

@@ -1,0 +1,9 @@
+use Rattle.std.proofs.Common.{Option, None, subst, sym}
+use Rattle.std.proofs.lemmas.List.{get_or-replicate}
+use Rattle.plcr_dwarf_cfi.specs.declared.known.KnownFront.{KnownFront}
+use Rattle.plcr_dwarf_cfi.specs.declared.known.TheConstants.{KNOWN_FRONTS}
+use Rattle.plcr_dwarf_cfi.specs.inner.Keeping.{FrontHolds}
+use Rattle.plcr_dwarf_cfi.proofs.known.no_fronts.Goals as goal
+
+pub returns : goal.returns
+returns c k d within = subst (λ (known : Option KnownFront). FrontHolds c.args.memory.now known) (sym (get_or-replicate KNOWN_FRONTS k None d within)) tt

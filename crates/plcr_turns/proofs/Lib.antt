@@ -1,0 +1,11 @@
+pub mod Shares
+pub mod Views
+pub mod Beginning
+pub mod Going
+pub mod Handed
+pub mod Turned
+pub mod Working
+pub mod Gathered
+pub mod Fronts
+pub mod Opened
+pub mod Journaled

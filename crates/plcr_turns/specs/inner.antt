@@ -1,0 +1,2 @@
+-- Words that only tests cite.
+pub mod Ready
