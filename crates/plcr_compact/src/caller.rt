@@ -1,6 +1,9 @@
 use arrayvec::ArrayVec;
 use plcr_regs::MOST_REGISTERS;
 
+/// How many bytes a word of the stack has.
+pub const WORD: u64 = 8;
+
 /// A word on the stack that a function saved: where it stands, counted without modulo, and the place of the register
 /// whose value it is.
 #[derive(Clone, Copy, Debug, Default, PartialEq, Eq)]

@@ -8,15 +8,15 @@ ghost use Rattle.plcr_compact.specs.declared.encoding.TheConstants.{PAIRS};
 ghost use Rattle.plcr_regs.specs.declared.limits.TheConstants.{MOST_REGISTERS};
 
 use crate::bad::{NO_REGISTERS, NOT_MAPPED, OUT_OF_RANGE};
-use crate::caller::{Caller, SavedWord, Words};
+use crate::caller::{Caller, SavedWord, WORD, Words};
 use crate::encoding::{Encoding, FRAME_REGISTERS, PAIRS, Permutation, SavedRegister};
 use crate::permutation::saved_registers;
 use arrayvec::ArrayVec;
 use plcr_memory::Memory;
 use plcr_regs::{Frame, MOST_REGISTERS, fp_place, lr_place, pc_place, sp_place};
 
-/// How many bytes a register has on the stack.
-const WORD: i128 = 8;
+// The same as a signed number.
+const SIGNED_WORD: i128 = WORD as i128;
 
 // The place of a register that x86-64's functions save.
 #[tactic(auto, unfolding(crate::specs::Callers::saved_place))]
@@ -47,7 +47,7 @@ fn push_registers(words: &mut Words, at: i128, registers: &[SavedRegister])
             at,
             place: saved_place(*register),
         });
-        at += WORD;
+        at += SIGNED_WORD;
     }
 }
 
@@ -75,7 +75,7 @@ fn push_fields(words: &mut Words, at: i128, registers: &[Option<SavedRegister>])
     let mut at = at;
     for register in registers {
         push_field(words, at, *register);
-        at += WORD;
+        at += SIGNED_WORD;
     }
 }
 
@@ -95,10 +95,10 @@ fn push_pair(words: &mut Words, top: i128, saved: bool, places: (usize, usize)) 
         place: places.0,
     });
     words.push(SavedWord {
-        at: top - WORD,
+        at: top - SIGNED_WORD,
         place: places.1,
     });
-    top - 2 * WORD
+    top - 2 * SIGNED_WORD
 }
 
 // The places of a pair of arm64's registers.
@@ -159,13 +159,13 @@ fn framed(frame: &Frame, pointer: u64, words: Words) -> Caller
         place: fp_place(arch),
     });
     words.push(SavedWord {
-        at: at + WORD,
+        at: at + SIGNED_WORD,
         place: pc_place(arch),
     });
     let value = kept(frame);
     Caller {
         value,
-        stack: at + 2 * WORD,
+        stack: at + 2 * SIGNED_WORD,
         words,
     }
 }
@@ -179,11 +179,11 @@ fn frameless(frame: &Frame, pointer: u64, size: u64, registers: &[SavedRegister]
     let mut words = Words::new();
     push_registers(
         &mut words,
-        stack - (8 + 8 * registers.len() as i128),
+        stack - SIGNED_WORD - SIGNED_WORD * registers.len() as i128,
         registers,
     );
     words.push(SavedWord {
-        at: stack - WORD,
+        at: stack - SIGNED_WORD,
         place: pc_place(frame.registers.arch),
     });
     let value = kept(frame);
@@ -200,7 +200,7 @@ fn frameless_by(frame: &Frame, size: Option<u64>, saved: Permutation) -> Result<
     ensures { result_map caller_of result ≡ frameless_by frame.now size saved }
 {
     let registers = saved_registers(saved).ok_or(NO_REGISTERS)?;
-    let least = 8 + 8 * registers.len() as u64;
+    let least = WORD + WORD * registers.len() as u64;
     if matches!(size, Some(size) if size < least) {
         return Err(NO_REGISTERS);
     }
@@ -223,7 +223,7 @@ fn leaf(frame: &Frame, pointer: u64, back: u64, size: u32, pairs: &[bool; PAIRS]
 {
     let stack = i128::from(pointer) + i128::from(size);
     let mut words = Words::new();
-    push_pairs(&mut words, stack - WORD, pairs);
+    push_pairs(&mut words, stack - SIGNED_WORD, pairs);
     let mut value = kept(frame);
     value[pc_place(frame.registers.arch)] = Some(back);
     Caller {
@@ -278,7 +278,7 @@ pub fn caller_by(
         }
         Encoding::Frame { pairs } => {
             let pointer = needed(frame, fp_place(arch))?;
-            push_pairs(&mut words, i128::from(pointer) - WORD, pairs);
+            push_pairs(&mut words, i128::from(pointer) - SIGNED_WORD, pairs);
             Ok(framed(frame, pointer, words))
         }
     }

@@ -7,21 +7,18 @@ ghost use Rattle.plcr_compact.specs.Callers.{filled, frame_of, is_outside, read_
 ghost use Rattle.plcr_compact.specs.inner.Carrying.{AreRegisters, caller_of};
 
 use crate::bad::{NOT_MAPPED, OUT_OF_RANGE};
-use crate::caller::{Caller, SavedWord};
+use crate::caller::{Caller, SavedWord, WORD};
 use plcr_memory::Memory;
 use plcr_regs::{Frame, MOST_REGISTERS, Registers, pc_place, sp_place};
 
 /// Where the addresses of 64 bits end.
 const END: i128 = 1 << 64;
 
-/// How many bytes a word has.
-const WORD: i128 = 8;
-
 // Whether the word begins below 0 or ends above 2^64.
 fn is_outside(word: &SavedWord) -> bool
     ensures { result ≡ is_outside word.now }
 {
-    word.at < 0 || word.at > END - WORD
+    word.at < 0 || word.at > END - i128::from(WORD)
 }
 
 // Whether some word is.

@@ -21,6 +21,14 @@ use crate::masks::{
 use crate::words::field;
 use plcr_regs::Arch;
 
+// Sizes of x86-64 are told in words, those of arm64 in pairs of registers.
+const WORD_BYTES: u32 = 8;
+
+const PAIR_BYTES: u32 = 16;
+
+// A field of 3 bits has so many values.
+const REGISTER_FIELD: u32 = 8;
+
 // The register with a number in a frame with rbp.
 #[tactic(auto, unfolding(crate::specs::Encodings::frame_register))]
 fn frame_register(number: u32) -> Result<Option<SavedRegister>, u8>
@@ -41,11 +49,15 @@ fn frame_register(number: u32) -> Result<Option<SavedRegister>, u8>
 fn frame_registers(fields: u32) -> Result<[Option<SavedRegister>; FRAME_REGISTERS], u8>
     ensures { result ≡ frame_registers FRAME_REGISTERS fields }
 {
-    let first = frame_register(fields % 8)?;
-    let second = frame_register(fields / 8 % 8)?;
-    let third = frame_register(fields / 8 / 8 % 8)?;
-    let fourth = frame_register(fields / 8 / 8 / 8 % 8)?;
-    let fifth = frame_register(fields / 8 / 8 / 8 / 8 % 8)?;
+    let first = frame_register(fields % REGISTER_FIELD)?;
+    let rest = fields / REGISTER_FIELD;
+    let second = frame_register(rest % REGISTER_FIELD)?;
+    let rest = rest / REGISTER_FIELD;
+    let third = frame_register(rest % REGISTER_FIELD)?;
+    let rest = rest / REGISTER_FIELD;
+    let fourth = frame_register(rest % REGISTER_FIELD)?;
+    let rest = rest / REGISTER_FIELD;
+    let fifth = frame_register(rest % REGISTER_FIELD)?;
     Ok([first, second, third, fourth, fifth])
 }
 
@@ -67,17 +79,17 @@ fn x86_64_encoding(word: u32) -> Result<Encoding, u8>
         UNWIND_X86_64_MODE_RBP_FRAME => {
             let registers = frame_registers(field(word, UNWIND_X86_64_RBP_FRAME_REGISTERS))?;
             Ok(Encoding::RbpFrame {
-                offset: 8 * field(word, UNWIND_X86_64_RBP_FRAME_OFFSET),
+                offset: WORD_BYTES * field(word, UNWIND_X86_64_RBP_FRAME_OFFSET),
                 registers,
             })
         }
         UNWIND_X86_64_MODE_STACK_IMMD => Ok(Encoding::StackImmediate {
-            size: 8 * field(word, UNWIND_X86_64_FRAMELESS_STACK_SIZE),
+            size: WORD_BYTES * field(word, UNWIND_X86_64_FRAMELESS_STACK_SIZE),
             saved: permutation(word),
         }),
         UNWIND_X86_64_MODE_STACK_IND => Ok(Encoding::StackIndirect {
             size_at: field(word, UNWIND_X86_64_FRAMELESS_STACK_SIZE),
-            adjust: 8 * field(word, UNWIND_X86_64_FRAMELESS_STACK_ADJUST),
+            adjust: WORD_BYTES * field(word, UNWIND_X86_64_FRAMELESS_STACK_ADJUST),
             saved: permutation(word),
         }),
         UNWIND_X86_64_MODE_DWARF => Err(DWARF_MODE),
@@ -105,7 +117,7 @@ fn arm64_encoding(word: u32) -> Result<Encoding, u8>
 {
     match word & UNWIND_ARM64_MODE_MASK {
         UNWIND_ARM64_MODE_FRAMELESS => Ok(Encoding::Frameless {
-            size: 16 * field(word, UNWIND_ARM64_FRAMELESS_STACK_SIZE_MASK),
+            size: PAIR_BYTES * field(word, UNWIND_ARM64_FRAMELESS_STACK_SIZE_MASK),
             pairs: pairs(word),
         }),
         UNWIND_ARM64_MODE_FRAME => Ok(Encoding::Frame { pairs: pairs(word) }),

@@ -17,11 +17,15 @@ use plcr_memory::Memory;
 use plcr_regs::{Frame, Step};
 use std::marker::Model;
 
-/// The indexes of so many images are kept.
-pub const KNOWN_INDEXES: usize = 1024;
+/// The indexes of so many images are kept: as many as a list of images can have.
+pub const KNOWN_INDEXES: usize = 4096;
 
 /// So many pages are kept.
 pub const KNOWN_PAGES: usize = 1024;
+
+// Linkers lay pages at multiples of their size, so that slots are chosen by all bits of a place (Knuth, multiplicative
+// hashing).
+const SPREAD: u64 = 0x9e37_79b9_7f4a_7c15;
 
 /// What reading the index of a section gave.
 #[derive(Clone, Copy)]
@@ -74,8 +78,9 @@ fn keep_index(
 fn page_slot(part: Part, entry: &Entry) -> usize
     ensures { result < KNOWN_PAGES }
 {
-    let place = part.at.wrapping_add(u64::from(entry.value)) / 4;
-    (place % KNOWN_PAGES as u64) as usize
+    let place = part.at.wrapping_add(u64::from(entry.value));
+    let spread = place.wrapping_mul(SPREAD) >> 32;
+    (spread % KNOWN_PAGES as u64) as usize
 }
 
 // What is kept in a slot, where it is of the page of this entry.

@@ -108,6 +108,37 @@ fn stacks_of_a_known_size(rt: HostRuntime) -> Result<(), Fail> {
     Ok(())
 }
 
+// Four registers in the last of their orders, and five in the last of theirs: numbers 359 and 719.
+#[test]
+fn orders_of_four_and_five(rt: HostRuntime) -> Result<(), Fail> {
+    let arch = Arch::X86_64;
+    let frame = frame_at(arch, 64, 0x100, &[(RSP, 0x7100)]);
+    let four = memory_with(rt.alloc(), &one_function(0x0205_1167))?;
+    let want = [
+        (RBP, 0x7100),
+        (R15, 0x7108),
+        (R14, 0x7110),
+        (R13, 0x7118),
+        (RIP, 0x7120),
+        (RSP, 0x7128),
+    ];
+    let said = stepped(&four, &image_with(68), &frame, 0x100);
+    assert!(rt; said == caller(arch, 64, &want));
+    let five = memory_with(rt.alloc(), &one_function(0x0206_16cf))?;
+    let want = [
+        (RBP, 0x7100),
+        (R15, 0x7108),
+        (R14, 0x7110),
+        (R13, 0x7118),
+        (R12, 0x7120),
+        (RIP, 0x7128),
+        (RSP, 0x7130),
+    ];
+    let said = stepped(&five, &image_with(68), &frame, 0x100);
+    assert!(rt; said == caller(arch, 64, &want));
+    Ok(())
+}
+
 // The encoding of a compressed page's own, whose size stands in the code.
 #[test]
 fn a_stack_whose_size_is_in_the_code(rt: HostRuntime) -> Result<(), Fail> {
@@ -155,6 +186,45 @@ fn frames_of_arm64(rt: HostRuntime) -> Result<(), Fail> {
     Ok(())
 }
 
+// A leaf that saved two pairs, and a frame that saved all five.
+#[test]
+fn pairs_of_arm64(rt: HostRuntime) -> Result<(), Fail> {
+    let arch = Arch::Arm64;
+    let known = [(FP, 0x7100), (LR, 0x5000), (SP, 0x7100)];
+    let frame = frame_at(arch, 64, 0x100, &known);
+    let leaf = memory_with(rt.alloc(), &one_function(0x0200_2003))?;
+    let want = [
+        (19, 0x7118),
+        (20, 0x7110),
+        (21, 0x7108),
+        (22, 0x7100),
+        (FP, 0x7100),
+        (PC, 0x5000),
+        (SP, 0x7120),
+    ];
+    let said = stepped(&leaf, &image_with(68), &frame, 0x100);
+    assert!(rt; said == caller(arch, 64, &want));
+    let framed = memory_with(rt.alloc(), &one_function(0x0400_0f1f))?;
+    let want = [
+        (19, 0x70f8),
+        (20, 0x70f0),
+        (21, 0x70e8),
+        (22, 0x70e0),
+        (23, 0x70d8),
+        (24, 0x70d0),
+        (25, 0x70c8),
+        (26, 0x70c0),
+        (27, 0x70b8),
+        (28, 0x70b0),
+        (FP, 0x7100),
+        (PC, 0x7108),
+        (SP, 0x7110),
+    ];
+    let said = stepped(&framed, &image_with(68), &frame, 0x100);
+    assert!(rt; said == caller(arch, 64, &want));
+    Ok(())
+}
+
 // What the reader says of a function with this encoding and a frame of which these registers are known.
 fn said(
     alloc: Global,
@@ -167,62 +237,62 @@ fn said(
     Ok(stepped(&memory, &image_with(68), &frame, 0x100))
 }
 
-// Encodings and registers that give a number, in the order in which they are judged.
+// Encodings and registers that give a number: the encoding, the register that is known and its number, and the number of
+// what is bad. The stack is mapped from 0x7000 to 0x7200.
+const BAD_ENCODINGS: [(Arch, u32, (usize, u64), u8); 40] = [
+    // Modes.
+    (Arch::X86_64, 0, (RSP, 0x7100), 8),
+    (Arch::X86_64, 0x0500_0000, (RSP, 0x7100), 8),
+    (Arch::X86_64, 0x0f00_0000, (RSP, 0x7100), 8),
+    (Arch::X86_64, 0xf0ff_ffff, (RSP, 0x7100), 8),
+    (Arch::X86_64, 0x0400_0000, (RSP, 0x7100), 9),
+    (Arch::Arm64, 0, (SP, 0x7100), 8),
+    (Arch::Arm64, 0x0100_0000, (SP, 0x7100), 8),
+    (Arch::Arm64, 0x0300_0000, (SP, 0x7100), 9),
+    // Registers that no field names, before those that aren't known.
+    (Arch::X86_64, 0x0101_0006, (RAX, 0), 10),
+    (Arch::X86_64, 0x0101_7000, (RAX, 0), 10),
+    (Arch::X86_64, 0x0101_0e00, (RAX, 0), 10),
+    (Arch::X86_64, 0x0101_0001, (RAX, 0), 11),
+    // A seventh register, orders that aren't, and stacks without room.
+    (Arch::X86_64, 0x02ff_1c00, (RAX, 0), 10),
+    (Arch::X86_64, 0x0202_0406, (RAX, 0), 10),
+    (Arch::X86_64, 0x0203_081e, (RAX, 0), 10),
+    (Arch::X86_64, 0x0207_1ad0, (RAX, 0), 10),
+    (Arch::X86_64, 0x0200_0000, (RAX, 0), 10),
+    (Arch::X86_64, 0x0201_0400, (RAX, 0), 10),
+    (Arch::X86_64, 0x0202_0400, (RAX, 0), 11),
+    (Arch::X86_64, 0x0206_1800, (RAX, 0), 10),
+    (Arch::X86_64, 0x0207_1800, (RAX, 0), 11),
+    // A size in the code, which isn't mapped there.
+    (Arch::X86_64, 0x0307_1c00, (RAX, 0), 10),
+    (Arch::X86_64, 0x0300_0000, (RAX, 0), 11),
+    (Arch::X86_64, 0x0300_0000, (RSP, 0x7100), 12),
+    // Words and stacks that pass the addresses.
+    (Arch::X86_64, 0x0101_0001, (RBP, 7), 11),
+    (Arch::X86_64, 0x0101_0001, (RBP, 8), 12),
+    (Arch::X86_64, 0x0101_0000, (RBP, 0), 12),
+    (Arch::X86_64, 0x0100_0000, (RBP, u64::MAX - 15), 12),
+    (Arch::X86_64, 0x0100_0000, (RBP, u64::MAX - 14), 11),
+    (Arch::X86_64, 0x0201_0000, (RSP, u64::MAX - 7), 12),
+    (Arch::X86_64, 0x0201_0000, (RSP, u64::MAX - 6), 11),
+    (Arch::Arm64, 0x0400_0001, (FP, 15), 11),
+    (Arch::Arm64, 0x0400_0001, (FP, 16), 12),
+    (Arch::Arm64, 0x0400_0f00, (FP, 0), 12),
+    (Arch::Arm64, 0x0400_0000, (SP, 0), 11),
+    (Arch::Arm64, 0x0200_1000, (SP, 0x7100), 11),
+    // Words that aren't mapped.
+    (Arch::X86_64, 0x0101_0001, (RBP, 0x71f8), 12),
+    (Arch::X86_64, 0x0101_0001, (RBP, 0x7000), 12),
+    (Arch::X86_64, 0x0202_0400, (RSP, 0x71f8), 12),
+    (Arch::Arm64, 0x0400_0001, (FP, 0x7008), 12),
+];
+
+// In the order in which they are judged.
 #[test]
 fn encodings_that_tell_no_caller(rt: HostRuntime) -> Result<(), Fail> {
     let alloc = rt.alloc();
-    let (x86_64, arm64) = (Arch::X86_64, Arch::Arm64);
-    // The encoding, the register that is known and its number, and the number of what is bad. The stack is mapped from
-    // 0x7000 to 0x7200.
-    let cases = [
-        // Modes.
-        (x86_64, 0, (RSP, 0x7100), 8),
-        (x86_64, 0x0500_0000, (RSP, 0x7100), 8),
-        (x86_64, 0x0f00_0000, (RSP, 0x7100), 8),
-        (x86_64, 0xf0ff_ffff, (RSP, 0x7100), 8),
-        (x86_64, 0x0400_0000, (RSP, 0x7100), 9),
-        (arm64, 0, (SP, 0x7100), 8),
-        (arm64, 0x0100_0000, (SP, 0x7100), 8),
-        (arm64, 0x0300_0000, (SP, 0x7100), 9),
-        // Registers that no field names, before those that aren't known.
-        (x86_64, 0x0101_0006, (RAX, 0), 10),
-        (x86_64, 0x0101_7000, (RAX, 0), 10),
-        (x86_64, 0x0101_0e00, (RAX, 0), 10),
-        (x86_64, 0x0101_0001, (RAX, 0), 11),
-        // A seventh register, orders that aren't, and stacks without room.
-        (x86_64, 0x02ff_1c00, (RAX, 0), 10),
-        (x86_64, 0x0202_0406, (RAX, 0), 10),
-        (x86_64, 0x0203_081e, (RAX, 0), 10),
-        (x86_64, 0x0207_1ad0, (RAX, 0), 10),
-        (x86_64, 0x0200_0000, (RAX, 0), 10),
-        (x86_64, 0x0201_0400, (RAX, 0), 10),
-        (x86_64, 0x0202_0400, (RAX, 0), 11),
-        (x86_64, 0x0206_1800, (RAX, 0), 10),
-        (x86_64, 0x0207_1800, (RAX, 0), 11),
-        // A size in the code, which isn't mapped there.
-        (x86_64, 0x0307_1c00, (RAX, 0), 10),
-        (x86_64, 0x0300_0000, (RAX, 0), 11),
-        (x86_64, 0x0300_0000, (RSP, 0x7100), 12),
-        // Words and stacks that pass the addresses.
-        (x86_64, 0x0101_0001, (RBP, 7), 11),
-        (x86_64, 0x0101_0001, (RBP, 8), 12),
-        (x86_64, 0x0101_0000, (RBP, 0), 12),
-        (x86_64, 0x0100_0000, (RBP, u64::MAX - 15), 12),
-        (x86_64, 0x0100_0000, (RBP, u64::MAX - 14), 11),
-        (x86_64, 0x0201_0000, (RSP, u64::MAX - 7), 12),
-        (x86_64, 0x0201_0000, (RSP, u64::MAX - 6), 11),
-        (arm64, 0x0400_0001, (FP, 15), 11),
-        (arm64, 0x0400_0001, (FP, 16), 12),
-        (arm64, 0x0400_0f00, (FP, 0), 12),
-        (arm64, 0x0400_0000, (SP, 0), 11),
-        (arm64, 0x0200_1000, (SP, 0x7100), 11),
-        // Words that aren't mapped.
-        (x86_64, 0x0101_0001, (RBP, 0x71f8), 12),
-        (x86_64, 0x0101_0001, (RBP, 0x7000), 12),
-        (x86_64, 0x0202_0400, (RSP, 0x71f8), 12),
-        (arm64, 0x0400_0001, (FP, 0x7008), 12),
-    ];
-    for (arch, encoding, known, bad) in cases {
+    for (arch, encoding, known, bad) in BAD_ENCODINGS {
         let said = said(alloc, arch, encoding, &[known])?;
         assert!(rt; said == Step::Bad(bad), "{encoding} {bad}");
     }
@@ -307,6 +377,31 @@ fn signatures_are_cut(rt: HostRuntime) -> Result<(), Fail> {
         };
         assert_eq!(rt; caller.registers.value[PC], Some(pc), "{encoding} {bits}");
     }
+    Ok(())
+}
+
+// A size in the code that has no room for what was saved is told before a register that isn't known.
+#[test]
+fn a_size_in_the_code_without_room(rt: HostRuntime) -> Result<(), Fail> {
+    let mut words = COMPRESSED;
+    // Three registers, and the word 0x1000 of the code in place of a size; then seven of them.
+    for (encoding, bad) in [(0x0303_0c00, 11), (0x0303_1c00, 10)] {
+        words[19] = encoding;
+        let memory = memory_with(rt.alloc(), &words)?;
+        let frame = frame_at(Arch::X86_64, 64, 0x1105, &[]);
+        let said = stepped(&memory, &image_with(84), &frame, 0x1105);
+        assert!(rt; said == Step::Bad(bad));
+    }
+    // The same where the word is 16.
+    words[19] = 0x0303_0c00;
+    let mut file = Vec::new(rt.alloc());
+    add_words(&mut file, &words)?;
+    add_words(&mut file, &[16])?;
+    let regions = [bytes(SECTION, 0, 84), bytes(HEADER + 0x1103, 84, 4)];
+    let memory = memory_of(rt.alloc(), file, &regions)?;
+    let frame = frame_at(Arch::X86_64, 64, 0x1105, &[]);
+    let said = stepped(&memory, &image_with(84), &frame, 0x1105);
+    assert!(rt; said == Step::Bad(10));
     Ok(())
 }
 
