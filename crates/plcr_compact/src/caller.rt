@@ -4,8 +4,8 @@ use plcr_regs::MOST_REGISTERS;
 /// How many bytes a word of the stack has.
 pub const WORD: u64 = 8;
 
-/// A word on the stack that a function saved: where it stands, counted without modulo, and the place of the register
-/// whose value it is.
+/// A word on the stack that a function saved: where it stands, counted without modulo, and the
+/// place of the register whose value it is.
 #[derive(Clone, Copy, Debug, Default, PartialEq, Eq)]
 pub struct SavedWord {
     pub at: i128,
@@ -18,8 +18,8 @@ pub const MOST_WORDS: usize = 12;
 /// The words that a function saved.
 pub type Words = ArrayVec<SavedWord, MOST_WORDS>;
 
-/// What is known of a caller before the stack is read: its registers, its stack pointer, counted without modulo, and the
-/// words that hold others.
+/// What is known of a caller before the stack is read: its registers, its stack pointer, counted
+/// without modulo, and the words that hold others.
 #[derive(Drop)]
 pub struct Caller {
     pub value: [Option<u64>; MOST_REGISTERS],

@@ -79,7 +79,8 @@ fn push_fields(words: &mut Words, at: i128, registers: &[Option<SavedRegister>])
     }
 }
 
-// The words of a pair from an address downwards, where it was saved. The answer is where the next pair stands.
+// The words of a pair from an address downwards, where it was saved. The answer is where the next
+// pair stands.
 fn push_pair(words: &mut Words, top: i128, saved: bool, places: (usize, usize)) -> i128
     requires room { length words.old.items + 2 ≤ MOST_WORDS }
     requires near { IsTrue (int_lt (pos 0 -ℤ pos (2 ^ 70)) top) }

@@ -74,7 +74,8 @@ fn frame_of(frame: &Frame, value: [Option<u64>; MOST_REGISTERS], stack: i128) ->
     }
 }
 
-/// The caller once the stack is read. No word and no stack pointer may pass the addresses of 64 bits.
+/// The caller once the stack is read. No word and no stack pointer may pass the addresses of 64
+/// bits.
 #[tactic(auto, unfolding(crate::specs::Callers::read_caller))]
 pub fn read_caller(memory: &Memory, frame: &Frame, caller: &Caller) -> Result<Frame, u8>
     requires { AreRegisters caller.now.words.items }

@@ -27,8 +27,8 @@ pub fn section(image: &Image) -> Result<Part, u8>
     }
 }
 
-/// What an image's compact unwind information says of the function that has an address, which is so far from the image's
-/// header.
+/// What an image's compact unwind information says of the function that has an address, which is so
+/// far from the image's header.
 #[tactic(auto, unfolding(crate::specs::Sections::found_at), using(crate::proofs::Standing::stored_found))]
 pub fn find(memory: &Memory, image: &Image, offset: u64) -> Result<Found, u8>
     ensures { result ≡ found_at memory.now image.now offset }
@@ -55,7 +55,8 @@ fn caller_from(memory: &Memory, image: &Image, frame: &Frame, found: &Found) -> 
     read_caller(memory, frame, &caller)
 }
 
-/// The caller of a frame by what `find` says of its function. It is never told that there is no caller.
+/// The caller of a frame by what `find` says of its function. It is never told that there is no
+/// caller.
 pub fn step_from(memory: &Memory, image: &Image, frame: &Frame, found: &Found) -> Step
     ensures caller { result ≡ answered (caller_from memory.now image.now frame.now found.now) }
     ensures thread { IfFrame result (IsOfThread frame.now) }
@@ -66,9 +67,10 @@ pub fn step_from(memory: &Memory, image: &Image, frame: &Frame, found: &Found) -
     }
 }
 
-/// The caller of a frame by its image's compact unwind information (compact_unwind_encoding.h). The registers that
-/// functions keep stay as they are, those that the encoding names are replaced, and all others are unknown. It is never
-/// told that there is no caller; why none is found is one of the numbers of this crate.
+/// The caller of a frame by its image's compact unwind information (compact_unwind_encoding.h). The
+/// registers that functions keep stay as they are, those that the encoding names are replaced, and
+/// all others are unknown. It is never told that there is no caller; why none is found is one of
+/// the numbers of this crate.
 #[tactic(auto, unfolding(crate::specs::Callers::compact_frame))]
 pub fn step(memory: &Memory, image: &Image, frame: &Frame) -> Step
     requires { IsSomeAnd (frame_lookup frame.now) (λ address. image.now.header ≤ address) }

@@ -12,8 +12,8 @@ pub enum SavedRegister {
     Rbp,
 }
 
-/// Which registers a function without a frame saved, and in which order: how many of the six they are, and the number
-/// of their order among all orders of so many.
+/// Which registers a function without a frame saved, and in which order: how many of the six they
+/// are, and the number of their order among all orders of so many.
 #[derive(Clone, Copy, Debug, PartialEq, Eq)]
 pub struct Permutation {
     pub count: u32,
@@ -32,24 +32,27 @@ pub const FRAME_REGISTERS: usize = 5;
 /// How the frame of a function is laid out. Sizes and offsets are in bytes.
 #[derive(Clone, Copy, Debug, PartialEq, Eq)]
 pub enum Encoding {
-    /// x86-64: the function keeps its frame in rbp, and saved these registers from `offset` bytes below it upwards.
+    /// x86-64: the function keeps its frame in rbp, and saved these registers from `offset` bytes
+    /// below it upwards.
     RbpFrame {
         offset: u32,
         registers: [Option<SavedRegister>; FRAME_REGISTERS],
     },
-    /// x86-64: the function keeps no frame pointer, and its stack has `size` bytes, the return address among them.
+    /// x86-64: the function keeps no frame pointer, and its stack has `size` bytes, the return
+    /// address among them.
     StackImmediate {
         size: u32,
         saved: Permutation,
     },
-    /// The same, where the size is the sum of `adjust` and the word that stands in the code so far from the function's
-    /// start.
+    /// The same, where the size is the sum of `adjust` and the word that stands in the code so far
+    /// from the function's start.
     StackIndirect {
         size_at: u32,
         adjust: u32,
         saved: Permutation,
     },
-    /// arm64: the function keeps no frame pointer, and its stack has `size` bytes. lr has the return address.
+    /// arm64: the function keeps no frame pointer, and its stack has `size` bytes. lr has the
+    /// return address.
     Frameless {
         size: u32,
         pairs: [bool; PAIRS],

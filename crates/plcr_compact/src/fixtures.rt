@@ -20,8 +20,8 @@ pub const fn one_function(encoding: u32) -> [u32; 17] {
     ]
 }
 
-/// A section with two common encodings and a compressed page with two of its own, of which the one function at 0x1100
-/// has the last.
+/// A section with two common encodings and a compressed page with two of its own, of which the one
+/// function at 0x1100 has the last.
 pub const COMPRESSED: [u32; 21] = [
     1,
     28,
@@ -72,7 +72,8 @@ pub fn memory_of(alloc: Global, file: Vec<u8>, regions: &[Region]) -> Result<Mem
     }
 }
 
-/// A memory with a section, the word 0x1000 in the code, and 64 words of stack, each of which is its own address.
+/// A memory with a section, the word 0x1000 in the code, and 64 words of stack, each of which is
+/// its own address.
 pub fn memory_with(alloc: Global, section: &[u32]) -> Result<Memory, MemoryFault> {
     let mut file = Vec::new(alloc);
     add_words(&mut file, section)?;
@@ -108,7 +109,8 @@ pub const fn image_with(size: u64) -> Image {
     }
 }
 
-/// A frame that is stopped at an offset of the image, of which some registers are known, by their places.
+/// A frame that is stopped at an offset of the image, of which some registers are known, by their
+/// places.
 pub fn frame_at(arch: Arch, bits: u8, offset: u64, known: &[(usize, u64)]) -> Frame {
     let mut value = registers(known);
     value[pc_place(arch)] = Some(HEADER.wrapping_add(offset));

@@ -1,4 +1,5 @@
-//! What was found of the sections of a memory, kept so that each index and each page is read whole once.
+//! What was found of the sections of a memory, kept so that each index and each page is read whole
+//! once.
 ghost use Rattle.std.specs.Prelude.{◌≡◌, ◌≤◌, ◌<◌, ◌^◌, All, IfOk, IfSome, IsSomeAnd};
 ghost use Rattle.plcr_regs.specs.Frames.{IfFrame, IsOfThread, frame_lookup};
 ghost use Rattle.plcr_compact.specs.Callers.{compact_frame};
@@ -23,8 +24,8 @@ pub const KNOWN_INDEXES: usize = 4096;
 /// So many pages are kept.
 pub const KNOWN_PAGES: usize = 1024;
 
-// Linkers lay pages at multiples of their size, so that slots are chosen by all bits of a place (Knuth, multiplicative
-// hashing).
+// Linkers lay pages at multiples of their size, so that slots are chosen by all bits of a place
+// (Knuth, multiplicative hashing).
 const SPREAD: u64 = 0x9e37_79b9_7f4a_7c15;
 
 /// What reading the index of a section gave.
@@ -124,8 +125,8 @@ fn no_pages(memory: &Memory) -> [Option<KnownPage>; KNOWN_PAGES]
     [None; KNOWN_PAGES]
 }
 
-/// The sections of a memory, of which the indexes and pages that were read are kept in room of fixed size. Contracts see
-/// the memory.
+/// The sections of a memory, of which the indexes and pages that were read are kept in room of
+/// fixed size. Contracts see the memory.
 #[derive(Drop)]
 pub struct KnownSections<'m> {
     memory: &'m Memory,
@@ -222,8 +223,8 @@ impl<'m> KnownSections<'m> {
         entry_of(words, &header.common, &entry, &page, offset)
     }
 
-    /// What `find` says, where the image stands at this place of a list: of images at different places the indexes are
-    /// kept apart.
+    /// What `find` says, where the image stands at this place of a list: of images at different
+    /// places the indexes are kept apart.
     #[tactic(auto, unfolding(crate::specs::Sections::found_at), using(crate::proofs::Standing::stored_section))]
     pub fn find(&mut self, place: usize, image: &Image, offset: u64) -> Result<Found, u8>
         ensures found { result ≡ found_at self.old image.now offset }

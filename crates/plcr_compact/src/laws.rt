@@ -5,8 +5,8 @@ ghost use Rattle.plcr_compact.specs.declared.section.Entry.{Entry};
 ghost use Rattle.plcr_compact.specs.Laws.{IsChosen, IsOrder, orders_of, order_by};
 ghost use Rattle.plcr_compact.specs.Tables.{chosen};
 
-/// The entry that is chosen for an offset is the one with the greatest offset that isn't above it, of equals the last;
-/// and where there is such an entry it is chosen.
+/// The entry that is chosen for an offset is the one with the greatest offset that isn't above it,
+/// of equals the last; and where there is such an entry it is chosen.
 pub fn entries_are_chosen()
     ensures found { (offset : ℕ) (entries : List Entry) (entry : Entry) →
         chosen offset entries ≡ Some entry → IsChosen offset entries entry }
@@ -14,7 +14,8 @@ pub fn entries_are_chosen()
         IsChosen offset entries entry → chosen offset entries ≡ Some entry }
 {}
 
-/// The numbers of permutations are those of the orders in which so many of the six registers can stand.
+/// The numbers of permutations are those of the orders in which so many of the six registers can
+/// stand.
 pub fn permutations_are_orders()
     // A number names an order: so many registers, no two the same.
     ensures order { (count number : ℕ) (registers : List SavedRegister) →

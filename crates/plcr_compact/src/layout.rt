@@ -1,5 +1,6 @@
-//! The structures of a section `__unwind_info` (compact_unwind_encoding.h): how many bytes they have, and where their
-//! fields stand from their start. Fields have 4 bytes; those of pages whose names say so have 2.
+//! The structures of a section `__unwind_info` (compact_unwind_encoding.h): how many bytes they
+//! have, and where their fields stand from their start. Fields have 4 bytes; those of pages whose
+//! names say so have 2.
 
 /// unwind_info_section_header.
 pub const SECTION_HEADER: u64 = 28;
@@ -51,13 +52,14 @@ pub const UNWIND_SECOND_LEVEL_REGULAR: u32 = 2;
 
 pub const UNWIND_SECOND_LEVEL_COMPRESSED: u32 = 3;
 
-/// unwind_info_regular_second_level_entry: the offset of a function as in the index, and its encoding.
+/// unwind_info_regular_second_level_entry: the offset of a function as in the index, and its
+/// encoding.
 pub const REGULAR_ENTRY: u64 = 8;
 
 pub const ENCODING: u64 = 4;
 
-/// An entry of a compressed page is one word, which these masks take apart: the offset of a function from that of the
-/// page's entry in the index, and the number of its encoding.
+/// An entry of a compressed page is one word, which these masks take apart: the offset of a
+/// function from that of the page's entry in the index, and the number of its encoding.
 pub const COMPRESSED_ENTRY: u64 = 4;
 
 pub const UNWIND_INFO_COMPRESSED_ENTRY_FUNC_OFFSET: u32 = 0x00ff_ffff;

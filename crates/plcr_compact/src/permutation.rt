@@ -37,8 +37,8 @@ fn named(digits: &[u32]) -> Option<ArrayVec<SavedRegister, SAVED_REGISTERS>>
     Some(found)
 }
 
-/// The registers of a permutation, in the order in which they stand on the stack from the lowest address up. None where
-/// there is no such order.
+/// The registers of a permutation, in the order in which they stand on the stack from the lowest
+/// address up. None where there is no such order.
 #[tactic(auto, unfolding(crate::specs::Permutations::saved_registers))]
 pub fn saved_registers(saved: Permutation) -> Option<ArrayVec<SavedRegister, SAVED_REGISTERS>>
     ensures { option_map (λ registers. registers.items) result ≡ saved_registers saved }

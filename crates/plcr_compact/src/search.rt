@@ -95,8 +95,8 @@ pub fn entry_at<C: Cells>(section: &C, kind: EntryKind, table: &Table, index: u3
     }
 }
 
-/// Of the first entries of a table that was checked the one with the greatest offset that isn't above another, of equals
-/// the last; by halves.
+/// Of the first entries of a table that was checked the one with the greatest offset that isn't
+/// above another, of equals the last; by halves.
 pub fn entry_for<C: Cells>(
     section: &C,
     kind: EntryKind,

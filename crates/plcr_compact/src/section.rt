@@ -14,8 +14,9 @@ pub struct SectionHeader {
     pub index: Table,
 }
 
-/// An entry of the index or of a page: the offset of a function from the image's header, and what stands beside it. In
-/// the index this is the place of a page, in a regular page an encoding, and in a compressed page an encoding's number.
+/// An entry of the index or of a page: the offset of a function from the image's header, and what
+/// stands beside it. In the index this is the place of a page, in a regular page an encoding, and
+/// in a compressed page an encoding's number.
 #[derive(Clone, Copy, Debug, PartialEq, Eq)]
 pub struct Entry {
     pub function: u64,
@@ -29,7 +30,8 @@ pub enum PageHeader {
     Compressed { entries: Table, encodings: Table },
 }
 
-/// What a section says of an address: the offset of the function that has it, and the word of its encoding.
+/// What a section says of an address: the offset of the function that has it, and the word of its
+/// encoding.
 #[derive(Clone, Copy, Debug, PartialEq, Eq)]
 pub struct Found {
     pub function: u64,

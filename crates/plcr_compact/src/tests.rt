@@ -70,7 +70,8 @@ fn a_frame_with_rbp(rt: HostRuntime) -> Result<(), Fail> {
     Ok(())
 }
 
-// Functions without a frame: of six registers in one order, and of three in another. Those that aren't saved stay.
+// Functions without a frame: of six registers in one order, and of three in another. Those that
+// aren't saved stay.
 #[test]
 fn stacks_of_a_known_size(rt: HostRuntime) -> Result<(), Fail> {
     let arch = Arch::X86_64;
@@ -225,7 +226,8 @@ fn pairs_of_arm64(rt: HostRuntime) -> Result<(), Fail> {
     Ok(())
 }
 
-// What the reader says of a function with this encoding and a frame of which these registers are known.
+// What the reader says of a function with this encoding and a frame of which these registers are
+// known.
 fn said(
     alloc: Global,
     arch: Arch,
@@ -237,8 +239,8 @@ fn said(
     Ok(stepped(&memory, &image_with(68), &frame, 0x100))
 }
 
-// Encodings and registers that give a number: the encoding, the register that is known and its number, and the number of
-// what is bad. The stack is mapped from 0x7000 to 0x7200.
+// Encodings and registers that give a number: the encoding, the register that is known and its
+// number, and the number of what is bad. The stack is mapped from 0x7000 to 0x7200.
 const BAD_ENCODINGS: [(Arch, u32, (usize, u64), u8); 40] = [
     // Modes.
     (Arch::X86_64, 0, (RSP, 0x7100), 8),
@@ -380,7 +382,8 @@ fn signatures_are_cut(rt: HostRuntime) -> Result<(), Fail> {
     Ok(())
 }
 
-// A size in the code that has no room for what was saved is told before a register that isn't known.
+// A size in the code that has no room for what was saved is told before a register that isn't
+// known.
 #[test]
 fn a_size_in_the_code_without_room(rt: HostRuntime) -> Result<(), Fail> {
     let mut words = COMPRESSED;
@@ -405,7 +408,8 @@ fn a_size_in_the_code_without_room(rt: HostRuntime) -> Result<(), Fail> {
     Ok(())
 }
 
-// The reader itself, where the frame's address is known and not below the image, and what it says by what is kept.
+// The reader itself, where the frame's address is known and not below the image, and what it says
+// by what is kept.
 fn whole_step(memory: &Memory, image: &Image, frame: &Frame) -> Option<(Step, Step)> {
     match frame.lookup() {
         Some(address) if address >= image.header => {
