@@ -63,6 +63,7 @@ int sum(int n, ...) { __builtin_va_list l; __builtin_va_start(l, n); int s = 0; 
 """
 WAYS = [["-O0"], ["-O1"], ["-O2"], ["-Os", "-fomit-frame-pointer"], ["-O2", "-fno-omit-frame-pointer"],
         ["-O3", "-fomit-frame-pointer", "-fno-asynchronous-unwind-tables", "-funwind-tables"]]
+SIGNED = ["-O2", "-mbranch-protection=pac-ret"]  # only arm64 has such code
 
 
 def tool(*names):
@@ -93,6 +94,7 @@ def section_of(path):
 
 
 Row = collections.namedtuple("Row", "address cfa saved")
+CFA = re.compile(r"CFA=(\w+?)([+-]\d+)?")
 
 
 def number(text):
@@ -108,20 +110,21 @@ def register(arch, name):
 
 
 def rows_of(arch, path):
-    """The rows that llvm-dwarfdump prints, and the opcodes among them that it tells and that aren't read here."""
+    """The rows that llvm-dwarfdump prints, and what it tells that isn't read here. Of such an entry no row counts."""
     text = subprocess.run([DUMP, "--eh-frame", path], check=True, capture_output=True, text=True).stdout
-    rows, odd = [], set(re.findall(r"DW_CFA_(?:AARCH64|LLVM|MIPS|Unknown)\w*|DW_CFA_GNU_window_save", text))
-    for line in re.findall(r"^  (0x[0-9a-f]+: CFA=.*)$", text, re.M):
-        address, rest = line.split(": ", 1)
-        cfa, _, saved = rest.partition(": ")
-        told = re.fullmatch(r"CFA=(\w+?)([+-]\d+)?", cfa)
-        if not told:
-            odd.add(cfa)
+    rows, odd = [], set()
+    for entry in re.split(r"^(?=[0-9a-f]{8} [0-9a-f]{8,16} [0-9a-f]{8} )", text, flags=re.M)[1:]:
+        unknown = set(re.findall(r"DW_CFA_(?:AARCH64|LLVM|MIPS|unknown|Unknown)\w*|DW_CFA_GNU_window_save", entry))
+        lines = [line.split(": ", 1) for line in re.findall(r"^  (0x[0-9a-f]+: CFA=.*)$", entry, re.M)]
+        unknown.update(cfa for cfa in (rest.partition(": ")[0] for _, rest in lines) if not CFA.fullmatch(cfa))
+        odd |= unknown
+        if unknown:
             continue
-        places = {}
-        for name, offset in re.findall(r"(\w+)=\[CFA([+-]\d+)?\]", saved):
-            places[register(arch, name)] = number(offset)
-        rows.append(Row(int(address, 16), (register(arch, told[1]), number(told[2] or "")), places))
+        for address, rest in lines:
+            cfa, _, saved = rest.partition(": ")
+            told = CFA.fullmatch(cfa)
+            places = {register(arch, name): number(offset) for name, offset in re.findall(r"(\w+)=\[CFA([+-]\d+)?\]", saved)}
+            rows.append(Row(int(address, 16), (register(arch, told[1]), number(told[2] or "")), places))
     return rows, odd
 
 
@@ -238,7 +241,8 @@ def main():
             file.write(SOURCE)
         for arch in (X86_64, ARM64):
             total = 0
-            for way in WAYS:
+            ways = WAYS + [SIGNED] if arch is ARM64 else WAYS
+            for way in ways:
                 command = [CLANG, "-c", "-target", arch.triple, "-ffreestanding", "-fasynchronous-unwind-tables", *way, "-o", made, source]
                 subprocess.run(command, check=True)
                 rows, odd = rows_of(arch, made)
@@ -248,7 +252,7 @@ def main():
                 for name in arch.saved:
                     compare(folder, arch, section, rows, name)
                 total += len(rows)
-            print("%s: %d rows of %d ways, each with %d registers: no difference" % (arch.name, total, len(WAYS), len(arch.saved)))
+            print("%s: %d rows of %d ways, each with %d registers: no difference" % (arch.name, total, len(ways), len(arch.saved)))
 
 
 main()

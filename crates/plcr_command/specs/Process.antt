@@ -9,7 +9,7 @@ use Rattle.plcr_macho.specs.Images.{Listed}
 use Rattle.plcr_macho.specs.Loading.{image_at}
 use Rattle.plcr_encode.specs.Values.{process_report}
 use Rattle.plcr_script.specs.Contexts.{context_of}
-use Rattle.plcr_script.specs.Runs.{Meanings, meanings}
+use Rattle.plcr_script.specs.Meanings.{Meanings, meanings}
 use Rattle.plcr_script.specs.Scripts.{ScriptValue}
 
 -- the number of an image's fault, as the log prints it

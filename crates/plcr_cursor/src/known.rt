@@ -1,9 +1,7 @@
 //! What was found of a memory's images, kept so that it is looked for once.
-ghost use Rattle.std.specs.Prelude.{◌≡◌, ◌<◌, ◌≤◌, All, IfSome, IsSomeAnd};
+ghost use Rattle.std.specs.Prelude.{◌≡◌, All, IfSome};
 ghost use Rattle.std.specs.Result.{result_ok};
-ghost use Rattle.plcr_regs.specs.Frames.{IfFrame, IsOfThread, frame_lookup};
 ghost use Rattle.plcr_macho.specs.Loading.{image_at};
-ghost use Rattle.plcr_compact.specs.Callers.{compact_frame};
 ghost use Rattle.plcr_cursor.specs.inner.Keeping.{Holds, IsImage};
 
 use crate::asked::Asked;
@@ -115,22 +113,6 @@ impl<'m> Known<'m> {
         keep(self.memory, &mut self.images, place, known);
         image
     }
-
-    #[tactic(auto, unfolding(plcr_compact::specs::Callers::compact_frame))]
-    fn compact_step(&mut self, place: usize, image: &Image, frame: &Frame) -> Step
-        requires { IsSomeAnd (frame_lookup frame.now) (λ address. image.now.header ≤ address) }
-        ensures caller { result ≡ compact_frame self.old image.now frame.now }
-        ensures thread { IfFrame result (IsOfThread frame.now) }
-        ensures same { self.new ≡ self.old }
-    {
-        let Some(address) = frame.lookup() else {
-            unreachable!()
-        };
-        match self.sections.find(place, image, address - image.header) {
-            Ok(found) => plcr_compact::step_from(self.memory, image, frame, &found),
-            Err(bad) => Step::Bad(bad),
-        }
-    }
 }
 
 impl Asked for Known<'_> {
@@ -141,7 +123,7 @@ impl Asked for Known<'_> {
     }
 
     fn compact(&mut self, place: usize, image: &Image, frame: &Frame) -> Step {
-        self.compact_step(place, image, frame)
+        self.sections.step(place, image, frame)
     }
 
     fn call_frame(&mut self, image: &Image, frame: &Frame) -> Step {

@@ -1,5 +1,5 @@
-//! Augmentation texts and augmentation data of common information entries (Linux Standard Base Core, "The Common
-//! Information Entry Format").
+//! Augmentation texts and augmentation data of common information entries (Linux Standard Base
+//! Core, "The Common Information Entry Format").
 ghost use Rattle.std.specs.Prelude.{◌≡◌, ◌+◌, ◌<◌, ◌^◌, OnOk};
 ghost use Rattle.plcr_base.specs.Chains.{result_map};
 ghost use Rattle.plcr_leb128.specs.Cells.{bytes_of};

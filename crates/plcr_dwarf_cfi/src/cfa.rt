@@ -1,4 +1,5 @@
-//! Definitions of the canonical frame address, and where rows begin (DWARF 4, sections 6.4.2.1 and 6.4.2.2).
+//! Definitions of the canonical frame address, and where rows begin (DWARF 4, sections 6.4.2.1 and
+//! 6.4.2.2).
 ghost use Rattle.std.specs.Prelude.{◌≡◌};
 ghost use Rattle.plcr_dwarf_cfi.specs.Rows.{advanced, created, defined, with_offset, with_register};
 

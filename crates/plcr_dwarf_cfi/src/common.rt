@@ -1,4 +1,5 @@
-//! Common information entries (DWARF 4, section 6.4.1; Linux Standard Base Core, "The Common Information Entry Format").
+//! Common information entries (DWARF 4, section 6.4.1; Linux Standard Base Core, "The Common
+//! Information Entry Format").
 ghost use Rattle.std.specs.Prelude.{◌≡◌, ◌+◌, ◌<◌, ◌^◌, OnOk, IfOk};
 ghost use Rattle.plcr_leb128.specs.Cells.{bytes_of};
 ghost use Rattle.plcr_dwarf_cfi.specs.Entries.{common_at, common_before, common_in, extent_at, id_of, letter_at, numbers_at, return_register, version_of};
@@ -16,8 +17,8 @@ use crate::sections::{
 };
 use plcr_leb128::{Cells, Number};
 
-/// The common information entry that was read last, and its place. Most frame description entries share theirs with the
-/// one before.
+/// The common information entry that was read last, and its place. Most frame description entries
+/// share theirs with the one before.
 #[derive(Clone, Copy)]
 pub struct Recent {
     pub place: u64,

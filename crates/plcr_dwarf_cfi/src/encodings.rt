@@ -1,4 +1,5 @@
-//! Encodings of pointers, by their names in the standard (Linux Standard Base Core, "DWARF Exception Header Encoding").
+//! Encodings of pointers, by their names in the standard (Linux Standard Base Core, "DWARF
+//! Exception Header Encoding").
 
 pub const DW_EH_PE_absptr: u8 = 0x00;
 

@@ -1,7 +1,8 @@
-//! Entries of `__eh_frame` (Linux Standard Base Core, "The .eh_frame section"; DWARF 4, section 6.4.1).
+//! Entries of `__eh_frame` (Linux Standard Base Core, "The .eh_frame section"; DWARF 4, section
+//! 6.4.1).
 
-/// Where bytes of the section stand: from a place on, up to another. Places count from the section's start, and the end
-/// may lie past the section and past 2^64.
+/// Where bytes of the section stand: from a place on, up to another. Places count from the
+/// section's start, and the end may lie past the section and past 2^64.
 #[derive(Clone, Copy)]
 pub struct Extent {
     pub start: u64,
@@ -22,8 +23,8 @@ pub enum Format {
     Sdata8,
 }
 
-/// How pointers are encoded: as a number of a format, which may count from the pointer's own address, and which may tell
-/// where the pointer is.
+/// How pointers are encoded: as a number of a format, which may count from the pointer's own
+/// address, and which may tell where the pointer is.
 #[derive(Clone, Copy)]
 pub struct Encoding {
     pub format: Format,

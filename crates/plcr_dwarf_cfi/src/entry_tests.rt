@@ -15,7 +15,8 @@ fn plain_caller(exact: bool) -> Step {
     Step::Frame(frame(X86, exact, &[(7, 0x7108), (16, WORD + 0x7100)]))
 }
 
-// The answer at the function's start, by the fields of its common information entry and what stands behind its range.
+// The answer at the function's start, by the fields of its common information entry and what stands
+// behind its range.
 fn by_common(alloc: Global, common: &[u8], rest: &[u8]) -> Result<Step, Fail> {
     let section = function(alloc, common, rest)?;
     Ok(answer(alloc, section.as_slice(), X86, F, KNOWN)?)
@@ -40,7 +41,8 @@ fn the_caller_of_a_signal_frame_is_exact(rt: HostRuntime) -> Result<(), Fail> {
 
 #[test]
 fn common_information_is_read_in_its_order(rt: HostRuntime) -> Result<(), Fail> {
-    // The fields, what stands behind the range, and the number of the fault; 0 where there is a caller.
+    // The fields, what stands behind the range, and the number of the fault; 0 where there is a
+    // caller.
     let cases: [(&[u8], &[u8], u8); 36] = [
         (COMMON, &[], 0),
         // Version 3 has a return column of several bytes.
@@ -149,7 +151,8 @@ fn common_information_is_read_in_its_order(rt: HostRuntime) -> Result<(), Fail> 
     Ok(())
 }
 
-// Rows that the common information entry's instructions remember count with those of the description.
+// Rows that the common information entry's instructions remember count with those of the
+// description.
 #[test]
 fn remembered_rows_carry_over(rt: HostRuntime) -> Result<(), Fail> {
     let common = &[1, 0, 1, 0x78, 16, 0x0c, 7, 8, 0x90, 1, 0x0a, 0x0e, 16];
@@ -172,8 +175,8 @@ fn encoded(alloc: Global, encoding: u8, pointers: &[u8]) -> Result<Vec<u8>, Fail
 
 #[test]
 fn pointers_in_each_encoding(rt: HostRuntime) -> Result<(), Fail> {
-    // The first entry has 22 bytes, so the start of the second stands at 0x201e. The encoding, start and range, the
-    // address where the function begins, and that behind its last one.
+    // The first entry has 22 bytes, so the start of the second stands at 0x201e. The encoding,
+    // start and range, the address where the function begins, and that behind its last one.
     let cases: [(u8, &[u8], u64, u64); 14] = [
         (
             0x00,
@@ -361,8 +364,8 @@ fn a_common_information_entry_may_be_anywhere_in_the_section(rt: HostRuntime) ->
         // Before the section, and far before it.
         (23, Step::Bad(2)),
         (u32::MAX, Step::Bad(2)),
-        // Bytes that are no entry: the length 0x10000 is that of the code factor and what follows, and so the version is
-        // a part of an instruction.
+        // Bytes that are no entry: the length 0x10000 is that of the code factor and what follows,
+        // and so the version is a part of an instruction.
         (1, Step::Bad(4)),
         (14, Step::Bad(4)),
     ];
@@ -393,7 +396,8 @@ fn a_section_that_is_cut_has_no_caller(rt: HostRuntime) -> Result<(), Fail> {
         0x41, 0x0e, 0x10, 0x86, 2, 0x43, 0x0d, 6, 0x0a, 0x48, 0x0c, 7, 8, 0xc6, 0x41, 0x0b,
     ];
     let section = function(rt.alloc(), COMMON, &instructions)?;
-    // The first entry ends behind 18 bytes, and its fields behind 13. What is read ends with the instruction that sets the location above the address, the last but one.
+    // The first entry ends behind 18 bytes, and its fields behind 13. What is read ends with the
+    // instruction that sets the location above the address, the last but one.
     let needed = section.len().saturating_sub(1);
     for cut in 0..section.len() {
         let size = cut as u64;

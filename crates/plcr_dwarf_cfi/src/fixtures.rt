@@ -23,8 +23,8 @@ pub const WORD: u64 = 0x5500_0000;
 /// The bits of an address of code in most tests.
 pub const BITS: u8 = 47;
 
-/// The fields of a common information entry behind its id: code factor 1, data factor -8, return column 16; the
-/// canonical frame address is rsp + 8, and rip stands 8 bytes before it.
+/// The fields of a common information entry behind its id: code factor 1, data factor -8, return
+/// column 16; the canonical frame address is rsp + 8, and rip stands 8 bytes before it.
 pub const COMMON: &[u8] = &[1, 0, 1, 0x78, 16, 0x0c, 7, 8, 0x90, 1];
 
 /// How many bytes there are, which are few.

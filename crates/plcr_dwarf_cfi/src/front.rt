@@ -1,4 +1,5 @@
-//! A search that keeps the front of a section that it read, so that a later one may pass over runs of its entries.
+//! A search that keeps the front of a section that it read, so that a later one may pass over runs
+//! of its entries.
 ghost use Rattle.std.specs.Prelude.{◌≡◌, ◌<◌, ◌≤◌, ◌^◌, ◌+◌, All, Some, Ok, true, IfSome};
 ghost use Rattle.plcr_dwarf_cfi.specs.Entries.{description_for, entry_at};
 ghost use Rattle.plcr_dwarf_cfi.specs.inner.Fronts.{IsGrowing, IsRun, is_outside, run_at, with_entry};
@@ -13,8 +14,8 @@ use plcr_leb128::Cells;
 /// The front of a section is kept as so many runs.
 pub const FRONT_RUNS: usize = 32;
 
-/// Good entries of a section one after the other, from a place up to another. None of them covers an address below the
-/// lowest or above the highest.
+/// Good entries of a section one after the other, from a place up to another. None of them covers
+/// an address below the lowest or above the highest.
 #[derive(Clone, Copy)]
 pub struct Run {
     pub from: u64,
@@ -71,7 +72,8 @@ impl Run {
     }
 }
 
-// Where runs that begin at places within one stretch of a section are kept: so many low bits don't count.
+// Where runs that begin at places within one stretch of a section are kept: so many low bits don't
+// count.
 fn stretch_bits(size: u64) -> u32
     ensures { result < 64 }
 {
@@ -160,8 +162,8 @@ fn record<C: Cells>(
     Some(Run::at(whole.to))
 }
 
-/// The first frame description entry of the code at an address, where no bad entry stands before it. Runs that were kept
-/// are passed over, and others are kept.
+/// The first frame description entry of the code at an address, where no bad entry stands before
+/// it. Runs that were kept are passed over, and others are kept.
 #[tactic(auto, using(crate::proofs::Running::walk_starts, crate::proofs::Running::walk_passes, crate::proofs::Running::walk_goes, crate::proofs::Running::walk_hits, crate::proofs::Running::walk_ends, crate::proofs::Running::walk_fails, crate::proofs::Running::walk_out))]
 pub fn description_with<C: Cells>(
     cells: &C,

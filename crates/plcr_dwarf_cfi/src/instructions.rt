@@ -1,5 +1,5 @@
-//! Call frame instructions with their operands, by their names in the standard without DW_CFA_ (DWARF 4, section 6.4.2).
-//! A signed operand is in two's complement modulo 2^64.
+//! Call frame instructions with their operands, by their names in the standard without DW_CFA_
+//! (DWARF 4, section 6.4.2). A signed operand is in two's complement modulo 2^64.
 
 /// The code of an expression: so many bytes at an address.
 #[derive(Clone, Copy)]
@@ -18,7 +18,8 @@ pub enum RowCreation {
     AdvanceLoc4(u32),
 }
 
-/// Section 6.4.2.2: how the canonical frame address is found. The offset of one with Sf is so many data alignment factors.
+/// Section 6.4.2.2: how the canonical frame address is found. The offset of one with Sf is so many
+/// data alignment factors.
 #[derive(Clone, Copy)]
 pub enum CfaDefinition {
     DefCfa(u64, u64),
@@ -29,7 +30,8 @@ pub enum CfaDefinition {
     DefCfaExpression(Block),
 }
 
-/// Section 6.4.2.3: how a register of the caller is found. An offset is so many data alignment factors.
+/// Section 6.4.2.3: how a register of the caller is found. An offset is so many data alignment
+/// factors.
 #[derive(Clone, Copy)]
 pub enum RuleDefinition {
     Undefined(u64),

@@ -1,5 +1,5 @@
-//! What was found in the sections of a memory, kept so that an address is searched once, and the front of a section that
-//! was read so that others are found sooner.
+//! What was found in the sections of a memory, kept so that an address is searched once, and the
+//! front of a section that was read so that others are found sooner.
 ghost use Rattle.std.specs.Prelude.{◌≡◌, ◌<◌, All, IfSome, IsSome};
 ghost use Rattle.plcr_regs.specs.Frames.{IfFrame, IsOfThread, frame_lookup};
 ghost use Rattle.plcr_dwarf_cfi.specs.Caller.{call_frame};
@@ -25,7 +25,8 @@ pub const KNOWN_DESCRIPTIONS: usize = 512;
 /// The fronts of so many sections are kept.
 pub const KNOWN_FRONTS: usize = 32;
 
-// Addresses of code have much in common, so that slots are chosen by all of their bits (Knuth, multiplicative hashing).
+// Addresses of code have much in common, so that slots are chosen by all of their bits (Knuth,
+// multiplicative hashing).
 const SPREAD: u64 = 0x9e37_79b9_7f4a_7c15;
 
 /// What a search of a section for an address gave.
@@ -177,7 +178,8 @@ fn no_descriptions(memory: &Memory) -> [Option<KnownDescription>; KNOWN_DESCRIPT
     [None; KNOWN_DESCRIPTIONS]
 }
 
-/// A memory, with what was found in its sections in room of fixed size, faults too. Contracts see the memory.
+/// A memory, with what was found in its sections in room of fixed size, faults too. Contracts see
+/// the memory.
 #[derive(Drop)]
 pub struct KnownDescriptions<'m> {
     memory: &'m Memory,

@@ -9,7 +9,8 @@ const X86: Arch = Arch::X86_64;
 // How many descriptions there are: each has 64 bytes of code, and those of some lie within others.
 const DESCRIPTIONS: u64 = 150;
 
-// The code of the description at an index, in an order of its own. Each tenth has no code, and each ninth 200 bytes.
+// The code of the description at an index, in an order of its own. Each tenth has no code, and each
+// ninth 200 bytes.
 fn code_of(index: u64) -> (u64, u64) {
     let start = F + 64 * (index.wrapping_mul(77) % DESCRIPTIONS);
     if index % 10 == 9 {
@@ -21,7 +22,8 @@ fn code_of(index: u64) -> (u64, u64) {
     }
 }
 
-// A section of many descriptions, each of which leaves the canonical frame address elsewhere, and a bad entry behind them.
+// A section of many descriptions, each of which leaves the canonical frame address elsewhere, and a
+// bad entry behind them.
 fn many(alloc: Global) -> Result<Vec<u8>, AllocError> {
     let mut section = Vec::new(alloc);
     put_entry(&mut section, 0, COMMON)?;

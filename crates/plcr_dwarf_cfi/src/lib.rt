@@ -1,5 +1,5 @@
-//! Call frame information of `__eh_frame` (DWARF 4, section 6.4; Linux Standard Base Core, "Exception Frames"): the frame of a
-//! caller by the table that an image has for its code.
+//! Call frame information of `__eh_frame` (DWARF 4, section 6.4; Linux Standard Base Core,
+//! "Exception Frames"): the frame of a caller by the table that an image has for its code.
 #![tactic(auto)]
 
 mod augmentations;

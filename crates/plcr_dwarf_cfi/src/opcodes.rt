@@ -1,4 +1,5 @@
-//! Opcodes of call frame instructions, by their names in the standard (DWARF 4, section 7.23, figure 40).
+//! Opcodes of call frame instructions, by their names in the standard (DWARF 4, section 7.23,
+//! figure 40).
 
 /// The first opcodes of the instructions whose low six bits are an operand.
 pub const DW_CFA_advance_loc: u8 = 0x40;

@@ -28,7 +28,8 @@ fn format_of(bits: u8) -> Option<Format>
     }
 }
 
-/// The encoding in a byte: a format, from 0 or from the pointer's own address, and whether that is where the pointer is.
+/// The encoding in a byte: a format, from 0 or from the pointer's own address, and whether that is
+/// where the pointer is.
 #[tactic(auto, unfolding(crate::specs::Pointers::encoding_of))]
 pub fn encoding_of(n: u8) -> Result<Encoding, CallFrameFault>
     ensures { result ≡ encoding_of n }

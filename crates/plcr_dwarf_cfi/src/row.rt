@@ -16,7 +16,8 @@ pub enum CfaRule {
     Expression(Block),
 }
 
-/// How a register of the caller is found. Offsets are from the canonical frame address, modulo 2^64.
+/// How a register of the caller is found. Offsets are from the canonical frame address, modulo
+/// 2^64.
 #[derive(Clone, Copy)]
 pub enum RegisterRule {
     Undefined,

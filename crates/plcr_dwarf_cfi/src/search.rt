@@ -113,7 +113,8 @@ pub fn description_over(entry: &Entry, address: u64) -> Option<FrameDescription>
     }
 }
 
-/// The first frame description entry of the code at an address, where no bad entry stands before it.
+/// The first frame description entry of the code at an address, where no bad entry stands before
+/// it.
 #[tactic(auto, using(crate::proofs::Searches::search_start, crate::proofs::Searches::search_ends, crate::proofs::Searches::search_hits, crate::proofs::Searches::search_goes, crate::proofs::Searches::search_fails, crate::proofs::Searches::search_out))]
 pub fn description_for<C: Cells>(
     cells: &C,

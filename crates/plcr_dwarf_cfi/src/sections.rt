@@ -137,8 +137,8 @@ pub fn signed<C: Cells>(cells: &C, at: u64) -> Result<Number, CallFrameFault>
     }
 }
 
-/// Passes over a length and so many bytes of an entry. The number is where they begin, and the place behind it where they
-/// end.
+/// Passes over a length and so many bytes of an entry. The number is where they begin, and the
+/// place behind it where they end.
 pub fn pass_over<C: Cells>(
     cells: &C,
     around: &Surroundings<'_>,

@@ -15,7 +15,8 @@ use plcr_macho::{Image, Part};
 use plcr_memory::Memory;
 use plcr_regs::{Frame, Step};
 
-/// The first frame description entry of a section that is one of code at an address, where no bad entry stands before it.
+/// The first frame description entry of a section that is one of code at an address, where no bad
+/// entry stands before it.
 #[tactic(auto, using(crate::proofs::Stored::stored_description))]
 pub fn find(
     memory: &Memory,
@@ -81,7 +82,8 @@ fn caller_from(
     caller_by(memory, frame, &description.common, &row)
 }
 
-/// The caller of a frame by what `find` answers for its lookup address, which a caller may have kept.
+/// The caller of a frame by what `find` answers for its lookup address, which a caller may have
+/// kept.
 pub fn step_from(
     memory: &Memory,
     section: &Part,

@@ -12,7 +12,8 @@ use crate::row::Row;
 use arrayvec::ArrayVec;
 use std::marker::Model;
 
-/// The row that holds from a location on, the initial row where there is one yet, and the rows that are remembered.
+/// The row that holds from a location on, the initial row where there is one yet, and the rows that
+/// are remembered.
 #[derive(Drop)]
 pub struct RowTable {
     row: Row,

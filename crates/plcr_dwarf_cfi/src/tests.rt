@@ -60,7 +60,8 @@ fn rows_of_a_function(rt: HostRuntime) -> Result<(), Fail> {
     Ok(())
 }
 
-// What is known of the frame in the tests of instructions: rax, rbx, rbp, rsp, r12 and rip. rdx is unknown.
+// What is known of the frame in the tests of instructions: rax, rbx, rbp, rsp, r12 and rip. rdx is
+// unknown.
 const KNOWN: &[(usize, u64)] = &[(0, 0xa0), (1, 0xb1), (6, 0x7140), (7, 0x7100), (12, 0xc1)];
 
 // Of its caller: rbx, rbp, rsp, r12 and rip.
@@ -317,7 +318,8 @@ fn found_entries_lead_to_callers(rt: HostRuntime) -> Result<(), Fail> {
     Ok(())
 }
 
-// A call may be the last instruction of its function, so that a return address is looked up by the byte before it.
+// A call may be the last instruction of its function, so that a return address is looked up by the
+// byte before it.
 #[test]
 fn an_inexact_frame_is_looked_up_one_byte_before(rt: HostRuntime) -> Result<(), Fail> {
     let section = function(rt.alloc(), COMMON, &[0x48, 0x0e, 32])?;

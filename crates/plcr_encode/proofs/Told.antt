@@ -1,5 +1,5 @@
 -- The rows in which the frames of a thread are kept, one after the other as a walk tells them.
-use Rattle.std.proofs.Common.{◌≡◌, ℕ, ◌+◌, ◌<◌, ◌≤◌, List, [], ◌∷◌, ◌++◌, length, map, Option, Some, None, sym, ap, ◌∙◌, append_assoc, append-nil, length-append, arith}
+use Rattle.std.proofs.Common.{◌≡◌, ℕ, ◌+◌, ◌<◌, ◌≤◌, ◌%◌, ◌^◌, List, [], ◌∷◌, ◌++◌, length, map, Option, Some, None, sym, ap, ◌∙◌, append_assoc, append-nil, length-append, arith}
 use Rattle.std.specs.Prelude.{unwrap_or}
 use Rattle.std.proofs.lemmas.List.{length-map}
 use Rattle.plcr_regs.specs.declared.arch.Arch.{Arch}
@@ -28,11 +28,12 @@ module _ (memory : Contents) (arch : Arch) (listed : List Listed) where
   abbrev kept : List Given → List FrameRow
   kept frames = map (row_of memory arch listed) frames
 
-  row_is : (x : Given) (now : Option Given) (pc by lookup : ℕ) (position : Option ℕ) → now ≡ Some x → Some pc ≡ frame_pc x.frame
+  row_is : (x : Given) (now : Option Given) (pc by lookup : ℕ) (position : Option ℕ) → now ≡ Some x → Some pc ≡ frame_pc x.frame → pc < 2 ^ 64
       → by ≡ unwrap_or (number_of now) 0 → lookup ≡ unwrap_or (lookup_of now) 0 → position ≡ position_of memory arch listed lookup
       → row_told pc by lookup position ≡ row_of memory arch listed x
-  row_is x now pc by lookup position is known by_is lookup_is position_is =
-      let pc_at : pc ≡ pc_of x = ap (λ (o : Option ℕ). unwrap_or o 0) known in
+  row_is x now pc by lookup position is known fits by_is lookup_is position_is =
+      let word : pc ≡ pc % 2 ^ 64 = omega (arith, fits) in
+      let pc_at : pc ≡ pc_of x = word ∙ ap (λ (o : Option ℕ). unwrap_or o 0 % 2 ^ 64) known in
       let by_at : by ≡ reader_number x.by = by_is ∙ ap (λ (n : Option Given). unwrap_or (number_of n) 0) is in
       let at : lookup ≡ lookup_in x = lookup_is ∙ ap (λ (n : Option Given). unwrap_or (lookup_of n) 0) is in
       let placed : position ≡ position_of memory arch listed (lookup_in x) = position_is ∙ ap (position_of memory arch listed) at in
@@ -40,13 +41,13 @@ module _ (memory : Contents) (arch : Arch) (listed : List Listed) where
 
   -- one more row is kept
   pub row_more : (rows : List FrameRow) (before after : List Given) (whole : List FrameRow) (last now : Option Given) (answer : Option ℕ) (pc by lookup : ℕ) (position : Option ℕ)
-      → Gives before after last now answer → answer ≡ Some pc
+      → Gives before after last now answer → answer ≡ Some pc → pc < 2 ^ 64
       → by ≡ unwrap_or (number_of now) 0 → lookup ≡ unwrap_or (lookup_of now) 0 → position ≡ position_of memory arch listed lookup
       → rows ++ kept before ≡ whole
       → (rows ++ row_told pc by lookup position ∷ []) ++ kept after ≡ whole
-  row_more rows [] after whole last now answer pc by lookup position gives is by_is lookup_is position_is had = let none = gives.0 in absurd (cc)
-  row_more rows (x ∷ xs) after whole last now answer pc by lookup position gives is by_is lookup_is position_is had =
-      let row = row_is x now pc by lookup position gives.2 (sym is ∙ gives.1) by_is lookup_is position_is in
+  row_more rows [] after whole last now answer pc by lookup position gives is fits by_is lookup_is position_is had = let none = gives.0 in absurd (cc)
+  row_more rows (x ∷ xs) after whole last now answer pc by lookup position gives is fits by_is lookup_is position_is had =
+      let row = row_is x now pc by lookup position gives.2 (sym is ∙ gives.1) fits by_is lookup_is position_is in
       let others = gives.3 in
       append_assoc rows (row_told pc by lookup position ∷ []) (kept after) ∙ ((λ k. rows ++ (row k ∷ kept (others k))) ∙ had)
 

@@ -1,5 +1,5 @@
 -- The frames of a thread as a report has them.
-use Rattle.std.specs.Prelude.{ℕ, List, [], map, Option, None, option_map, unwrap_or}
+use Rattle.std.specs.Prelude.{ℕ, ◌%◌, ◌^◌, List, [], map, Option, None, option_map, unwrap_or}
 use Rattle.std.specs.Option.{option_and_then}
 use Rattle.plcr_memory.specs.Regions.{Contents, bytes_at}
 use Rattle.plcr_regs.specs.declared.arch.Arch.{Arch}
@@ -14,9 +14,9 @@ use Rattle.plcr_cursor.specs.Frames.{frames_of}
 use Rattle.plcr_report.specs.declared.messages.Frame.{Frame}
 use Rattle.plcr_report.specs.declared.messages.Symbol.{Symbol}
 
--- the address of a frame's code, without signature; in each frame of a thread it is known
+-- the address of a frame's code, without signature, as a word of 64 bits; in each frame of a thread it is known
 abbrev pub pc_of : Given → ℕ
-pc_of given = unwrap_or (frame_pc given.frame) 0
+pc_of given = unwrap_or (frame_pc given.frame) 0 % 2 ^ 64
 
 -- the address by which a frame's function is looked up; it is known where that of the code is
 abbrev pub lookup_in : Given → ℕ

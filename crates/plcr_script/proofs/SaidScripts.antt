@@ -1,6 +1,6 @@
 -- What the lines of a script say, each by itself, makes the script.
-use Rattle.std.proofs.Common.{◌≡◌, ◌≢◌, ℕ, ◌+◌, ◌<◌, ◌^◌, Bool, true, false, List, [], ◌∷◌, ◌++◌, length, get_or, Some, None, Result, Ok, Err, refl, sym, ◌∙◌, ap, subst, append_assoc, arith, rules, ◌||◌}
-use Rattle.std.specs.Prelude.{All, AllPairs, IsFalse, drop, nat_lt, codes, if◌then◌else◌}
+use Rattle.std.proofs.Common.{◌≡◌, ◌≢◌, ℕ, ◌+◌, ◌<◌, Bool, true, false, List, [], ◌∷◌, ◌++◌, length, get_or, Option, Some, None, Result, Ok, refl, sym, ◌∙◌, ap, subst, append_assoc, arith, rules}
+use Rattle.std.specs.Prelude.{All, AllPairs, IsFalse, drop, codes, if◌then◌else◌}
 use Rattle.std.specs.List.{filter_map, list_any, fold}
 use Rattle.std.specs.Str.{bytes_eq}
 use Rattle.std.proofs.lemmas.Bool.{both_ways}
@@ -13,20 +13,18 @@ use Rattle.plcr_script.specs.declared.statements.NumberedStatement.{NumberedStat
 use Rattle.plcr_script.specs.declared.values.DescriptiveValues.{DescriptiveValues}
 use Rattle.plcr_script.specs.declared.modes.Mode.{Mode}
 use Rattle.plcr_script.specs.declared.limits.TheConstants.{DEFAULT_PASSES}
-use Rattle.plcr_base.specs.Chains.{◌>>=◌}
 use Rattle.plcr_base.proofs.Chained.{bind_ok}
 use Rattle.plcr_script.specs.declared.faults.Kind.{Kind}
-use Rattle.plcr_script.specs.declared.faults.Kind.TheVariants.{BadWord, NoSuchPass}
 use Rattle.plcr_script.specs.declared.statements.Statement.{Statement}
-use Rattle.plcr_script.specs.declared.statements.Statement.TheVariants.{Load, Unload, Report}
+use Rattle.plcr_script.specs.declared.statements.Statement.TheVariants.{Report}
 use Rattle.plcr_script.specs.Splits.{lines, words, first_word}
-use Rattle.plcr_script.specs.Refusals.{only_if}
 use Rattle.plcr_script.specs.Values.{default_values}
 use Rattle.plcr_script.specs.Scripts.{ScriptValue}
-use Rattle.plcr_script.specs.Sayings.{Saying, Sizes, Number, Words, States, says_nothing, is_file_name, number_below, table_in, set_in, load_in, unload_in, report_in, saying_of, saying_in}
-use Rattle.plcr_script.specs.Reading.{DraftValue, no_lines, with_said, is_out_of_place, is_named, is_taken, with_lines, script_in, file_of, files_of, written_by}
+use Rattle.plcr_script.specs.Sayings.{Saying, Sizes, Number, Words, States, says_nothing, table_in, set_in, statement_in, saying_of, saying_in}
+use Rattle.plcr_script.specs.Reading.{DraftValue, no_lines, passes_of, with_said, is_out_of_place, is_named, is_taken, with_lines, script_in, file_of, files_of, written_by}
 use Rattle.plcr_script.specs.Laws.{NumberedSaying, said_by, sayings_from, statement_by, values_by, is_sizes, sizes_in, IsSaidBy}
-use Rattle.plcr_script.proofs.Naming.{files_more}
+use Rattle.plcr_script.proofs.Naming.{neither, files_more}
+use Rattle.plcr_script.proofs.StatementsRead.{statement_read}
 use Rattle.plcr_script.proofs.WholeScripts.{Turn, Silent, Said, lines_turn}
 
 -- a line that says nothing, and one that says this
@@ -52,6 +50,10 @@ values_after values sayings = fold (λ values s. values_by values s.saying) valu
 abbrev NoSizes : NumberedSaying → Type 0
 NoSizes s = IsFalse (is_sizes s.saying)
 
+-- how many passes the lines behind a draft may name
+abbrev reads : DraftValue → ℕ
+reads draft = passes_of draft.mode draft.script.passes
+
 -- what sayings behind the first add to a draft
 record Later (draft out : DraftValue) (sayings : List NumberedSaying) : Type 0 where
   nodes : out.script.nodes ≡ draft.script.nodes
@@ -75,7 +77,7 @@ later_with draft out n (States statement) sayings h l = record {
 
 -- sizes aren't named behind the first saying, and nothing else changes them
 not_sizes : (draft : DraftValue) (s : Saying) → draft.begun ≡ true → is_out_of_place draft s ≡ false → is_sizes s ≡ false
-not_sizes draft (Sizes a b) begun out = absurd (true_false (sym begun ∙ out))
+not_sizes draft (Sizes a b) begun out = absurd (true_false (sym begun ∙ (neither draft.begun _ out).0))
   where
     true_false : true ≡ false → ⊥
     true_false h = cc
@@ -83,24 +85,24 @@ not_sizes draft (Number key number) begun out = refl
 not_sizes draft (Words key text) begun out = refl
 not_sizes draft (States statement) begun out = refl
 
-same_passes : (draft : DraftValue) (n : ℕ) (s : Saying) → is_sizes s ≡ false → (with_said draft n s).script.passes ≡ draft.script.passes
+same_passes : (draft : DraftValue) (n : ℕ) (s : Saying) → is_sizes s ≡ false → reads (with_said draft n s) ≡ reads draft
 same_passes draft n (Sizes a b) h = absurd cc
 same_passes draft n (Number key number) h = refl
 same_passes draft n (Words key text) h = refl
 same_passes draft n (States statement) h = refl
 
-later_turn : (others : List (List ℕ)) (draft next out : DraftValue) (n : ℕ) (line : List ℕ) → draft.begun ≡ true → Turn draft n line next → (next.begun ≡ true → Later next out (sayings_from (n + 1) next.script.passes others)) → Later draft out (sayings_from n draft.script.passes (line ∷ others))
+later_turn : (others : List (List ℕ)) (draft next out : DraftValue) (n : ℕ) (line : List ℕ) → draft.begun ≡ true → Turn draft n line next → (next.begun ≡ true → Later next out (sayings_from (n + 1) (reads next) others)) → Later draft out (sayings_from n (reads draft) (line ∷ others))
 later_turn others draft next out n line begun (Silent h same) rest =
-    let moved = subst (λ (d : DraftValue). Later d out (sayings_from (n + 1) d.script.passes others)) same (rest (rw same begun)) in
-    subst (λ (ss : List NumberedSaying). Later draft out ss) (sym (silent_from draft.script.passes n line others h)) moved
+    let moved = subst (λ (d : DraftValue). Later d out (sayings_from (n + 1) (reads d) others)) same (rest (rw same begun)) in
+    subst (λ (ss : List NumberedSaying). Later draft out ss) (sym (silent_from (reads draft) n line others h)) moved
 later_turn others draft next out n line begun (Said s h e place same) rest =
     let small = not_sizes draft s begun place in
-    let moved = subst (λ (d : DraftValue). Later d out (sayings_from (n + 1) d.script.passes others)) same (rest (rw same refl)) in
+    let moved = subst (λ (d : DraftValue). Later d out (sayings_from (n + 1) (reads d) others)) same (rest (rw same refl)) in
     let kept = subst (λ (p : ℕ). Later (with_said draft n s) out (sayings_from (n + 1) p others)) (same_passes draft n s small) moved in
-    subst (λ (ss : List NumberedSaying). Later draft out ss) (sym (says_from draft.script.passes n line others s h e)) (later_with draft out n s (sayings_from (n + 1) draft.script.passes others) small kept)
+    subst (λ (ss : List NumberedSaying). Later draft out ss) (sym (says_from (reads draft) n line others s h e)) (later_with draft out n s (sayings_from (n + 1) (reads draft) others) small kept)
 
 -- what the lines behind the first saying add
-later : (texts : List (List ℕ)) (draft out : DraftValue) (n : ℕ) → draft.begun ≡ true → with_lines draft n texts ≡ Ok out → Later draft out (sayings_from n draft.script.passes texts)
+later : (texts : List (List ℕ)) (draft out : DraftValue) (n : ℕ) → draft.begun ≡ true → with_lines draft n texts ≡ Ok out → Later draft out (sayings_from n (reads draft) texts)
 unfolding with_lines
 later [] draft out n begun h =
     let same : out ≡ draft = cc in
@@ -109,42 +111,24 @@ later (line ∷ others) draft out n begun h =
     let t = lines_turn draft out n line others h in
     later_turn others draft t.0 out n line begun t.1 (λ b. later others t.0 out (n + 1) b t.2)
 
--- `report` names no sizes
-report_no_sizes : (p : ℕ) (words : List (List ℕ)) (a b : ℕ) → report_in p words ≡ Ok (Sizes a b) → ⊥
-unfolding report_in
-report_no_sizes p [] a b h = cc
-report_no_sizes p (pass ∷ []) a b h = cc
-report_no_sizes p (pass ∷ file ∷ []) a b h =
-    let number = bind_ok (number_below (2 ^ 32) pass) (λ n. only_if BadWord (is_file_name file) file >>= λ name. only_if NoSuchPass (nat_lt n p) (States (Report n name))) (Sizes a b) h in
-    let named = bind_ok (only_if BadWord (is_file_name file) file) (λ name. only_if NoSuchPass (nat_lt number.0 p) (States (Report number.0 name))) (Sizes a b) number.2 in
-    never (nat_lt number.0 p) (Report number.0 named.0) named.2
-  where
-    never : (c : Bool) (s : Statement) → only_if NoSuchPass c (States s) ≡ Ok (Sizes a b) → ⊥
-    never true s h = cc
-    never false s h = cc
-report_no_sizes p (pass ∷ file ∷ more ∷ others) a b h = cc
-
--- the first word's choice
-abbrev chosen : (b₁ b₂ b₃ b₄ b₅ : Bool) (t s l u r : Result Saying Kind) → Result Saying Kind
-chosen b₁ b₂ b₃ b₄ b₅ t s l u r = if b₁ then t else if b₂ then s else if b₃ then l else if b₄ then u else if b₅ then r else Err BadWord
-
-choice_free : (b₁ b₂ b₃ b₄ b₅ : Bool) (t s l u r q : Result Saying Kind) (a b : ℕ) → (r ≡ Ok (Sizes a b) → ⊥) → chosen b₁ b₂ b₃ b₄ b₅ t s l u r ≡ Ok (Sizes a b) → chosen b₁ b₂ b₃ b₄ b₅ t s l u q ≡ Ok (Sizes a b)
-choice_free true b₂ b₃ b₄ b₅ t s l u r q a b never h = h
-choice_free false true b₃ b₄ b₅ t s l u r q a b never h = h
-choice_free false false true b₄ b₅ t s l u r q a b never h = h
-choice_free false false false true b₅ t s l u r q a b never h = h
-choice_free false false false false true t s l u r q a b never h = absurd (never h)
-choice_free false false false false false t s l u r q a b never h = h
-
 -- sizes are read alike for any number of passes
 sizes_free : (p q : ℕ) (line : List ℕ) (a b : ℕ) → saying_in p line ≡ Ok (Sizes a b) → saying_in q line ≡ Ok (Sizes a b)
 unfolding saying_of
-sizes_free p q line a b h =
-    let word = (first_word line).front in
-    let arguments = (first_word line).rest in
-    choice_free (bytes_eq word (codes "table")) (bytes_eq word (codes "set")) (bytes_eq word (codes "load")) (bytes_eq word (codes "unload")) (bytes_eq word (codes "report"))
-    (table_in (words arguments)) (set_in arguments) (load_in arguments) (unload_in (words arguments)) (report_in p (words arguments)) (report_in q (words arguments)) a b
-    (report_no_sizes p (words arguments) a b) h
+sizes_free p q line a b h = of (bytes_eq word (codes "table")) (bytes_eq word (codes "set")) h
+  where
+    word : List ℕ
+    word = (first_word line).front
+
+    arguments : Option (List ℕ)
+    arguments = (first_word line).rest
+
+    chosen : Bool → Bool → ℕ → Result Saying Kind
+    chosen table set passes = if table then table_in (words arguments) else if set then set_in arguments else statement_in passes word arguments
+
+    of : (table set : Bool) → chosen table set p ≡ Ok (Sizes a b) → chosen table set q ≡ Ok (Sizes a b)
+    of true set h = h
+    of false true h = h
+    of false false h = absurd (statement_read p word arguments (Sizes a b) h)
 
 -- what sayings make of the script of no lines
 record Whole (out : DraftValue) (sayings : List NumberedSaying) : Type 0 where
@@ -155,39 +139,39 @@ record Whole (out : DraftValue) (sayings : List NumberedSaying) : Type 0 where
   values : out.script.values ≡ values_after default_values sayings
 
 -- the number of passes with which the lines are read
-record Read (out : DraftValue) (n : ℕ) (texts : List (List ℕ)) : Type 0 where
+record Read (mode : Mode) (out : DraftValue) (n : ℕ) (texts : List (List ℕ)) : Type 0 where
   passes : ℕ
-  same : out.script.passes ≡ passes
+  same : passes_of mode out.script.passes ≡ passes
   whole : Whole out (sayings_from n passes texts)
 
 -- the first that is said
-first_said : (mode : Mode) (before : List ScriptValue) (others : List (List ℕ)) (out : DraftValue) (n : ℕ) (line : List ℕ) (s : Saying) → says_nothing line ≡ false → saying_in DEFAULT_PASSES line ≡ Ok s → Later (with_said (no_lines mode before) n s) out (sayings_from (n + 1) (with_said (no_lines mode before) n s).script.passes others) → Read out n (line ∷ others)
+first_said : (mode : Mode) (before : List ScriptValue) (others : List (List ℕ)) (out : DraftValue) (n : ℕ) (line : List ℕ) (s : Saying) → says_nothing line ≡ false → saying_in (passes_of mode DEFAULT_PASSES) line ≡ Ok s → Later (with_said (no_lines mode before) n s) out (sayings_from (n + 1) (reads (with_said (no_lines mode before) n s)) others) → Read mode out n (line ∷ others)
 first_said mode before others out n line (Sizes a b) h e l = record {
-  passes = b;
-  same = l.passes;
-  whole = subst (λ (ss : List NumberedSaying). Whole out ss) (sym (says_from b n line others (Sizes a b) h (sizes_free DEFAULT_PASSES b line a b e)))
+  passes = passes_of mode b;
+  same = ap (passes_of mode) l.passes;
+  whole = subst (λ (ss : List NumberedSaying). Whole out ss) (sym (says_from (passes_of mode b) n line others (Sizes a b) h (sizes_free (passes_of mode DEFAULT_PASSES) (passes_of mode b) line a b e)))
       (record { statements = l.statements; nodes = l.nodes; passes = l.passes; once = l.none; values = l.values });
 }
 first_said mode before others out n line (Number key number) h e l = record {
-  passes = DEFAULT_PASSES;
-  same = l.passes;
-  whole = subst (λ (ss : List NumberedSaying). Whole out ss) (sym (says_from DEFAULT_PASSES n line others (Number key number) h e))
+  passes = passes_of mode DEFAULT_PASSES;
+  same = ap (passes_of mode) l.passes;
+  whole = subst (λ (ss : List NumberedSaying). Whole out ss) (sym (says_from (passes_of mode DEFAULT_PASSES) n line others (Number key number) h e))
       (record { statements = l.statements; nodes = l.nodes; passes = l.passes; once = l.none; values = l.values });
 }
 first_said mode before others out n line (Words key text) h e l = record {
-  passes = DEFAULT_PASSES;
-  same = l.passes;
-  whole = subst (λ (ss : List NumberedSaying). Whole out ss) (sym (says_from DEFAULT_PASSES n line others (Words key text) h e))
+  passes = passes_of mode DEFAULT_PASSES;
+  same = ap (passes_of mode) l.passes;
+  whole = subst (λ (ss : List NumberedSaying). Whole out ss) (sym (says_from (passes_of mode DEFAULT_PASSES) n line others (Words key text) h e))
       (record { statements = l.statements; nodes = l.nodes; passes = l.passes; once = l.none; values = l.values });
 }
 first_said mode before others out n line (States statement) h e l = record {
-  passes = DEFAULT_PASSES;
-  same = l.passes;
-  whole = subst (λ (ss : List NumberedSaying). Whole out ss) (sym (says_from DEFAULT_PASSES n line others (States statement) h e))
+  passes = passes_of mode DEFAULT_PASSES;
+  same = ap (passes_of mode) l.passes;
+  whole = subst (λ (ss : List NumberedSaying). Whole out ss) (sym (says_from (passes_of mode DEFAULT_PASSES) n line others (States statement) h e))
       (record { statements = l.statements; nodes = l.nodes; passes = l.passes; once = l.none; values = l.values });
 }
 
-read_turn : (mode : Mode) (before : List ScriptValue) (others : List (List ℕ)) (next out : DraftValue) (n : ℕ) (line : List ℕ) → Turn (no_lines mode before) n line next → with_lines next (n + 1) others ≡ Ok out → (with_lines (no_lines mode before) (n + 1) others ≡ Ok out → Read out (n + 1) others) → Read out n (line ∷ others)
+read_turn : (mode : Mode) (before : List ScriptValue) (others : List (List ℕ)) (next out : DraftValue) (n : ℕ) (line : List ℕ) → Turn (no_lines mode before) n line next → with_lines next (n + 1) others ≡ Ok out → (with_lines (no_lines mode before) (n + 1) others ≡ Ok out → Read mode out (n + 1) others) → Read mode out n (line ∷ others)
 read_turn mode before others next out n line (Silent h same) rest goes =
     let r = goes (subst (λ (d : DraftValue). with_lines d (n + 1) others ≡ Ok out) same rest) in
     record {
@@ -199,13 +183,13 @@ read_turn mode before others next out n line (Said s h e place same) rest goes =
     first_said mode before others out n line s h e (later others (with_said (no_lines mode before) n s) out (n + 1) refl (subst (λ (d : DraftValue). with_lines d (n + 1) others ≡ Ok out) same rest))
 
 -- the lines up to the first saying, and those behind it
-read_whole : (mode : Mode) (before : List ScriptValue) (texts : List (List ℕ)) (out : DraftValue) (n : ℕ) → with_lines (no_lines mode before) n texts ≡ Ok out → Read out n texts
+read_whole : (mode : Mode) (before : List ScriptValue) (texts : List (List ℕ)) (out : DraftValue) (n : ℕ) → with_lines (no_lines mode before) n texts ≡ Ok out → Read mode out n texts
 unfolding with_lines
 read_whole mode before [] out n h =
     let same : out ≡ no_lines mode before = cc in
     record {
-      passes = DEFAULT_PASSES;
-      same = ap (λ (d : DraftValue). d.script.passes) same;
+      passes = passes_of mode DEFAULT_PASSES;
+      same = ap (λ (d : DraftValue). passes_of mode d.script.passes) same;
       whole = subst (λ (d : DraftValue). Whole d []) (sym same) (record { statements = refl; nodes = refl; passes = refl; once = All-nil NoSizes; values = refl });
     }
 read_whole mode before (line ∷ others) out n h =
@@ -218,10 +202,6 @@ unfolding is_named
 not_named names file h k d lt same =
     both_ways (list_any (λ name. bytes_eq name file) names) h
     (list_any_at (λ name. bytes_eq name file) names k d lt ((bytes_eq-Decides (get_or names k d) file).1 same))
-
-neither : (a b : Bool) → (a || b) ≡ false → (a ≡ false) × (b ≡ false)
-neither true b h = absurd cc
-neither false b h = (refl, h)
 
 not_named_in : (file : List ℕ) (xs ys : List (List ℕ)) → is_named file (xs ++ ys) ≡ false → (is_named file xs ≡ false) × (is_named file ys ≡ false)
 unfolding is_named
@@ -244,10 +224,9 @@ one_apart before files file free h =
     }
 
 statement_apart : (before : List (List ℕ)) (earlier : List NumberedStatement) (line : ℕ) (s : Statement) → is_taken (file_of s) (before ++ files_of earlier) ≡ false → AreApart before (files_of earlier) → AreApart before (files_of (earlier ++ record { line = line; statement = s } ∷ []))
-statement_apart before earlier line (Load header name) free h = rw (files_more earlier (record { line = line; statement = Load header name }), append-nil (files_of earlier)) h
-statement_apart before earlier line (Unload header) free h = rw (files_more earlier (record { line = line; statement = Unload header }), append-nil (files_of earlier)) h
 statement_apart before earlier line (Report pass file) free h =
     rw (files_more earlier (record { line = line; statement = Report pass file })) (one_apart before (files_of earlier) file free h)
+statement_apart before earlier line other free h = rw (files_more earlier (record { line = line; statement = other }), append-nil (files_of earlier)) h
 
 abbrev IsApart : DraftValue → Type 0
 IsApart draft = AreApart (written_by draft.before) (files_of draft.script.statements)
@@ -256,7 +235,7 @@ said_apart : (draft : DraftValue) (n : ℕ) (s : Saying) → is_out_of_place dra
 said_apart draft n (Sizes a b) place h = h
 said_apart draft n (Number key number) place h = h
 said_apart draft n (Words key text) place h = h
-said_apart draft n (States statement) place h = statement_apart (written_by draft.before) draft.script.statements n statement place h
+said_apart draft n (States statement) place h = statement_apart (written_by draft.before) draft.script.statements n statement (neither _ _ (neither _ _ place).1).1 h
 
 turn_apart : (draft next : DraftValue) (n : ℕ) (line : List ℕ) → Turn draft n line next → IsApart draft → IsApart next
 turn_apart draft next n line (Silent h same) apart = subst IsApart (sym same) apart
@@ -276,7 +255,7 @@ lines_apart (line ∷ others) draft out n h apart =
     (rest.0 ∙ turn_before draft t.0 n line t.1, rest.1)
 
 -- a script that is read is what its lines say
-pub script_said : (mode : Mode) (before : List ScriptValue) (bytes : List ℕ) (script : ScriptValue) → script_in mode before bytes ≡ Ok script → IsSaidBy before (sayings_from 1 script.passes (lines bytes)) script
+pub script_said : (mode : Mode) (before : List ScriptValue) (bytes : List ℕ) (script : ScriptValue) → script_in mode before bytes ≡ Ok script → IsSaidBy before (sayings_from 1 (passes_of mode script.passes) (lines bytes)) script
 unfolding script_in
 script_said mode before bytes script h =
     let d = bind_ok (with_lines (no_lines mode before) 1 (lines bytes)) (λ (draft : DraftValue). Ok draft.script) script h in
@@ -285,7 +264,7 @@ script_said mode before bytes script h =
     let w = subst (λ (p : ℕ). Whole d.0 (sayings_from 1 p (lines bytes))) (sym r.same) r.whole in
     let a = lines_apart (lines bytes) (no_lines mode before) d.0 1 d.1 (record { apart = λ i j d before within. absurd (omega arith); fresh = All-nil (Differs (written_by before)) }) in
     let apart = subst (λ (scripts : List ScriptValue). AreApart (written_by scripts) (files_of d.0.script.statements)) a.0 a.1 in
-    subst (λ (s : ScriptValue). IsSaidBy before (sayings_from 1 s.passes (lines bytes)) s) same (record {
+    subst (λ (s : ScriptValue). IsSaidBy before (sayings_from 1 (passes_of mode s.passes) (lines bytes)) s) same (record {
       statements = w.statements;
       nodes = w.nodes;
       passes = w.passes;

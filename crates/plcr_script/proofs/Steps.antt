@@ -1,5 +1,6 @@
 -- What each line of a script makes of the script so far.
 use Rattle.std.proofs.Common.{◌≡◌, ℕ, ◌+◌, true, false, List, [], ◌∷◌, length, Option, Some, None, is_some, Result, Ok, Err, ◌==◌, refl, ap, arith}
+use Rattle.std.specs.Prelude.{IfOk}
 use Rattle.std.specs.Option.{option_copied}
 use denote.Ref.{Bor}
 use Rattle.plcr_script.proofs.Cutting.{a_part}
@@ -7,11 +8,14 @@ use Rattle.plcr_script.specs.declared.faults.Kind.TheVariants.{TooMany}
 use Rattle.plcr_script.specs.declared.faults.Kind.{Kind}
 use Rattle.plcr_script.specs.declared.faults.ScriptFault.{ScriptFault}
 use Rattle.plcr_script.specs.declared.faults.ScriptFault.TheVariants.{Refused, Memory}
+use Rattle.plcr_script.specs.declared.wording.Wording.{Wording}
 use Rattle.plcr_script.specs.Splits.{lines, words}
+use Rattle.plcr_script.specs.inner.Fits.{IsFit}
+use Rattle.plcr_script.specs.inner.Wording.{said}
 use Rattle.plcr_base.specs.Chains.{◌>>=◌}
 use Rattle.plcr_script.specs.Refusals.{Refusal, kind_number, refused_at}
-use Rattle.plcr_script.specs.Sayings.{Saying, says_nothing, saying_in, table_in, unload_in, report_in}
-use Rattle.plcr_script.specs.Reading.{DraftValue, is_out_of_place, with_said, with_line, with_lines, Tells}
+use Rattle.plcr_script.specs.Sayings.{Saying, says_nothing, saying_in, one_word, two_words, end_in}
+use Rattle.plcr_script.specs.Reading.{DraftValue, passes_of, is_out_of_place, with_said, with_line, with_lines, Tells}
 
 -- a line that says nothing
 pub nothing : (draft : DraftValue) (n : ℕ) (line : List ℕ) → says_nothing line ≡ true → with_line draft n line ≡ Ok draft
@@ -19,17 +23,17 @@ unfolding with_line
 nothing draft n line h = rw h refl
 
 -- a line that is refused by itself
-pub unworded : (draft : DraftValue) (n : ℕ) (line : List ℕ) (kind : Kind) → says_nothing line ≡ false → saying_in draft.script.passes line ≡ Err kind → refused_at n (with_line draft n line) ≡ Err (record { line = n; kind = kind_number kind })
+pub unworded : (draft : DraftValue) (n : ℕ) (line : List ℕ) (kind : Kind) → says_nothing line ≡ false → saying_in (passes_of draft.mode draft.script.passes) line ≡ Err kind → refused_at n (with_line draft n line) ≡ Err (record { line = n; kind = kind_number kind })
 unfolding with_line
 unworded draft n line kind h e = rw (h, e) refl
 
 -- what is said out of place
-pub displaced : (draft : DraftValue) (n : ℕ) (line : List ℕ) (s : Saying) → says_nothing line ≡ false → saying_in draft.script.passes line ≡ Ok s → is_out_of_place draft s ≡ true → refused_at n (with_line draft n line) ≡ Err (record { line = n; kind = 6 })
+pub displaced : (draft : DraftValue) (n : ℕ) (line : List ℕ) (s : Saying) → says_nothing line ≡ false → saying_in (passes_of draft.mode draft.script.passes) line ≡ Ok s → is_out_of_place draft s ≡ true → refused_at n (with_line draft n line) ≡ Err (record { line = n; kind = 6 })
 unfolding with_line
 displaced draft n line s h e out = rw (h, e, out) refl
 
 -- what is said in its place
-pub placed : (draft : DraftValue) (n : ℕ) (line : List ℕ) (s : Saying) → says_nothing line ≡ false → saying_in draft.script.passes line ≡ Ok s → is_out_of_place draft s ≡ false → with_line draft n line ≡ Ok (with_said draft n s)
+pub placed : (draft : DraftValue) (n : ℕ) (line : List ℕ) (s : Saying) → says_nothing line ≡ false → saying_in (passes_of draft.mode draft.script.passes) line ≡ Ok s → is_out_of_place draft s ≡ false → with_line draft n line ≡ Ok (with_said draft n s)
 unfolding with_line
 placed draft n line s h e in_place = rw (h, e, in_place) refl
 
@@ -55,17 +59,20 @@ ends draft n [] h = refl
 ends draft n (b ∷ bs) h = absurd (omega arith)
 
 -- words after the last that counts
-pub too_many_for_report : (passes : ℕ) (pass file : List ℕ) (more : Option (Bor (List ℕ))) → is_some more ≡ true → report_in passes (pass ∷ file ∷ words (option_copied more)) ≡ Err TooMany
-unfolding report_in
-too_many_for_report passes pass file None h = absurd cc
-too_many_for_report passes pass file (Some rest) h = let some = a_part (λ b. b == 32) rest.now in rw some.2 refl
+pub more_than_one : (word : List ℕ) (more : Option (Bor (List ℕ))) → is_some more ≡ true → one_word (word ∷ words (option_copied more)) ≡ Err TooMany
+more_than_one word None h = absurd cc
+more_than_one word (Some rest) h = let some = a_part (λ b. b == 32) rest.now in rw some.2 refl
 
-pub too_many_for_table : (nodes passes : List ℕ) (more : Option (Bor (List ℕ))) → is_some more ≡ true → table_in (nodes ∷ passes ∷ words (option_copied more)) ≡ Err TooMany
-unfolding table_in
-too_many_for_table nodes passes None h = absurd cc
-too_many_for_table nodes passes (Some rest) h = let some = a_part (λ b. b == 32) rest.now in rw some.2 refl
+pub more_than_two : (first second : List ℕ) (more : Option (Bor (List ℕ))) → is_some more ≡ true → two_words (first ∷ second ∷ words (option_copied more)) ≡ Err TooMany
+more_than_two first second None h = absurd cc
+more_than_two first second (Some rest) h = let some = a_part (λ b. b == 32) rest.now in rw some.2 refl
 
-pub too_many_for_unload : (header : List ℕ) (more : Option (Bor (List ℕ))) → is_some more ≡ true → unload_in (header ∷ words (option_copied more)) ≡ Err TooMany
-unfolding unload_in
-too_many_for_unload header None h = absurd cc
-too_many_for_unload header (Some rest) h = let some = a_part (λ b. b == 32) rest.now in rw some.2 refl
+pub more_than_none : (more : Option (Bor (List ℕ))) → is_some more ≡ true → end_in (words (option_copied more)) ≡ Err TooMany
+unfolding end_in
+more_than_none None h = absurd cc
+more_than_none (Some rest) h = let some = a_part (λ b. b == 32) rest.now in rw some.2 refl
+
+-- what is within its limits for any number of passes is so for one
+pub at_passes : (p : ℕ) (r : Result Wording Kind) → IfOk r (λ wording. (count : ℕ) → IsFit count (said wording)) → IfOk r (λ wording. IsFit p (said wording))
+at_passes p (Ok wording) h = h p
+at_passes p (Err kind) h = tt

@@ -11,7 +11,7 @@ use Rattle.plcr_script.specs.Splits.{lines}
 use Rattle.plcr_script.specs.Refusals.{Refusal, kind_number, only_if, refused_at}
 use Rattle.plcr_script.specs.Scripts.{ScriptValue}
 use Rattle.plcr_script.specs.Sayings.{Saying, says_nothing, saying_in}
-use Rattle.plcr_script.specs.Reading.{DraftValue, no_lines, is_out_of_place, with_said, with_line, with_lines, script_in}
+use Rattle.plcr_script.specs.Reading.{DraftValue, no_lines, passes_of, is_out_of_place, with_said, with_line, with_lines, script_in}
 use Rattle.plcr_script.specs.Laws.{IsFirstRefused}
 
 refused_ok : {A : Type 0} (n : ℕ) (r : Result A Kind) (x : A) → refused_at n r ≡ Ok x → r ≡ Ok x
@@ -21,7 +21,7 @@ refused_ok n (Err kind) x h = absurd cc
 -- what became of a line that is read
 pub data Turn (draft : DraftValue) (n : ℕ) (line : List ℕ) (next : DraftValue) : Type 0 where
   Silent : says_nothing line ≡ true → next ≡ draft → Turn draft n line next
-  Said : (s : Saying) → says_nothing line ≡ false → saying_in draft.script.passes line ≡ Ok s → is_out_of_place draft s ≡ false → next ≡ with_said draft n s → Turn draft n line next
+  Said : (s : Saying) → says_nothing line ≡ false → saying_in (passes_of draft.mode draft.script.passes) line ≡ Ok s → is_out_of_place draft s ≡ false → next ≡ with_said draft n s → Turn draft n line next
 
 -- a line by whether it says nothing, and by what it says
 abbrev placed_at : DraftValue → ℕ → Saying → Bool → Result DraftValue Kind
@@ -34,7 +34,7 @@ placed_ok draft next n s false h = (refl, cc)
 abbrev step : DraftValue → ℕ → Bool → Result Saying Kind → Result DraftValue Kind
 step draft n empty read = if empty then Ok draft else (read >>= λ s. placed_at draft n s (is_out_of_place draft s))
 
-step_turn : (draft next : DraftValue) (n : ℕ) (line : List ℕ) (empty : Bool) (read : Result Saying Kind) → says_nothing line ≡ empty → saying_in draft.script.passes line ≡ read → step draft n empty read ≡ Ok next → Turn draft n line next
+step_turn : (draft next : DraftValue) (n : ℕ) (line : List ℕ) (empty : Bool) (read : Result Saying Kind) → says_nothing line ≡ empty → saying_in (passes_of draft.mode draft.script.passes) line ≡ read → step draft n empty read ≡ Ok next → Turn draft n line next
 step_turn draft next n line true read e r h = let same : next ≡ draft = cc in Silent e same
 step_turn draft next n line false (Err kind) e r h = absurd cc
 step_turn draft next n line false (Ok s) e r h = let p = placed_ok draft next n s (is_out_of_place draft s) h in Said s e r p.0 p.1
@@ -42,7 +42,7 @@ step_turn draft next n line false (Ok s) e r h = let p = placed_ok draft next n 
 -- each line that is read
 pub turn_of : (draft next : DraftValue) (n : ℕ) (line : List ℕ) → with_line draft n line ≡ Ok next → Turn draft n line next
 unfolding with_line
-turn_of draft next n line h = step_turn draft next n line (says_nothing line) (saying_in draft.script.passes line) refl refl h
+turn_of draft next n line h = step_turn draft next n line (says_nothing line) (saying_in (passes_of draft.mode draft.script.passes) line) refl refl h
 
 -- the lines after the first
 pub lines_turn : (draft out : DraftValue) (n : ℕ) (line : List ℕ) (others : List (List ℕ)) → with_lines draft n (line ∷ others) ≡ Ok out → (next : DraftValue) × Turn draft n line next × (with_lines next (n + 1) others ≡ Ok out)

@@ -4,10 +4,11 @@ use Rattle.plcr_regs.specs.declared.arch.Arch.{Arch}
 use Rattle.plcr_machine.specs.declared.limits.TheConstants.{MOST_NODES, MOST_PASSES}
 use Rattle.plcr_encode.specs.Conditions.{IsWritable}
 use Rattle.plcr_script.specs.declared.statements.Statement.{Statement}
-use Rattle.plcr_script.specs.declared.statements.Statement.TheVariants.{Load, Unload, Report}
+use Rattle.plcr_script.specs.declared.statements.Statement.TheVariants.{Load, BeginLoad, Report}
 use Rattle.plcr_script.specs.declared.statements.NumberedStatement.{NumberedStatement}
 use Rattle.plcr_script.specs.Scripts.{ScriptValue}
 use Rattle.plcr_script.specs.Sayings.{is_file_name}
+use Rattle.plcr_script.specs.Places.{AreInPlace}
 use Rattle.plcr_script.specs.Contexts.{context_of}
 
 -- a list has a node and a pass at least, and each within its limit
@@ -17,11 +18,13 @@ AreSizes nodes passes = (1 ≤ nodes) × (nodes ≤ MOST_NODES) × (1 ≤ passes
 -- a statement's name has fewer than 2^32 bytes, and its file has a lawful name
 abbrev pub IsFitStatement : Statement → Type 0
 IsFitStatement (Load header name) = length name < 2 ^ 32
-IsFitStatement (Unload header) = Unit {0}
+IsFitStatement (BeginLoad header name) = length name < 2 ^ 32
 IsFitStatement (Report pass file) = IsTrue (is_file_name file)
+IsFitStatement other = Unit {0}
 
--- a script within its limits, whose descriptive values can be written in reports
+-- a script within its limits, whose statements stand in their places and whose descriptive values can be written in reports
 pub record IsLawful (script : ScriptValue) : Type 0 where
   pub sizes : AreSizes script.nodes script.passes
+  pub places : AreInPlace script.passes script.statements
   pub statements : All (λ (s : NumberedStatement). IsFitStatement s.statement) script.statements
   pub writable : (arch : Arch) → IsWritable (context_of script arch)

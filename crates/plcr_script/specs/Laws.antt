@@ -24,7 +24,7 @@ pub record NumberedSaying : Type 0 where
 abbrev pub said_by : ℕ → ℕ × List ℕ → Option NumberedSaying
 said_by passes line = if says_nothing line.1 then None else option_map (λ s. record { line = line.0; saying = s }) (result_ok (saying_in passes line.1))
 
--- what the lines from a number on say, each by itself, where there are this many passes
+-- what the lines from a number on say, each by itself, where statements may name this many passes
 abbrev pub sayings_from : ℕ → ℕ → List (List ℕ) → List NumberedSaying
 sayings_from number passes texts = filter_map (said_by passes) (enumerate_from number texts)
 

@@ -1,5 +1,5 @@
 -- What a script means: its statements, sizes and values, or its first refused line.
-use Rattle.std.specs.Prelude.{◌≡◌, ℕ, ◌+◌, Bool, true, false, List, [], ◌∷◌, ◌++◌, Option, Some, None, Result, Ok, Err, not, length, nat_lt, flat_map, filter_map, if◌then◌else◌}
+use Rattle.std.specs.Prelude.{◌≡◌, ℕ, ◌+◌, ◌&&◌, ◌||◌, Bool, true, false, List, [], ◌∷◌, ◌++◌, Option, Some, None, Result, Ok, Err, not, length, nat_lt, flat_map, filter_map, if◌then◌else◌}
 use Rattle.std.specs.List.{list_any}
 use Rattle.std.specs.Str.{bytes_eq}
 use Rattle.plcr_base.specs.Chains.{◌>>=◌}
@@ -8,8 +8,9 @@ use Rattle.plcr_script.specs.declared.faults.Kind.TheVariants.{OutOfPlace}
 use Rattle.plcr_script.specs.declared.faults.ScriptFault.{ScriptFault}
 use Rattle.plcr_script.specs.declared.faults.ScriptFault.TheVariants as faults
 use Rattle.plcr_script.specs.declared.modes.Mode.{Mode}
+use Rattle.plcr_script.specs.declared.modes.Mode.TheVariants.{Single, Worker}
 use Rattle.plcr_script.specs.declared.statements.Statement.{Statement}
-use Rattle.plcr_script.specs.declared.statements.Statement.TheVariants.{Load, Unload, Report}
+use Rattle.plcr_script.specs.declared.statements.Statement.TheVariants.{BeginLoad, BeginUnload, Step, End, Report}
 use Rattle.plcr_script.specs.declared.statements.NumberedStatement.{NumberedStatement}
 use Rattle.plcr_script.specs.declared.limits.TheConstants.{DEFAULT_NODES, DEFAULT_PASSES}
 use Rattle.plcr_script.specs.Splits.{lines}
@@ -17,13 +18,13 @@ use Rattle.plcr_script.specs.Keys.{with_number, with_text}
 use Rattle.plcr_script.specs.Values.{default_values}
 use Rattle.plcr_script.specs.Refusals.{Refusal, only_if, refused_at}
 use Rattle.plcr_script.specs.Scripts.{ScriptValue, script_value}
+use Rattle.plcr_script.specs.Places.{is_misplaced}
 use Rattle.plcr_script.specs.Sayings.{Saying, Sizes, Number, Words, States, says_nothing, saying_in}
 
 -- the file that a statement writes, if it writes one
 abbrev pub file_of : Statement → Option (List ℕ)
-file_of (Load header name) = None
-file_of (Unload header) = None
 file_of (Report pass file) = Some file
+file_of other = None
 
 -- the files that statements write, in order
 abbrev pub files_of : List NumberedStatement → List (List ℕ)
@@ -60,12 +61,35 @@ no_lines mode before = draft_value mode before (script_value [] DEFAULT_NODES DE
 abbrev pub files_before : DraftValue → List (List ℕ)
 files_before draft = written_by draft.before ++ files_of draft.script.statements
 
--- whether this may not be said behind the lines so far: sizes behind anything, a value behind a statement of the run, a report into a file that an earlier one writes, in this script or in one before it
+-- how many passes the statements of a script may name: those of its sizes; the script of a worker has one
+abbrev pub passes_of : Mode → ℕ → ℕ
+passes_of Single passes = passes
+passes_of (Worker first) passes = 1
+
+-- whether a script is a worker's, and whether it is one behind the first, which has the sizes and values
+abbrev pub is_worker : Mode → Bool
+is_worker Single = false
+is_worker (Worker first) = true
+
+abbrev pub is_later : Mode → Bool
+is_later Single = false
+is_later (Worker first) = not first
+
+-- whether a statement leaves a change open or goes on with one
+abbrev pub is_of_open_change : Statement → Bool
+is_of_open_change (BeginLoad header name) = true
+is_of_open_change (BeginUnload header) = true
+is_of_open_change (Step most) = true
+is_of_open_change End = true
+is_of_open_change other = false
+
+-- whether this may not be said behind the lines so far: sizes behind anything; a value behind a statement of the run; either in a worker's script that isn't the first; a statement of an open change in a worker's script; one that finds its pass where it may not be; a report into a file that an earlier one writes, in this script or in one before it
 abbrev pub is_out_of_place : DraftValue → Saying → Bool
-is_out_of_place draft (Sizes nodes passes) = draft.begun
-is_out_of_place draft (Number key number) = nat_lt 0 (length draft.script.statements)
-is_out_of_place draft (Words key text) = nat_lt 0 (length draft.script.statements)
-is_out_of_place draft (States statement) = is_taken (file_of statement) (files_before draft)
+is_out_of_place draft (Sizes nodes passes) = draft.begun || is_later draft.mode
+is_out_of_place draft (Number key number) = nat_lt 0 (length draft.script.statements) || is_later draft.mode
+is_out_of_place draft (Words key text) = nat_lt 0 (length draft.script.statements) || is_later draft.mode
+is_out_of_place draft (States statement) =
+    (is_worker draft.mode && is_of_open_change statement) || (is_misplaced draft.script.statements statement || is_taken (file_of statement) (files_before draft))
 
 -- the script with what a line says
 abbrev pub with_saying : ScriptValue → ℕ → Saying → ScriptValue
@@ -80,7 +104,7 @@ with_said draft line saying = record draft { script = with_saying draft.script l
 -- the draft after a line, or what is wrong with the line
 unfoldable pub with_line : DraftValue → ℕ → List ℕ → Result DraftValue Kind
 with_line draft number line = if says_nothing line then Ok draft else do
-  saying ← saying_in draft.script.passes line
+  saying ← saying_in (passes_of draft.mode draft.script.passes) line
   placed ← only_if OutOfPlace (not (is_out_of_place draft saying)) saying
   Ok (with_said draft number placed)
 

@@ -10,7 +10,7 @@ use Rattle.plcr_script.specs.declared.faults.Kind.TheVariants.{BadWord, BadNumbe
 use Rattle.plcr_script.specs.declared.keys.NumberKey.{NumberKey}
 use Rattle.plcr_script.specs.declared.keys.TextKey.{TextKey}
 use Rattle.plcr_script.specs.declared.statements.Statement.{Statement}
-use Rattle.plcr_script.specs.declared.statements.Statement.TheVariants.{Load, Unload, Report}
+use Rattle.plcr_script.specs.declared.statements.Statement.TheVariants.{Load, Unload, BeginLoad, BeginUnload, Step, End, Enter, Walk, Leave, Report}
 use Rattle.plcr_script.specs.Splits.{words, first_word}
 use Rattle.plcr_script.specs.Numerals.{number_in, below}
 use Rattle.plcr_script.specs.Keys.{number_key_in, text_key_in, least_of, limit_of}
@@ -44,15 +44,26 @@ number_below limit word = or_refuse BadNumber (below limit (number_in word))
 abbrev pub number_to : ℕ → List ℕ → Result ℕ Kind
 number_to most word = number_below (most + 1) word >>= λ number. only_if BadNumber (nat_le 1 number) number
 
+-- the one word that there is
+abbrev pub one_word : List (List ℕ) → Result (List ℕ) Kind
+one_word [] = Err TooFew
+one_word (word ∷ []) = Ok word
+one_word (word ∷ more ∷ others) = Err TooMany
+
+-- the two words that there are
+abbrev pub two_words : List (List ℕ) → Result (List ℕ × List ℕ) Kind
+two_words [] = Err TooFew
+two_words (first ∷ []) = Err TooFew
+two_words (first ∷ second ∷ []) = Ok (first, second)
+two_words (first ∷ second ∷ more ∷ others) = Err TooMany
+
 -- `table NODES PASSES`, by the words behind the first
 unfoldable pub table_in : List (List ℕ) → Result Saying Kind
-table_in [] = Err TooFew
-table_in (nodes ∷ []) = Err TooFew
-table_in (nodes ∷ passes ∷ []) = do
-  most_nodes ← number_to MOST_NODES nodes
-  most_passes ← number_to MOST_PASSES passes
-  Ok (Sizes most_nodes most_passes)
-table_in (nodes ∷ passes ∷ more ∷ others) = Err TooMany
+table_in arguments = do
+  sizes ← two_words arguments
+  nodes ← number_to MOST_NODES sizes.0
+  passes ← number_to MOST_PASSES sizes.1
+  Ok (Sizes nodes passes)
 
 -- the number of a key that a word writes
 abbrev pub number_for : NumberKey → List ℕ → Result ℕ Kind
@@ -71,38 +82,104 @@ set_in arguments = do
   value ← or_refuse TooFew (first_word text).rest
   value_in (number_key_in (first_word text).front) (text_key_in (first_word text).front) value
 
--- `load HEADER NAME`, by what stands behind the first word; NAME is the rest of the line, empty where there is none
-unfoldable pub load_in : Option (List ℕ) → Result Saying Kind
-load_in arguments = do
+-- HEADER and NAME of a load, by what stands behind its word; NAME is the rest of the line, empty where there is none
+abbrev pub image_in : Option (List ℕ) → Result (ℕ × List ℕ) Kind
+image_in arguments = do
   text ← or_refuse TooFew arguments
   header ← number_below (2 ^ 64) (first_word text).front
-  Ok (States (Load header (unwrap_or (first_word text).rest [])))
+  Ok (header, unwrap_or (first_word text).rest [])
 
--- `unload HEADER`, by the words behind the first
-unfoldable pub unload_in : List (List ℕ) → Result Saying Kind
-unload_in [] = Err TooFew
-unload_in (header ∷ []) = number_below (2 ^ 64) header >>= λ number. Ok (States (Unload number))
-unload_in (header ∷ more ∷ others) = Err TooMany
+-- `load HEADER NAME`, by what stands behind its word
+unfoldable pub load_in : (ℕ → List ℕ → Statement) → Option (List ℕ) → Result Saying Kind
+load_in load arguments = image_in arguments >>= λ image. Ok (States (load image.0 image.1))
 
--- `report R FILE`, by the words behind the first, where there are this many passes
-unfoldable pub report_in : ℕ → List (List ℕ) → Result Saying Kind
-report_in passes [] = Err TooFew
-report_in passes (pass ∷ []) = Err TooFew
-report_in passes (pass ∷ file ∷ []) = do
+-- `unload HEADER`, by the words behind its own
+unfoldable pub unload_in : (ℕ → Statement) → List (List ℕ) → Result Saying Kind
+unload_in unload arguments = do
+  word ← one_word arguments
+  header ← number_below (2 ^ 64) word
+  Ok (States (unload header))
+
+-- a load or an unload that is begun, by its word and what stands behind it
+abbrev pub begun_in : List ℕ → Option (List ℕ) → Result Saying Kind
+begun_in word arguments =
+    if bytes_eq word (codes "load") then load_in BeginLoad arguments else
+    if bytes_eq word (codes "unload") then unload_in BeginUnload (words arguments) else
+    Err BadWord
+
+-- `begin load HEADER NAME` or `begin unload HEADER`, by what stands behind the first word
+unfoldable pub begin_in : Option (List ℕ) → Result Saying Kind
+begin_in arguments = or_refuse TooFew arguments >>= λ text. begun_in (first_word text).front (first_word text).rest
+
+-- `step K`, by the words behind the first
+unfoldable pub step_in : List (List ℕ) → Result Saying Kind
+step_in arguments = do
+  word ← one_word arguments
+  most ← number_below (2 ^ 32) word
+  Ok (States (Step most))
+
+-- `end`, by the words behind it
+unfoldable pub end_in : List (List ℕ) → Result Saying Kind
+end_in [] = Ok (States End)
+end_in (more ∷ others) = Err TooMany
+
+-- a pass, which is one of so many
+abbrev pub existing : ℕ → ℕ → Result ℕ Kind
+existing passes pass = only_if NoSuchPass (nat_lt pass passes) pass
+
+-- the pass R that one word names
+abbrev pub pass_in : ℕ → List (List ℕ) → Result ℕ Kind
+pass_in passes arguments = do
+  word ← one_word arguments
+  pass ← number_below (2 ^ 32) word
+  existing passes pass
+
+-- `enter R` and `leave R`, by the words behind the first
+unfoldable pub moving_in : ℕ → (ℕ → Statement) → List (List ℕ) → Result Saying Kind
+moving_in passes statement arguments = pass_in passes arguments >>= λ pass. Ok (States (statement pass))
+
+-- `walk R K`, by these two words, and by the words behind the first
+abbrev pub walk_by : ℕ → (pass most : List ℕ) → Result Saying Kind
+walk_by passes pass most = do
+  number ← number_below (2 ^ 32) pass
+  bound ← number_below (2 ^ 32) most
+  walker ← existing passes number
+  Ok (States (Walk walker bound))
+
+unfoldable pub walk_in : ℕ → List (List ℕ) → Result Saying Kind
+walk_in passes arguments = two_words arguments >>= λ both. walk_by passes both.0 both.1
+
+-- `report R FILE`, by these two words, and by the words behind the first
+abbrev pub report_by : ℕ → (pass file : List ℕ) → Result Saying Kind
+report_by passes pass file = do
   number ← number_below (2 ^ 32) pass
   name ← only_if BadWord (is_file_name file) file
-  only_if NoSuchPass (nat_lt number passes) (States (Report number name))
-report_in passes (pass ∷ file ∷ more ∷ others) = Err TooMany
+  reporter ← existing passes number
+  Ok (States (Report reporter name))
+
+unfoldable pub report_in : ℕ → List (List ℕ) → Result Saying Kind
+report_in passes arguments = two_words arguments >>= λ both. report_by passes both.0 both.1
+
+-- what a line of a statement says by its first word and what stands behind it, where statements may name this many passes
+unfoldable pub statement_in : ℕ → List ℕ → Option (List ℕ) → Result Saying Kind
+statement_in passes word arguments =
+    if bytes_eq word (codes "load") then load_in Load arguments else
+    if bytes_eq word (codes "unload") then unload_in Unload (words arguments) else
+    if bytes_eq word (codes "begin") then begin_in arguments else
+    if bytes_eq word (codes "step") then step_in (words arguments) else
+    if bytes_eq word (codes "end") then end_in (words arguments) else
+    if bytes_eq word (codes "enter") then moving_in passes Enter (words arguments) else
+    if bytes_eq word (codes "walk") then walk_in passes (words arguments) else
+    if bytes_eq word (codes "leave") then moving_in passes Leave (words arguments) else
+    if bytes_eq word (codes "report") then report_in passes (words arguments) else
+    Err BadWord
 
 -- what a line says by its first word and what stands behind it, with all tests but those of its place in the script
 unfoldable pub saying_of : ℕ → List ℕ → Option (List ℕ) → Result Saying Kind
 saying_of passes word arguments =
     if bytes_eq word (codes "table") then table_in (words arguments) else
     if bytes_eq word (codes "set") then set_in arguments else
-    if bytes_eq word (codes "load") then load_in arguments else
-    if bytes_eq word (codes "unload") then unload_in (words arguments) else
-    if bytes_eq word (codes "report") then report_in passes (words arguments) else
-    Err BadWord
+    statement_in passes word arguments
 
 -- what a line says
 abbrev pub saying_in : ℕ → List ℕ → Result Saying Kind

@@ -4,7 +4,7 @@ ghost use Rattle.std.specs.Prelude.{◌≡◌, IfOk, OnOk};
 use crate::limits::{DEFAULT_NODES, DEFAULT_PASSES};
 use crate::modes::Mode;
 use crate::scripts::Script;
-use crate::statements::{NumberedStatement, Statement, text_of};
+use crate::statements::{NumberedStatement, Statement};
 use crate::values::DescriptiveValues;
 use crate::wording::Wording;
 use std::alloc::{AllocError, Global};
@@ -32,9 +32,11 @@ impl<'a> Model for Draft<'a> {
 }
 
 impl<'a> Draft<'a> {
-    ghost use Rattle.std.specs.Prelude.{nat_lt, length};
-    ghost use Rattle.plcr_script.specs.Reading.{no_lines, with_said};
+    ghost use Rattle.std.specs.Prelude.{nat_lt, length, ◌||◌};
+    ghost use Rattle.plcr_script.specs.Reading as reading;
+    ghost use Rattle.plcr_script.specs.Reading.{no_lines, with_said, passes_of, is_later};
     ghost use Rattle.plcr_script.specs.Sayings.{States};
+    ghost use Rattle.plcr_script.specs.Lawful.{IsLawful};
     ghost use Rattle.plcr_script.specs.inner.Fits.{IsFit};
     ghost use Rattle.plcr_script.specs.inner.Wording.{said};
 
@@ -57,25 +59,35 @@ impl<'a> Draft<'a> {
         })
     }
 
-    /// The number of passes.
+    /// The number of passes that statements may name.
     pub(crate) fn passes(&self) -> u32
-        ensures { result ≡ self.now.script.passes }
+        ensures { result ≡ passes_of self.now.mode self.now.script.passes }
     {
-        self.passes
+        match self.mode {
+            Mode::Single => self.passes,
+            Mode::Worker { first: _ } => 1,
+        }
     }
 
-    /// Whether a line has said anything.
-    pub(crate) fn has_begun(&self) -> bool
-        ensures { result ≡ self.now.begun }
+    /// Whether sizes may be named no more.
+    pub(crate) fn is_sized(&self) -> bool
+        ensures { result ≡ (self.now.begun || is_later self.now.mode) }
     {
-        self.begun
+        self.begun || self.mode.is_later()
     }
 
-    /// Whether there is a statement of the run.
-    pub(crate) fn has_statements(&self) -> bool
-        ensures { result ≡ nat_lt 0 (length self.now.script.statements) }
+    /// Whether descriptive values may be set no more.
+    pub(crate) fn is_set(&self) -> bool
+        ensures { result ≡ (nat_lt 0 (length self.now.script.statements) || is_later self.now.mode) }
     {
-        !self.statements.is_empty()
+        !self.statements.is_empty() || self.mode.is_later()
+    }
+
+    /// Whether the script is a worker's.
+    pub(crate) fn is_worker(&self) -> bool
+        ensures { result ≡ reading.is_worker self.now.mode }
+    {
+        self.mode.is_worker()
     }
 
     /// Adds what a line says. At `Err` the draft is of no use.
@@ -85,7 +97,7 @@ impl<'a> Draft<'a> {
         line: u32,
         wording: Wording<'_>,
     ) -> Result<(), AllocError>
-        requires { IsFit (said wording) }
+        requires { IsFit (passes_of self.old.mode self.old.script.passes) (said wording) }
         ensures { OnOk result (self.new ≡ with_said self.old line (said wording.entry)) }
     {
         match wording {
@@ -95,15 +107,7 @@ impl<'a> Draft<'a> {
             }
             Wording::Number { key, number } => self.values.set_number(key, number),
             Wording::Words { key, text } => self.values.set_text(alloc, key, text)?,
-            Wording::Load { header, name } => {
-                let name = text_of(alloc, name)?;
-                self.state(line, Statement::Load { header, name })?;
-            }
-            Wording::Unload { header } => self.state(line, Statement::Unload { header })?,
-            Wording::Report { pass, file } => {
-                let file = text_of(alloc, file)?;
-                self.state(line, Statement::Report { pass, file })?;
-            }
+            Wording::States(stating) => self.state(line, stating.own(alloc)?)?,
         }
         self.begun = true;
         Ok(())
@@ -120,6 +124,7 @@ impl<'a> Draft<'a> {
 
     /// The script that was read.
     pub(crate) fn finish(self) -> Script
+        requires { IsLawful self.script }
         ensures { result ≡ self.entry.script }
     {
         let Draft {

@@ -1,11 +1,11 @@
 //! What a statement came to, and its line in the log.
-ghost use Rattle.std.specs.Prelude.{◌≡◌, ◌≤◌, ◌+◌, ◌*◌, ◌++◌, length, OnOk, OnErr};
+ghost use Rattle.std.specs.Prelude.{◌≡◌, ◌≤◌, ◌+◌, ◌*◌, [], ◌∷◌, ◌++◌, length, codes, OnOk, OnErr};
 ghost use Rattle.std.specs.Io.KnownBytes.{append_known};
 ghost use Rattle.arrayvec.specs.ArrayVec.{array_vec_len};
 ghost use Rattle.plcr_base.specs.Causes.{Rose};
 ghost use Rattle.plcr_base.specs.Told.{AppendsProperFront};
-ghost use Rattle.plcr_script.specs.declared.outcomes.TheConstants.{WORD_BYTES, NUMBERS, PART_ROOM};
-ghost use Rattle.plcr_script.specs.Log.{log_line, numbers, place_text, outcome_text};
+ghost use Rattle.plcr_script.specs.declared.outcomes.TheConstants.{WORD_BYTES, END_BYTES, NUMBERS, PART_ROOM};
+ghost use Rattle.plcr_script.specs.Log.{log_line, numbers, place_text, outcome_text, walk_end};
 
 use arrayvec::ArrayVec;
 use plcr_io::{PutFailed, Sink, add_bytes, add_decimal, put_parts};
@@ -13,11 +13,14 @@ use plcr_io::{PutFailed, Sink, add_bytes, add_decimal, put_parts};
 /// The most bytes of an outcome's word, with the spaces around it.
 const WORD_BYTES: usize = 16;
 
+/// The most bytes of an outcome's last word, with the space before it.
+const END_BYTES: usize = 8;
+
 /// The most numbers of an outcome.
 const NUMBERS: usize = 4;
 
 /// Room for what stands before a file, and for what stands behind it: the numbers of a script and a line with a
-/// word, and the numbers of an outcome with a newline, where each number has 20 digits at most.
+/// word, and the numbers of an outcome with a last word and a newline, where each number has 20 digits at most.
 const PART_ROOM: usize = 96;
 
 /// What a statement came to.
@@ -25,6 +28,8 @@ const PART_ROOM: usize = 96;
 pub enum Outcome<'a> {
     /// A change is open.
     Busy,
+    /// No change is open.
+    Idle,
     /// There is no image at the header; the number of the fault.
     NotImage {
         kind: u8,
@@ -53,6 +58,32 @@ pub enum Outcome<'a> {
     /// The image of the load with this number was unloaded.
     Unloaded {
         load: u32,
+    },
+    /// A change was begun, which takes so many steps in all.
+    Begun {
+        steps: u32,
+    },
+    /// So many steps of the open change were made so far.
+    Stepped {
+        made: u32,
+    },
+    /// The pass went in.
+    Entered {
+        pass: u32,
+    },
+    /// The pass's walk has met so many images in this hold, and whether it has ended.
+    Walked {
+        pass: u32,
+        met: u32,
+        ended: bool,
+    },
+    /// The pass came out, having met so many images; and the numbers of counted changes before it entered and before
+    /// it left.
+    Left {
+        pass: u32,
+        met: u32,
+        low: u32,
+        high: u32,
     },
     /// A report: its file, its length in bytes, the number of its images, and the numbers of
     /// counted changes before the pass entered and before it left.
@@ -90,25 +121,29 @@ pub fn write_outcome<K: Sink>(
     add_bytes(&mut head, words.word);
     let mut tail = ArrayVec::new();
     add_numbers(&mut tail, words.numbers.as_slice());
+    add_bytes(&mut tail, words.end);
     add_bytes(&mut tail, b"\n");
     put_parts(sink, head.as_slice(), words.file, tail.as_slice())
 }
 
-/// What stands behind the place of a line: the word of its outcome, a file, and numbers.
+/// What stands behind the place of a line: the word of its outcome, a file, numbers, and a last word.
 #[derive(Drop)]
 struct OutcomeWords<'a> {
     word: &'a [u8],
     file: &'a [u8],
     numbers: ArrayVec<u64, NUMBERS>,
+    end: &'a [u8],
 }
 
 /// The words of an outcome.
 fn words_of<'a>(outcome: &Outcome<'a>) -> OutcomeWords<'a>
-    ensures text { result.word.now ++ result.file.now ++ numbers result.numbers.items ≡ outcome_text outcome.now }
+    ensures text { result.word.now ++ result.file.now ++ numbers result.numbers.items ++ result.end.now ≡ outcome_text outcome.now }
     ensures short { length result.word.now ≤ WORD_BYTES }
+    ensures short_end { length result.end.now ≤ END_BYTES }
 {
     match *outcome {
         Outcome::Busy => words(b" busy", b"", &[]),
+        Outcome::Idle => words(b" idle", b"", &[]),
         Outcome::NotImage { kind } => words(b" notimage", b"", &[u64::from(kind)]),
         Outcome::Worn { changes } => words(b" worn", b"", &[u64::from(changes)]),
         Outcome::Long { len } => words(b" long", b"", &[len as u64]),
@@ -118,6 +153,24 @@ fn words_of<'a>(outcome: &Outcome<'a>) -> OutcomeWords<'a>
         Outcome::NotLoaded => words(b" notloaded", b"", &[]),
         Outcome::Loaded { load } => words(b" load", b"", &[u64::from(load)]),
         Outcome::Unloaded { load } => words(b" unload", b"", &[u64::from(load)]),
+        Outcome::Begun { steps } => words(b" begin", b"", &[u64::from(steps)]),
+        Outcome::Stepped { made } => words(b" step", b"", &[u64::from(made)]),
+        Outcome::Entered { pass } => words(b" enter", b"", &[u64::from(pass)]),
+        Outcome::Walked { pass, met, ended } => walk_words(pass, met, ended),
+        Outcome::Left {
+            pass,
+            met,
+            low,
+            high,
+        } => {
+            let counts = [
+                u64::from(pass),
+                u64::from(met),
+                u64::from(low),
+                u64::from(high),
+            ];
+            words(b" leave", b"", &counts)
+        }
         Outcome::Reported {
             file,
             bytes,
@@ -131,12 +184,39 @@ fn words_of<'a>(outcome: &Outcome<'a>) -> OutcomeWords<'a>
     }
 }
 
+/// The words of a walk, which say at their end whether it has ended.
+fn walk_words<'a>(pass: u32, met: u32, ended: bool) -> OutcomeWords<'a>
+    ensures word { result.word.now ≡ codes " walk" }
+    ensures file { result.file.now ≡ [] }
+    ensures numbers { result.numbers.items ≡ pass ∷ met ∷ [] }
+    ensures end { result.end.now ≡ walk_end ended }
+{
+    let counts = [u64::from(pass), u64::from(met)];
+    if ended {
+        words_to(b" walk", b"", &counts, b" end")
+    } else {
+        words_to(b" walk", b"", &counts, b" more")
+    }
+}
+
 /// A word, a file behind it, and numbers behind both.
 fn words<'a>(word: &'a [u8], file: &'a [u8], counts: &[u64]) -> OutcomeWords<'a>
     requires few { length counts.now ≤ NUMBERS }
     ensures word { result.word.now ≡ word.now }
     ensures file { result.file.now ≡ file.now }
     ensures numbers { result.numbers.items ≡ counts.now }
+    ensures end { result.end.now ≡ [] }
+{
+    words_to(word, file, counts, b"")
+}
+
+/// A word, a file behind it, numbers behind both, and a last word.
+fn words_to<'a>(word: &'a [u8], file: &'a [u8], counts: &[u64], end: &'a [u8]) -> OutcomeWords<'a>
+    requires few { length counts.now ≤ NUMBERS }
+    ensures word { result.word.now ≡ word.now }
+    ensures file { result.file.now ≡ file.now }
+    ensures numbers { result.numbers.items ≡ counts.now }
+    ensures end { result.end.now ≡ end.now }
 {
     let mut numbers = ArrayVec::new();
     match numbers.try_extend_from_slice(counts) {
@@ -144,6 +224,7 @@ fn words<'a>(word: &'a [u8], file: &'a [u8], counts: &[u64]) -> OutcomeWords<'a>
             word,
             file,
             numbers,
+            end,
         },
         Err(_) => unreachable!(),
     }

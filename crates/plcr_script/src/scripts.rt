@@ -19,19 +19,24 @@ pub struct Script {
 
 impl Model for Script {
     ghost use Rattle.plcr_script.specs.Scripts.{ScriptValue, script_value};
+    ghost use Rattle.plcr_script.specs.Lawful.{IsLawful};
 
     ghost Value = { ScriptValue };
 
     ghost view = { λ s. script_value s.statements.items s.nodes s.passes s.values };
+
+    ghost invariant = { λ s. IsLawful (script_value s.statements.items s.nodes s.passes s.values) };
 }
 
 impl Script {
     ghost use Rattle.plcr_script.specs.Contexts.{SaysSame, context_of};
     ghost use Rattle.plcr_script.specs.Scripts.{statement_at, line_at};
+    ghost use Rattle.plcr_script.specs.Lawful.{IsLawful};
 
     /// The number of nodes of the image list.
     pub fn nodes(&self) -> u32
-        ensures { result ≡ self.now.nodes }
+        ensures nodes { result ≡ self.now.nodes }
+        ensures lawful { IsLawful self.now }
     {
         self.nodes
     }

@@ -22,6 +22,20 @@ pub enum Statement {
     Load { header: u64, name: Text },
     /// The first image with the header is unloaded: all steps of it.
     Unload { header: u64 },
+    /// A load is begun, of which no step is made yet.
+    BeginLoad { header: u64, name: Text },
+    /// An unload is begun, of which no step is made yet.
+    BeginUnload { header: u64 },
+    /// At most so many steps of the open change.
+    Step { most: u32 },
+    /// The rest of the open change's steps.
+    End,
+    /// The pass enters.
+    Enter { pass: u32 },
+    /// At most so many images more of the pass's walk.
+    Walk { pass: u32, most: u32 },
+    /// The pass leaves.
+    Leave { pass: u32 },
     /// The pass enters if it is out, walks to the end, captures into the file, and leaves.
     Report { pass: u32, file: Text },
 }
@@ -32,9 +46,8 @@ impl Statement {
         ensures { option_copied result ≡ file_of self.now }
     {
         match self {
-            Statement::Load { header: _, name: _ } => None,
-            Statement::Unload { header: _ } => None,
             Statement::Report { pass: _, file } => Some(file.as_slice()),
+            _ => None,
         }
     }
 }

@@ -1,15 +1,17 @@
 use super::*;
-use plcr_io::{MemOut, PutFailed};
-use plcr_regs::Arch;
 use std::process::Abort;
 use std::test::Fail;
 
 // Each script has the number of statements, or the first refused line and its kind.
 fn each_is<R: Abort + AllocGlobal>(rt: &R, cases: &[(&str, (usize, u32, u8))]) {
+    each_is_for(rt, Mode::Single, cases);
+}
+
+fn each_is_for<R: Abort + AllocGlobal>(rt: &R, mode: Mode, cases: &[(&str, (usize, u32, u8))]) {
     for (text, want) in cases {
         let bytes = text.as_bytes();
         assert!(rt; bytes.len() < 1 << 32);
-        let got = match read_script(rt.alloc(), bytes, Mode::Single, &[]) {
+        let got = match read_script(rt.alloc(), bytes, mode, &[]) {
             Ok(script) => (script.len(), 0, 0),
             Err(ScriptFault::Refused { line, kind }) => (0, line, kind),
             Err(ScriptFault::Memory) => (0, 0, 7),
@@ -144,12 +146,131 @@ fn loads_and_unloads_are_read_or_refused(rt: HostRuntime) {
             ("unload x y", (0, 1, 4)),
             ("unload x", (0, 1, 2)),
             ("unload 1\nload 1\nunload 1", (3, 0, 0)),
-            ("begin load 1", (0, 1, 1)),
-            ("step 1", (0, 1, 1)),
-            ("end", (0, 1, 1)),
-            ("enter 0", (0, 1, 1)),
-            ("walk 0 1", (0, 1, 1)),
-            ("leave 0", (0, 1, 1)),
+        ],
+    );
+}
+
+#[test]
+fn statements_of_open_changes_are_read_or_refused(rt: HostRuntime) {
+    each_is(
+        &rt,
+        &[
+            ("begin", (0, 1, 3)),
+            ("begin ", (0, 1, 1)),
+            ("begin jump", (0, 1, 1)),
+            ("begin  load 1", (0, 1, 1)),
+            ("begin load", (0, 1, 3)),
+            ("begin load ", (0, 1, 2)),
+            ("begin load x y", (0, 1, 2)),
+            ("begin load 1", (1, 0, 0)),
+            ("begin load 0x1 a b ", (1, 0, 0)),
+            ("begin loads 1", (0, 1, 1)),
+            ("begin unload", (0, 1, 3)),
+            ("begin unload x 1", (0, 1, 4)),
+            ("begin unload x", (0, 1, 2)),
+            ("begin unload 1\nbegin unload 1", (2, 0, 0)),
+            ("step", (0, 1, 3)),
+            ("step x", (0, 1, 2)),
+            ("step x 1", (0, 1, 4)),
+            ("step 4294967295", (1, 0, 0)),
+            ("step 4294967296", (0, 1, 2)),
+            ("step 0", (1, 0, 0)),
+            ("end", (1, 0, 0)),
+            ("end ", (0, 1, 4)),
+            ("end now", (0, 1, 4)),
+            ("END", (0, 1, 1)),
+        ],
+    );
+}
+
+#[test]
+fn statements_of_passes_are_read_or_refused(rt: HostRuntime) {
+    each_is(
+        &rt,
+        &[
+            ("enter", (0, 1, 3)),
+            ("enter 0", (1, 0, 0)),
+            ("enter 0 ", (0, 1, 4)),
+            ("enter x", (0, 1, 2)),
+            ("enter 16", (0, 1, 5)),
+            ("enter 4294967296", (0, 1, 2)),
+            ("enter 0\nenter 0", (0, 2, 6)),
+            ("enter 0\nenter 1\nleave 0\nenter 0", (4, 0, 0)),
+            ("walk", (0, 1, 3)),
+            ("walk 0", (0, 1, 3)),
+            ("walk 0 1", (0, 1, 6)),
+            ("walk 16 x", (0, 1, 2)),
+            ("walk 16 1", (0, 1, 5)),
+            ("enter 0\nwalk 0 1 1", (0, 2, 4)),
+            ("enter 0\nwalk 0 4294967295\nwalk 0 0", (3, 0, 0)),
+            ("enter 0\nwalk 1 1", (0, 2, 6)),
+            ("leave 0", (0, 1, 6)),
+            ("leave 0 0", (0, 1, 4)),
+            ("enter 0\nleave 0\nleave 0", (0, 3, 6)),
+            ("enter 0\nleave 0\nwalk 0 1", (0, 3, 6)),
+            ("enter 0\nreport 0 a\nwalk 0 1", (0, 3, 6)),
+            ("enter 0\nreport 0 a\nenter 0", (3, 0, 0)),
+            ("report 0 a\nleave 0", (0, 2, 6)),
+            ("enter 1\nreport 0 a\nleave 1", (3, 0, 0)),
+            ("table 1 1024\nenter 1023\nleave 1023", (2, 0, 0)),
+            ("table 1 1024\nenter 1024", (0, 2, 5)),
+            ("enter 0\nset os 1", (0, 2, 6)),
+        ],
+    );
+}
+
+#[test]
+fn scripts_are_refused_with_each_kind(rt: HostRuntime) {
+    each_is(
+        &rt,
+        &[
+            ("jump 1", (0, 1, 1)),
+            ("step x", (0, 1, 2)),
+            ("unload", (0, 1, 3)),
+            ("end now", (0, 1, 4)),
+            ("enter 16", (0, 1, 5)),
+            ("walk 0 1", (0, 1, 6)),
+            ("set os 1\ntable 1 1", (0, 2, 6)),
+        ],
+    );
+}
+
+#[test]
+fn scripts_of_workers_are_read_or_refused(rt: HostRuntime) {
+    let first = Mode::Worker { first: true };
+    each_is_for(
+        &rt,
+        first,
+        &[
+            (
+                "table 7 1024\nset os 1\nload 1\nenter 0\nwalk 0 1\nreport 0 a",
+                (4, 0, 0),
+            ),
+            ("enter 1", (0, 1, 5)),
+            ("table 7 2\nreport 1 a", (0, 2, 5)),
+            ("load 1\nbegin load 1", (0, 2, 6)),
+            ("begin unload 1", (0, 1, 6)),
+            ("begin load x", (0, 1, 2)),
+            ("begin jump 1", (0, 1, 1)),
+            ("step 1", (0, 1, 6)),
+            ("step x", (0, 1, 2)),
+            ("end", (0, 1, 6)),
+            ("end now", (0, 1, 4)),
+            ("leave 0", (0, 1, 6)),
+        ],
+    );
+    let later = Mode::Worker { first: false };
+    each_is_for(
+        &rt,
+        later,
+        &[
+            ("load 1\nreport 0 a", (2, 0, 0)),
+            ("table 1 1", (0, 1, 6)),
+            ("table 0 1", (0, 1, 2)),
+            ("set os 1", (0, 1, 6)),
+            ("set process a", (0, 1, 6)),
+            ("set jump 1", (0, 1, 1)),
+            ("end", (0, 1, 6)),
         ],
     );
 }
@@ -165,151 +286,6 @@ fn a_file_has_up_to_255_bytes(rt: HostRuntime) -> Result<(), Fail> {
         assert!(rt; text.len() < 1 << 32);
         assert_eq!(rt; read_script(alloc, &text, Mode::Single, &[]).is_ok(), want);
     }
-    Ok(())
-}
-
-#[test]
-fn a_script_tells_its_statements_and_values(rt: HostRuntime) -> Result<(), Fail> {
-    let text = b"# run\nreport 0 a.plcrash\n\nreport 0x3 b";
-    let script = read_script(rt.alloc(), text, Mode::Single, &[])?;
-    assert!(rt; script.nodes() == 1024 && script.passes() == 16 && script.len() == 2);
-    assert!(rt; script.line(1) == 4 && tells(script.statement(1), 3, b"b"));
-    let context = script.context(Arch::X86_64);
-    assert_eq!(rt; context.signal, b"SIGABRT".as_slice());
-    Ok(())
-}
-
-// Whether a statement is a report of this pass into this file.
-fn tells(statement: &Statement, number: u32, name: &[u8]) -> bool {
-    match statement {
-        Statement::Report { pass, file } => *pass == number && file.as_slice() == name,
-        _ => false,
-    }
-}
-
-#[test]
-fn a_script_tells_its_loads_and_sizes(rt: HostRuntime) -> Result<(), Fail> {
-    let text = b"table 7 3\n\nload 0x1F a b \nunload 31\nload 5";
-    let script = read_script(rt.alloc(), text, Mode::Single, &[])?;
-    assert!(rt; script.nodes() == 7 && script.passes() == 3 && script.len() == 3);
-    let expected = [(3, 31, b"a b ".as_slice()), (4, 31, b"-"), (5, 5, b"")];
-    for (i, (line, header, name)) in expected.into_iter().enumerate() {
-        if i < script.len() {
-            let is = match script.statement(i) {
-                Statement::Load {
-                    header: found,
-                    name: text,
-                } => { *found == header && text.as_slice() == name }
-                Statement::Unload { header: found } => *found == header && name == b"-".as_slice(),
-                Statement::Report { pass: _, file: _ } => false,
-            };
-            assert!(rt; is && script.line(i) == line);
-        }
-    }
-    Ok(())
-}
-
-#[test]
-fn the_last_value_of_a_key_counts(rt: HostRuntime) -> Result<(), Fail> {
-    let text = b"set os 2\nset os 1\nset osversion 12 \nset timestamp 7\nset identifier a.b\n\
-        set version \nset signal S\nset code c d\nset address 0xff\nset process p\nset pid 3\n\
-        set ppid 4\nset crashed 5\nset bits 47\nset user 1\nset process a b\nunload 1";
-    let script = read_script(rt.alloc(), text, Mode::Single, &[])?;
-    let context = script.context(Arch::Arm64);
-    assert!(rt; context.os == 1 && context.timestamp == 7 && context.address == 255);
-    assert!(rt; context.pid == 3 && context.ppid == 4 && context.crashed == 5 && context.user);
-    assert_eq!(rt; context.bits, 47);
-    assert_eq!(rt; context.os_version, b"12 ".as_slice());
-    assert_eq!(rt; context.identifier, b"a.b".as_slice());
-    assert_eq!(rt; context.version, b"".as_slice());
-    assert_eq!(rt; context.signal, b"S".as_slice());
-    assert_eq!(rt; context.code, b"c d".as_slice());
-    assert_eq!(rt; context.process, b"a b".as_slice());
-    Ok(())
-}
-
-#[test]
-fn each_outcome_has_its_line(rt: HostRuntime) -> Result<(), Fail> {
-    let alloc = rt.alloc();
-    let mut out = MemOut::new(alloc, 1024, 5, Vec::new(alloc))?;
-    let outcomes = [
-        Outcome::Busy,
-        Outcome::NotImage { kind: 2 },
-        Outcome::Worn {
-            changes: 4_294_967_295,
-        },
-        Outcome::Long { len: 1025 },
-        Outcome::Full {
-            live: 1,
-            held: 2,
-            seen: 21_474_836_481,
-        },
-        Outcome::NotLoaded,
-        Outcome::Loaded { load: 1 },
-        Outcome::Unloaded { load: 30 },
-    ];
-    for (line, outcome) in (1_u32..9).zip(outcomes.iter()) {
-        assert_eq!(rt; write_outcome(None, line, outcome, &mut out), Ok(()));
-    }
-    assert_eq!(rt;
-        out.bytes(),
-        b"1 busy\n2 notimage 2\n3 worn 4294967295\n4 long 1025\n5 full 1 2 21474836481\n\
-            6 notloaded\n7 load 1\n8 unload 30\n"
-            .as_slice()
-    );
-    Ok(())
-}
-
-#[test]
-fn a_line_of_the_log_is_written_whole_or_in_front(rt: HostRuntime) -> Result<(), Fail> {
-    let alloc = rt.alloc();
-    // room for the first line, of 29 bytes, and 35 bytes more
-    let mut out = MemOut::new(alloc, 64, 7, Vec::new(alloc))?;
-    let first = Outcome::Reported {
-        file: b"a.plcrash",
-        bytes: 271,
-        images: 0,
-        low: 0,
-        high: 0,
-    };
-    assert_eq!(rt; write_outcome(None, 1, &first, &mut out), Ok(()));
-    assert_eq!(rt; out.bytes(), b"1 report a.plcrash 271 0 0 0\n".as_slice());
-    let second = Outcome::Reported {
-        file: b"t",
-        bytes: 18_446_744_073_709_551_615,
-        images: 1,
-        low: 2,
-        high: 4_294_967_295,
-    };
-    assert_eq!(rt;
-        write_outcome(Some(2), 30, &second, &mut out),
-        Err(PutFailed)
-    );
-    assert_eq!(rt;
-        out.bytes(),
-        b"1 report a.plcrash 271 0 0 0\n2:30 report t 18446744073709551615 ".as_slice()
-    );
-    Ok(())
-}
-
-// The longest line of a script's report. A second put fails.
-#[test]
-fn a_line_of_the_log_is_one_put(rt: HostRuntime) -> Result<(), Fail> {
-    let mut out = MemOut::new(rt.alloc(), 1024, 1024, vec![in rt.alloc(); 2]?)?;
-    let most = 4_294_967_295;
-    let longest = Outcome::Reported {
-        file: &[b'f'; 255],
-        bytes: 18_446_744_073_709_551_615,
-        images: most,
-        low: most,
-        high: most,
-    };
-    assert_eq!(rt; write_outcome(Some(most), most, &longest, &mut out), Ok(()));
-    assert_eq!(rt; out.bytes().len(), 339);
-    assert_eq!(rt;
-        write_outcome(None, 1, &Outcome::Busy, &mut out),
-        Err(PutFailed)
-    );
     Ok(())
 }
 

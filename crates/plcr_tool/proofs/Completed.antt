@@ -4,7 +4,8 @@ use Rattle.plcr_command.specs.Jobs.{IsJob, JobMisread}
 use Rattle.plcr_command.proofs.Exact.{core_exact, job_wants, one_job, scripts_exact}
 use Rattle.plcr_command.proofs.Offered.{Found, completed, found, long_refused}
 use Rattle.plcr_tool.specs.declared.report.TheConstants.{ALONE}
-use Rattle.plcr_tool.specs.Report.{IsDone, IsStopped, Ran, report_files}
+use Rattle.plcr_run.specs.Runs.{IsDone, IsStopped}
+use Rattle.plcr_tool.specs.Report.{Ran, report_files}
 use Rattle.plcr_tool.specs.Complete.{ReportsAreComplete, CoreRefusalsAreExact, ScriptRefusalsAreExact, LongJobsAreRefused}
 
 pub reports_complete : ReportsAreComplete

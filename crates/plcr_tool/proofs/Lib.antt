@@ -1,14 +1,7 @@
 pub mod Captured
 pub mod Completed
-pub mod Composed
-pub mod Contexts
 pub mod Ended
-pub mod Named
-pub mod Places
 pub mod Shown
-pub mod Stepped
 pub mod Stored
 pub mod Threaded
-pub mod Turned
-pub mod Turning
 pub mod Written

@@ -1,27 +1,20 @@
--- The threads of a process can be handed in for a report: their registers have 64 bits, and so have those of each frame, since they come from a state or from a memory of bytes.
-use Rattle.std.proofs.Common.{◌≡◌, ℕ, zero, suc, ◌+◌, ◌*◌, ◌%◌, ◌^◌, ◌<◌, ◌≤◌, Bool, true, false, cond, List, [], ◌∷◌, length, map, drop, replicate, Option, Some, None, refl, sym, subst, ◌∙◌, arith, lit<, lit≤}
-use Rattle.std.specs.Prelude.{slice_index_or, slice_set, unwrap_or, IfSome, nat_le, find, not, if◌then◌else◌, option_map}
+-- The threads of a process can be handed in for a report: their registers have 64 bits, and so have those of each frame, since they are told as words.
+use Rattle.std.proofs.Common.{◌≡◌, ℕ, zero, suc, ◌+◌, ◌^◌, ◌<◌, ◌≤◌, true, List, [], ◌∷◌, length, map, Option, Some, None, refl, sym, subst, ◌∙◌, arith, lit<, lit≤}
+use Rattle.std.specs.Prelude.{slice_index_or, unwrap_or, IfSome, nat_le, option_map}
 use Rattle.std.specs.List.{AllByRecursion, enumerate_from, range_with_len, list_all}
 use Rattle.std.specs.Option.{option_and_then}
 use Rattle.std.proofs.lemmas.List.FromFn.{length-map-range_with_len, length-enumerate_from}
 use Rattle.std.proofs.lemmas.List.{length-map}
 use Rattle.std.proofs.lemmas.Bool.{and_parts, leb-true}
 use Rattle.std.proofs.lemmas.Nat.{mod_below}
-use Rattle.std.proofs.Math.Nat.{mod-le}
 use Rattle.plcr_base.specs.Bytes.{IsBytes}
-use Rattle.plcr_base.specs.Numbers.{u64_in}
-use Rattle.plcr_memory.specs.Regions.{Contents, bytes_at}
+use Rattle.plcr_memory.specs.Regions.{Contents}
 use Rattle.plcr_loader.specs.Fields.{number}
 use Rattle.plcr_regs.specs.declared.arch.Arch.{Arch}
 use Rattle.plcr_regs.specs.declared.arch.Arch.TheVariants.{X86_64, Arm64}
-use Rattle.plcr_regs.specs.declared.frame.Frame as regs
-use Rattle.plcr_regs.specs.declared.frame.Step.{Step}
-use Rattle.plcr_regs.specs.declared.frame.Step.TheVariants as steps
-use Rattle.plcr_regs.specs.declared.limits.TheConstants.{MOST_REGISTERS}
 use Rattle.plcr_regs.specs.declared.registers.Registers.{Registers}
-use Rattle.plcr_regs.specs.Frames.{code_address, cut, frame_pc, register_at}
+use Rattle.plcr_regs.specs.Frames.{frame_pc}
 use Rattle.plcr_regs.specs.Names.{register_names, register_count}
-use Rattle.plcr_regs.specs.Places.{pc_place, fp_place, sp_place}
 use Rattle.plcr_loader.specs.declared.nlist_64.TheConstants.{N_VALUE}
 use Rattle.plcr_macho.specs.declared.image.Image.{Image}
 use Rattle.plcr_macho.specs.Containing.{first_over}
@@ -30,21 +23,15 @@ use Rattle.plcr_symbols.specs.declared.symbol.SymbolAt.{SymbolAt}
 use Rattle.plcr_symbols.specs.Laws.{row_of}
 use Rattle.plcr_symbols.specs.Symbols.{rows_of, symbol_at}
 use Rattle.plcr_symbols.proofs.Lawful.{symbol_found, symbol_named}
-use Rattle.plcr_frameptr.specs.declared.saved.TheConstants.{SAVED_FRAME}
-use Rattle.plcr_frameptr.specs.Callers.{IsCaller}
-use Rattle.plcr_frameptr.specs.Saved.{caller_of, saved_frame}
-use Rattle.plcr_frameptr.proofs.Called.{caller_found}
 use Rattle.plcr_cursor.specs.declared.given.Given.{Given}
-use Rattle.plcr_cursor.specs.declared.given.Reader.TheVariants.{FramePointer}
 use Rattle.plcr_cursor.specs.declared.limits.TheConstants.{MOST_FRAMES}
-use Rattle.plcr_cursor.specs.Frames.{Answer, caller_in, first_given, frames_from, frames_of, given_by, is_bad, is_listed, listed, next_of}
+use Rattle.plcr_cursor.specs.Frames.{frames_of}
 use Rattle.plcr_cursor.proofs.Chained.{are_frames}
 use Rattle.plcr_encode.specs.declared.context.Context.{Context}
-use Rattle.plcr_encode.specs.Frames.{frame_of, lookup_in, pc_of, symbol_of, thread_frames}
-use Rattle.plcr_encode.specs.Values.{value_at, register_at as register_named, registers_of, thread_of, threads_of}
+use Rattle.plcr_encode.specs.Frames.{frame_of, lookup_in, symbol_of}
+use Rattle.plcr_encode.specs.Values.{register_at as register_named, registers_of, thread_of, threads_of}
 use Rattle.plcr_encode.proofs.Named.{mapped_length}
 use Rattle.plcr_tool.specs.Laws.{IsHandedState, AreHandedStates, IsHandedSymbol, IsHandedFrame, IsHandedRegister, IsHandedThread, AreHandedThreads}
-use Rattle.plcr_tool.proofs.Stored.{piece_there, eight_small}
 
 -- what holds of each that a function gives
 all_mapped : {A B : Type 0} (P : B → Type 0) (f : A → B) → ((x : A) → P (f x)) → (xs : List A) → AllByRecursion P (map f xs)
@@ -83,85 +70,6 @@ known_small : (value : Option ℕ) → IsSmall value → unwrap_or value 0 < 2 ^
 known_small None small = lit< tt
 known_small (Some n) small = small
 
--- a list of values after one is set
-set_small : (values : List (Option ℕ)) (i : ℕ) (value : Option ℕ) → IsSmall value → AllByRecursion IsSmall values → AllByRecursion IsSmall (slice_set values i value)
-set_small [] i value small all = tt
-set_small (v ∷ vs) zero value small all = (small, all.1)
-set_small (v ∷ vs) (suc i) value small all = (all.0, set_small vs i value small all.1)
-
-none_small : (n : ℕ) → AllByRecursion IsSmall (replicate n None)
-none_small zero = tt
-none_small (suc n) = (tt, none_small n)
-
--- an address of code has no more bits than the value that it is cut from
-address_small : (arch : Arch) (bits n : ℕ) → n < 2 ^ 64 → code_address arch bits n < 2 ^ 64
-unfolding code_address
-address_small X86_64 bits n fits = fits
-address_small Arm64 bits n fits = let less = mod-le n (2 ^ bits) in omega (arith, less, fits)
-
-cut_small : (frame : regs.Frame) (value : Option ℕ) → IsSmall value → IsSmall (option_map (cut frame) value)
-cut_small frame None small = tt
-cut_small frame (Some n) small = address_small frame.registers.arch frame.bits n small
-
--- the number in 8 bytes
-word_small : (at : ℕ) (xs : List ℕ) → IsBytes xs → u64_in xs at < 2 ^ 64
-unfolding u64_in number
-word_small at xs bytes = eight_small at xs bytes
-
--- the caller by a saved frame
-set_thrice : (frame : regs.Frame) (pointer saved back : ℕ) → saved < 2 ^ 64 → back < 2 ^ 64 → IsHandedState (caller_of frame pointer saved back).registers
-unfolding caller_of
-set_thrice frame pointer saved back small fits =
-    let arch = frame.registers.arch in
-    let none : List (Option ℕ) = replicate MOST_REGISTERS None in
-    let pc : List (Option ℕ) = slice_set none (pc_place arch) (Some (cut frame back)) in
-    let fp : List (Option ℕ) = slice_set pc (fp_place arch) (Some saved) in
-    set_small fp (sp_place arch) (Some ((pointer + SAVED_FRAME) % 2 ^ 64)) (mod_below (pointer + SAVED_FRAME) (2 ^ 64) (lit< tt))
-    (set_small pc (fp_place arch) (Some saved) small
-    (set_small none (pc_place arch) (Some (cut frame back)) (address_small arch frame.bits back fits) (none_small MOST_REGISTERS)))
-
-caller_small : (memory : Contents) (frame caller : regs.Frame) → IsBytes memory.file → saved_frame memory frame ≡ steps.Frame caller → IsHandedState caller.registers
-caller_small memory frame caller bytes said =
-    let is = caller_found memory frame caller said in
-    let words = (piece_there memory is.pointer SAVED_FRAME is.words bytes is.there).bytes in
-    subst (λ (f : regs.Frame). IsHandedState f.registers) (sym is.is)
-    (set_thrice frame is.pointer (u64_in is.words 0) (u64_in is.words 8) (word_small 0 is.words words) (word_small 8 is.words words))
-
--- a frame whose registers have 64 bits
-abbrev IsSmallFrame : Given → Type 0
-IsSmallFrame given = IsHandedState given.frame.registers
-
-where_listed : (test : Bool) (given : Given) → IsSmallFrame given → IfSome (if test then Some given else None) IsSmallFrame
-where_listed true given small = small
-where_listed false given small = tt
-
-listed_small : (given : Option Given) → IfSome given IsSmallFrame → IfSome (listed given) IsSmallFrame
-listed_small None small = tt
-listed_small (Some given) small = where_listed (is_listed given.frame) given small
-
--- the first of these answers that isn't Bad
-abbrev chosen : Step → Option Given
-chosen step = option_and_then (λ (answer : Answer). given_by answer.by answer.step) (find (λ (answer : Answer). not (is_bad answer.step)) (record { step = step; by = FramePointer } ∷ []))
-
-chosen_small : (step : Step) → ((caller : regs.Frame) → step ≡ steps.Frame caller → IsHandedState caller.registers) → IfSome (chosen step) IsSmallFrame
-chosen_small (steps.Frame caller) small = small caller refl
-chosen_small steps.End small = tt
-chosen_small (steps.Bad n) small = tt
-
-next_small : (memory : Contents) (images : List Listed) (frame : regs.Frame) → IsBytes memory.file → IfSome (next_of memory images frame) IsSmallFrame
-unfolding next_of caller_in
-next_small memory images frame bytes =
-    listed_small (chosen (saved_frame memory frame)) (chosen_small (saved_frame memory frame) (λ caller said. caller_small memory frame caller bytes said))
-
-frames_small : (memory : Contents) (images : List Listed) (n : ℕ) (given : Option Given) → IsBytes memory.file → IfSome given IsSmallFrame → AllByRecursion IsSmallFrame (frames_from memory images n given)
-frames_small memory images zero given bytes small = tt
-frames_small memory images (suc n) None bytes small = tt
-frames_small memory images (suc n) (Some given) bytes small = (small, frames_small memory images n (next_of memory images given.frame) bytes (next_small memory images given.frame bytes))
-
-all_small : (memory : Contents) (images : List Listed) (state : Registers) (bits : ℕ) → IsBytes memory.file → IsHandedState state → AllByRecursion IsSmallFrame (frames_of memory images state bits)
-unfolding frames_of
-all_small memory images state bits bytes handed = frames_small memory images MOST_FRAMES (Some (first_given state bits)) bytes handed
-
 -- a symbol that is found
 symbol_handed : (memory : Contents) (image : Image) (address : ℕ) (found : Option SymbolAt) → symbol_at memory image address ≡ found → IfSome (option_map (symbol_of memory) found) IsHandedSymbol
 symbol_handed memory image address None is = tt
@@ -183,9 +91,9 @@ symbol_in_handed memory address None = tt
 symbol_in_handed memory address (Some found) = symbol_handed memory found.1 address (symbol_at memory found.1 address) refl
 
 -- what is written of a frame
-frame_handed : (memory : Contents) (arch : Arch) (listed : List Listed) (given : Given) → IsSmallFrame given → IsHandedFrame (frame_of memory arch listed given)
-frame_handed memory arch listed given small = record {
-  pc = known_small (frame_pc given.frame) (cut_small given.frame (register_at given.frame.registers (pc_place given.frame.registers.arch)) (value_small given.frame.registers.value _ small));
+frame_handed : (memory : Contents) (arch : Arch) (listed : List Listed) (given : Given) → IsHandedFrame (frame_of memory arch listed given)
+frame_handed memory arch listed given = record {
+  pc = mod_below (unwrap_or (frame_pc given.frame) 0) (2 ^ 64) (lit< tt);
   symbol = symbol_in_handed memory (lookup_in given) (first_over memory arch (lookup_in given) 0 listed);
 }
 
@@ -207,7 +115,7 @@ thread_handed memory images context number state bytes small handed =
     let most : register_count state.arch ≤ 34 = count_small state.arch in
     record {
       thread_number = small;
-      frames = all_mapped_from IsSmallFrame IsHandedFrame frame (frame_handed memory state.arch images) frames (all_small memory images state context.bits bytes handed);
+      frames = all_mapped IsHandedFrame frame (frame_handed memory state.arch images) frames;
       few_frames = omega (arith, few, same);
       registers = all_mapped IsHandedRegister (register_named state) (register_handed state handed) (range_with_len 0 (register_count state.arch));
       few_registers = omega (arith, count, most);

@@ -8,7 +8,8 @@ use Rattle.plcr_command.specs.Taking.{TookAll}
 use Rattle.plcr_command.specs.Jobs.{IsJob, HasNoCore, HasNoScript}
 use Rattle.plcr_command.specs.Complete.{CanBeTaken, ComesWhere, LongFilesAreRefused}
 use Rattle.plcr_tool.specs.declared.report.TheConstants.{ALONE}
-use Rattle.plcr_tool.specs.Report.{IsDone, Ran, ReportDoes, report_files}
+use Rattle.plcr_run.specs.Runs.{IsDone}
+use Rattle.plcr_tool.specs.Report.{Ran, ReportDoes, report_files}
 use Rattle.plcr_tool.specs.Show.{HasNoReport, IsPrinted, IsReport, ShowDoes, shown_files}
 use Rattle.plcr_tool.specs.Top.{Report, Show, TopDoes, form_of}
 

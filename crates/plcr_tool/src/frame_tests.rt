@@ -15,7 +15,10 @@ fn an_arm64_thread_is_reported(rt: HostRuntime) -> Result<(), Fail> {
     assert_eq!(rt; core.len(), 392);
     let mut desk = desk_with(alloc, core, b"report 0 a\n")?;
     let mut lines = lines(alloc)?;
-    assert_eq!(rt; report_command(alloc, "c", "s", &mut desk, &mut lines), 0);
+    assert_eq!(rt;
+        report_command(alloc, "c", "s", &mut desk, &mut lines, &mut None),
+        0
+    );
     assert_eq!(rt; lines.bytes(), b"1 report a 377 0 0 0\n".as_slice());
     Ok(())
 }
@@ -29,7 +32,10 @@ fn the_bytes_of_frames(rt: HostRuntime) -> Result<(), Fail> {
     let core = thread_core(alloc, Arch::Arm64, PC, 0x7100, &words)?;
     let mut desk = desk_with(alloc, core, b"report 0 a\n")?;
     let mut lines = lines(alloc)?;
-    assert_eq!(rt; report_command(alloc, "c", "s", &mut desk, &mut lines), 0);
+    assert_eq!(rt;
+        report_command(alloc, "c", "s", &mut desk, &mut lines, &mut None),
+        0
+    );
     assert_eq!(rt; lines.bytes(), b"1 report a 384 0 0 0\n".as_slice());
     let file = desk.file("a").ok_or("not kept")?;
     assert!(rt; file.len() == 384);
@@ -52,7 +58,7 @@ fn frames_told(
     let core = thread_core(alloc, arch, pc, 0x7100, words)?;
     let mut desk = desk_with(alloc, core, script)?;
     let mut lines = lines(alloc)?;
-    let status = report_command(alloc, "c", "s", &mut desk, &mut lines);
+    let status = report_command(alloc, "c", "s", &mut desk, &mut lines, &mut None);
     if status != 0 {
         return Err("not reported".into());
     }

@@ -15,7 +15,7 @@ fn log_is(
     let none = Vec::new(alloc);
     let mut desk = desk(alloc, Core::WithImages, script, none, Vec::new(alloc))?;
     let mut lines = lines(alloc)?;
-    let status = report_command(alloc, "c", "s", &mut desk, &mut lines);
+    let status = report_command(alloc, "c", "s", &mut desk, &mut lines, &mut None);
     assert_eq!(rt; status, 0);
     assert_eq!(rt; lines.bytes(), log.as_bytes());
     Ok(())
@@ -63,7 +63,7 @@ fn the_first_image_of_a_header_is_unloaded(rt: HostRuntime) -> Result<(), Fail> 
     let none = Vec::new(alloc);
     let mut desk = desk(alloc, Core::WithImages, script, none, Vec::new(alloc))?;
     let mut lines = lines(alloc)?;
-    let status = report_command(alloc, "c", "s", &mut desk, &mut lines);
+    let status = report_command(alloc, "c", "s", &mut desk, &mut lines, &mut None);
     assert_eq!(rt; status, 0);
     assert_eq!(rt;
         lines.bytes(),
@@ -89,7 +89,7 @@ fn values_stand_in_reports(rt: HostRuntime) -> Result<(), Fail> {
     let none = Vec::new(alloc);
     let mut desk = desk(alloc, Core::Whole, script, none, Vec::new(alloc))?;
     let mut lines = lines(alloc)?;
-    let status = report_command(alloc, "c", "s", &mut desk, &mut lines);
+    let status = report_command(alloc, "c", "s", &mut desk, &mut lines, &mut None);
     assert_eq!(rt; status, 0);
     assert_eq!(rt; lines.bytes(), b"3 report f 271 0 0 0\n".as_slice());
     let mut report = Vec::from_slice(alloc, &REPORT)?;
@@ -109,7 +109,7 @@ fn values_are_shown(rt: HostRuntime) -> Result<(), Fail> {
     let none = Vec::new(alloc);
     let mut desk = desk(alloc, Core::Whole, script, none, Vec::new(alloc))?;
     let mut lines = lines(alloc)?;
-    let status = report_command(alloc, "c", "s", &mut desk, &mut lines);
+    let status = report_command(alloc, "c", "s", &mut desk, &mut lines, &mut None);
     assert_eq!(rt; status, 0);
     assert_eq!(rt; lines.bytes(), b"3 report f 271 0 0 0\n".as_slice());
     let kept = desk.file("f").ok_or("not kept")?;

@@ -1,9 +1,7 @@
 //! The command `plcr_tool`.
 #![tactic(auto)]
 
-mod changing;
 mod complete;
-mod entries;
 #[cfg(test)]
 mod fixtures;
 #[cfg(test)]
@@ -11,13 +9,14 @@ mod frame_tests;
 #[cfg(test)]
 mod image_tests;
 mod laws;
-mod list;
+#[cfg(test)]
+mod long_tests;
 mod report;
-mod running;
+#[cfg(test)]
+mod run_tests;
 mod show;
 #[cfg(test)]
 mod show_tests;
-mod stepping;
 #[cfg(test)]
 mod tests;
 mod top;
@@ -38,7 +37,14 @@ fn main(rt: HostRuntime) -> ExitCode {
         }
         Err(_) => Vec::new(rt.alloc()),
     };
-    ExitCode::from(top::top(rt.alloc(), words.as_slice(), &mut desk, &mut lines))
+    let mut past = None;
+    ExitCode::from(top::top(
+        rt.alloc(),
+        words.as_slice(),
+        &mut desk,
+        &mut lines,
+        &mut past,
+    ))
 }
 
 /// The words behind the program's name. An error that isn't want of memory, as for a word that isn't text,

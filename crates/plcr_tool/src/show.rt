@@ -8,6 +8,7 @@ ghost use Rattle.plcr_tool.specs.Show.{IsReport, ReportMisread, ShowDoes, Shows,
 
 use plcr_command::{Ending, Refusal, refuse, report_file, status, take_file};
 use plcr_decode::{DecodeFault, decode, write_text};
+use plcr_imagelist::Writer;
 use plcr_io::{Desk, PutFailed, Sink};
 use plcr_report::Report;
 use std::alloc::Global;

@@ -20,7 +20,7 @@ fn reports_one_thread(rt: HostRuntime) -> Result<(), Fail> {
     let core = String::from_str(alloc, "c")?;
     let script = String::from_str(alloc, "s")?;
     let words = vec![in alloc; report, core, script]?;
-    let status = top(alloc, words.as_slice(), &mut desk, &mut lines);
+    let status = top(alloc, words.as_slice(), &mut desk, &mut lines, &mut None);
     assert_eq!(rt; status, 0);
     assert_eq!(rt; lines.bytes(), b"1 report a.plcrash 271 0 0 0\n".as_slice());
     assert_eq!(rt;
@@ -38,7 +38,7 @@ fn said(alloc: Global, script: &[u8], words: &[&str]) -> Result<(u8, MemOut), Fa
     }
     let mut desk = desk(alloc, Core::Whole, script, Vec::new(alloc), Vec::new(alloc))?;
     let mut lines = lines(alloc)?;
-    let status = top(alloc, owned.as_slice(), &mut desk, &mut lines);
+    let status = top(alloc, owned.as_slice(), &mut desk, &mut lines, &mut None);
     Ok((status, lines))
 }
 
@@ -131,7 +131,7 @@ fn refuses_and_stops(rt: HostRuntime) -> Result<(), Fail> {
             vec![in alloc; 2]?,
         )?;
         let mut lines = lines(alloc)?;
-        let status = report_command(alloc, "c", "s", &mut desk, &mut lines);
+        let status = report_command(alloc, "c", "s", &mut desk, &mut lines, &mut None);
         assert_eq!(rt; status, want);
         assert_eq!(rt; lines.bytes(), said.as_bytes());
         assert_eq!(rt; desk.file("a").is_some(), kept);
@@ -155,7 +155,7 @@ fn stops_at_a_line(rt: HostRuntime) -> Result<(), Fail> {
         Vec::new(alloc),
     )?;
     let mut lines = MemOut::new(alloc, 9, 16, Vec::new(alloc))?;
-    let status = report_command(alloc, "c", "s", &mut desk, &mut lines);
+    let status = report_command(alloc, "c", "s", &mut desk, &mut lines, &mut None);
     assert_eq!(rt; status, 5);
     assert_eq!(rt; lines.bytes(), b"1 report ".as_slice());
     assert_eq!(rt; desk.file("a").ok_or("not kept")?, REPORT.as_slice());

@@ -1,12 +1,14 @@
 //! The command line.
-ghost use Rattle.std.specs.Prelude.{◌≡◌, ◌≤◌, map, string_bytes};
+ghost use Rattle.std.specs.Prelude.{◌≡◌, ◌≤◌, None, map, string_bytes};
 ghost use Rattle.plcr_base.specs.Told.{Prints};
 ghost use Rattle.plcr_command.specs.Seen.{seen};
+ghost use Rattle.plcr_tool.specs.Past.{TopLeaves};
 ghost use Rattle.plcr_tool.specs.Top.{TopDoes, usage_line};
 
 use crate::report::report_command;
 use crate::show::show_command;
 use plcr_command::{Ending, print_line, status};
+use plcr_imagelist::Writer;
 use plcr_io::{Desk, Sink};
 use std::alloc::Global;
 
@@ -15,11 +17,22 @@ const USAGE: &[u8] =
     b"usage: report CORE SCRIPT / show REPORT / make N CORE SCRIPT / threads CORE SCRIPT...\n";
 
 /// Does what the words of the command line ask for, on a desk and a sink for its lines, and gives the
-/// status: that of the command, or 1, behind the usage line, exactly where the words fit no form.
-pub fn top<D: Desk, L: Sink>(alloc: Global, words: &[String], desk: &mut D, lines: &mut L) -> u8
+/// status: that of the command, or 1, behind the usage line, exactly where the words fit no form. A command
+/// that runs scripts leaves the writer of its image list in `past`.
+pub fn top<D: Desk, L: Sink>(
+    alloc: Global,
+    words: &[String],
+    desk: &mut D,
+    lines: &mut L,
+    past: &mut Option<Writer>,
+) -> u8
+    requires { past.old ≡ None }
     ensures does { TopDoes (map string_bytes words.now)
         (seen (D.told desk.old) (L.written lines.old) (L.faults lines.old))
         (seen (D.told desk.new) (L.written lines.new) (L.faults lines.new)) result }
+    ensures past { TopLeaves (map string_bytes words.now)
+        (seen (D.told desk.old) (L.written lines.old) (L.faults lines.old))
+        (seen (D.told desk.new) (L.written lines.new) (L.faults lines.new)) past.new result }
     ensures mark { L.mark lines.new ≡ L.mark lines.old }
 {
     match words {
@@ -32,7 +45,7 @@ pub fn top<D: Desk, L: Sink>(alloc: Global, words: &[String], desk: &mut D, line
         }
         [word, core, script] => {
             if word.as_str() == "report" {
-                report_command(alloc, core.as_str(), script.as_str(), desk, lines)
+                report_command(alloc, core.as_str(), script.as_str(), desk, lines, past)
             } else {
                 misused(lines)
             }

@@ -29,7 +29,7 @@ grows_through start (line ∷ lines) end a =
     )
 
 -- the change of a line is the same by the names of later loads
-change_by_names : (a : Asked) (name : List ℕ) (said : Said) (names : List (List ℕ)) → ((load : ℕ) → said ≡ Loaded load → name_of load names ≡ name) → changes_by a name said ≡ changes_by a (name_of (load_made said) names) said
+pub change_by_names : (a : Asked) (name : List ℕ) (said : Said) (names : List (List ℕ)) → ((load : ℕ) → said ≡ Loaded load → name_of load names ≡ name) → changes_by a name said ≡ changes_by a (name_of (load_made said) names) said
 change_by_names (asked.Load header) name (NotImage kind) names same = refl
 change_by_names (asked.Load header) name (Worn number) names same = refl
 change_by_names (asked.Load header) name (Long len) names same = refl
@@ -46,7 +46,7 @@ change_by_names (asked.Unload header) name (Loaded load) names same = refl
 change_by_names (asked.Unload header) name (Unloaded load) names same = refl
 
 -- the change of one line, by the names of all loads later
-change_then : (line : ChangeLine) (name : List ℕ) (old new : WriterState) (names : List (List ℕ)) → Did line name old new → WentOn new.names names → changes_by line.wanted.asked name line.said ≡ change_made names line
+pub change_then : (line : ChangeLine) (name : List ℕ) (old new : WriterState) (names : List (List ℕ)) → Did line name old new → WentOn new.names names → changes_by line.wanted.asked name line.said ≡ change_made names line
 change_then line name old new names d went =
     change_by_names line.wanted.asked name line.said names
     (λ load e.

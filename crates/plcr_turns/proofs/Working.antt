@@ -19,7 +19,7 @@ use Rattle.plcr_imagelist.specs.Tellings.{note_of_writer, note_of_walker, IsWrit
 use Rattle.plcr_turns.specs.declared.lines.Asked.{Asked}
 use Rattle.plcr_turns.specs.declared.lines.Asked.TheVariants as asked
 use Rattle.plcr_turns.specs.declared.lines.Said.{Said}
-use Rattle.plcr_turns.specs.declared.lines.Said.TheVariants.{Loaded}
+use Rattle.plcr_turns.specs.declared.lines.Said.TheVariants.{NotImage, Worn, Long, Full, NotLoaded, Loaded, Unloaded}
 use Rattle.plcr_turns.specs.declared.lines.ChangeLine.{ChangeLine}
 use Rattle.plcr_turns.specs.declared.lines.Request.{Request}
 use Rattle.plcr_turns.specs.declared.turn.Part.{Part}
@@ -29,7 +29,7 @@ use Rattle.plcr_turns.specs.declared.view.Share.{Share}
 use Rattle.plcr_turns.specs.declared.view.Face.{Face}
 use Rattle.plcr_turns.specs.declared.view.Role.TheVariants.{Worker}
 use Rattle.plcr_turns.specs.Lines.{asked_by, accepted, lines_of, wanted_by}
-use Rattle.plcr_turns.specs.Turns.{TurnState, Says, IsTurn, IsTold, HasApplied, line_of, name_in, one_more}
+use Rattle.plcr_turns.specs.Turns.{TurnState, Says, IsTurn, IsTold, HasApplied, NameSaid, line_of, name_in, one_more}
 use Rattle.plcr_turns.specs.Views.{face_of, has_share, Agrees, part_or, renewed, is_unspent, taken_view, given_view, IsTaken, MayGive}
 use Rattle.plcr_turns.specs.Working.{IsWorking, AppliesLine}
 use Rattle.plcr_turns.proofs.Shares.{has_first}
@@ -56,6 +56,23 @@ named_then a name old said new load s e many = named_load a name old new load (s
 pub empty_if : {A : Type 0} (l : List A) → length l ≡ 0 → l ≡ []
 empty_if [] e = refl
 empty_if (x ∷ l) e = absurd (omega arith)
+
+-- what an answer says of the name
+name_said : (a : Asked) (name : List ℕ) (old : WriterState) (said : Said) (new : WriterState) → Says a name old said new → NameSaid name said
+name_said (asked.Load header) name old (NotImage kind) new s = tt
+name_said (asked.Load header) name old (Worn number) new s = tt
+name_said (asked.Load header) name old (Long len) new s = (s.1, s.2)
+name_said (asked.Load header) name old (Full lives held seen) new s = s.1
+name_said (asked.Load header) name old NotLoaded new s = tt
+name_said (asked.Load header) name old (Loaded load) new s = s.1
+name_said (asked.Load header) name old (Unloaded load) new s = tt
+name_said (asked.Unload header) name old (NotImage kind) new s = tt
+name_said (asked.Unload header) name old (Worn number) new s = tt
+name_said (asked.Unload header) name old (Long len) new s = absurd s
+name_said (asked.Unload header) name old (Full lives held seen) new s = absurd s
+name_said (asked.Unload header) name old NotLoaded new s = tt
+name_said (asked.Unload header) name old (Loaded load) new s = absurd s
+name_said (asked.Unload header) name old (Unloaded load) new s = tt
 
 -- ---- one line, from the turn that was taken to the one that is given back
 
@@ -137,6 +154,7 @@ module _ (script line : ℕ) (request : Request) (list : TableId) (v : View) (x 
     none = others_none;
     said = applies.said;
     fault = applies.answered.fault;
+    long = name_said (asked_by request) (name_in request) told.writer applies.said x'.writer applies.answered.come.does.says;
     journal = journal_after;
     wanted = ap wanted_by lines_after ∙ map-append (λ (l : ChangeLine). l.wanted) (lines_of script v.journal) (line_of script line (asked_by request) applies.said ∷ []);
     part = working.part;
@@ -178,6 +196,7 @@ told_line line v seen w known history known_names names a grows went = record {
   none = a.none;
   said = a.said;
   fault = a.fault;
+  long = a.long;
   journal = a.journal;
   wanted = a.wanted;
   part = a.part;

@@ -158,6 +158,16 @@ pub record HasCome (asked : Asked) (name : List ℕ) (old : WriterState) (said :
   pub rest : IsAtRest new
   pub does : Does asked name said old new
 
+-- what an answer says of the length of the image's name
+abbrev pub NameSaid : List ℕ → Said → Type 0
+NameSaid name (NotImage kind) = Unit {0}
+NameSaid name (Worn number) = Unit {0}
+NameSaid name (Long len) = (IMAGE_NAME_BYTES < length name) × (len ≡ length name)
+NameSaid name (Full lives held seen) = IsImageName name
+NameSaid name NotLoaded = Unit {0}
+NameSaid name (Loaded load) = IsImageName name
+NameSaid name (Unloaded load) = Unit {0}
+
 -- a request was answered
 pub record HasAnswered (request : Request) (old : WriterState) (said : Said) (new : WriterState) : Type 0 where
   pub fault : FaultSaid request said

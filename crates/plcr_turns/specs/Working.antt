@@ -12,7 +12,7 @@ use Rattle.plcr_turns.specs.declared.view.Share.{Share}
 use Rattle.plcr_turns.specs.declared.view.View.{View}
 use Rattle.plcr_turns.specs.declared.worker.ScriptLine.{ScriptLine}
 use Rattle.plcr_turns.specs.Lines.{asked_by, accepted, lines_of, wanted_by}
-use Rattle.plcr_turns.specs.Turns.{FaultSaid, line_of, name_in}
+use Rattle.plcr_turns.specs.Turns.{FaultSaid, NameSaid, line_of, name_in}
 
 -- a worker's pass that has just this script, and not the turn: it knows how far the script has come, which is how many of its lines the journal had
 pub record IsWorking (script : ℕ) (list : TableId) (v : View) : Type 0 where
@@ -41,6 +41,7 @@ pub record AppliesLine (line : ScriptLine) (v : View) (seen : List Entry) (w : V
   pub none : lines_of line.script others ≡ []
   pub said : Said
   pub fault : FaultSaid line.request said
+  pub long : NameSaid (name_in line.request) said
   pub journal : w.journal ≡ v.journal ++ others ++ line_of line.script line.line (asked_by line.request) said ∷ []
   -- so it is the last of the script's lines in the journal, and the first that was not there
   pub wanted : wanted_by (lines_of line.script w.journal) ≡ wanted_by (lines_of line.script v.journal) ++ record { line = line.line; asked = asked_by line.request } ∷ []

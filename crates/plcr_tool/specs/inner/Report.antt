@@ -1,25 +1,25 @@
--- A job that is ready to run, and how its run ends.
-use Rattle.std.specs.Prelude.{◌≡◌, [], ◌∷◌}
+-- How the run of a job ends.
+use Rattle.std.specs.Prelude.{◌≡◌, ℕ, List, [], ◌∷◌, Option, None}
+use Rattle.plcr_imagelist.specs.States.{WriterState}
 use Rattle.plcr_script.specs.Scripts.{ScriptValue}
 use Rattle.plcr_command.specs.declared.jobs.Job.{Job}
 use Rattle.plcr_command.specs.declared.endings.Ending.{Ending}
 use Rattle.plcr_command.specs.declared.endings.Ending.TheVariants.{Done, Stopped, Refused, Misused}
 use Rattle.plcr_command.specs.Seen.{Seen}
-use Rattle.plcr_command.specs.Jobs.{IsLawfulJob}
-use Rattle.plcr_tool.specs.declared.report.Prepared.{Prepared}
-use Rattle.plcr_tool.specs.Report.{IsDone, IsStopped, Ran}
-use Rattle.plcr_tool.specs.inner.List.{list_value}
+use Rattle.plcr_command.specs.Process.{meanings_of}
+use Rattle.plcr_run.specs.Past.{LeavesWhole, LeavesPart}
+use Rattle.plcr_run.specs.inner.Opening.{PlayIs}
+use Rattle.plcr_tool.specs.Past.{FilesLeft}
 
--- a job that can be run: its core has threads, its one script is within its limits, and its list of images has all its room and no image
-pub record IsRunnable (prepared : Prepared) : Type 0 where
-  pub lawful : IsLawfulJob prepared.job
+-- the job has one script, and so its run on the core ended
+pub record RunEnds (job : Job) (old new : Seen) (past : Option WriterState) (ending : Ending) : Type 0 where
   pub script : ScriptValue
-  pub alone : prepared.job.scripts ≡ script ∷ []
-  pub empty : prepared.list ≡ list_value script.nodes [] 0 0
+  pub alone : job.scripts ≡ script ∷ []
+  pub ends : PlayIs (meanings_of job.core script) script old new past ending
 
--- how a run of a job ends
-abbrev pub RunEnds : Job → Seen → Seen → Ending → Type 0
-RunEnds job old new Done = Ran IsDone job old new
-RunEnds job old new Stopped = Ran IsStopped job old new
-RunEnds job old new (Refused refusal) = ⊥
-RunEnds job old new Misused = ⊥
+-- what `report CORE SCRIPT` leaves, by its ending
+abbrev pub Leaves : List ℕ → List ℕ → Seen → Seen → Option WriterState → Ending → Type 0
+Leaves core script old new past Done = FilesLeft LeavesWhole core script old new past
+Leaves core script old new past Stopped = FilesLeft LeavesPart core script old new past
+Leaves core script old new past (Refused refusal) = past ≡ None
+Leaves core script old new past Misused = past ≡ None

@@ -49,7 +49,7 @@ loop-pc-preserved g c =
     record {
       kept = ap (λ (rows : List FrameRow). rows ++ map (row_of memory state.arch listed) after) c.push.ensures.items
           ∙ row_more memory state.arch listed c.loop-pc.rows.items before after whole (given_last c.loop-pc.cursor) now c.next_with.result c.in-Some.pc
-          c.unwrap_or.result c.unwrap_or-lookup.result c.locate-position.result gives c.in-Some.is by lookup position c.loop-pc.invariant.kept;
+          c.unwrap_or.result c.unwrap_or-lookup.result c.locate-position.result gives c.in-Some.is (omega arith) by lookup position c.loop-pc.invariant.kept;
       index = c.locate-position.ensures.index ∙ c.next_with.ensures.index ∙ c.loop-pc.invariant.index ∙ (λ k. Some (index_of memory (arch k) (images k)));
       arch = c.next_with.ensures.arch ∙ c.loop-pc.invariant.arch;
       same = c.locate-position.ensures.same ∙ c.next_with.ensures.same ∙ c.loop-pc.invariant.same;

@@ -20,4 +20,8 @@ returns-clause-added c =
     rw c.in_ok-add.ensures (placed c.args.draft.now c.args.number c.args.line.now (said c.in-Ok.wording) (sym c.says_nothing.ensures ∙ c.if-says_nothing.false) (rw c.passes.ensures at c.in-Ok.ensures.worded) (sym c.in_ok-is_out_of_place.ensures.out ∙ c.if-branch.false))
 
 pub returns-clause-lawful : goal.returns-clause-lawful
-returns-clause-lawful c = rw c.in_ok-add.ensures (lawful_with c.args.draft.now.script c.args.number (said c.in-Ok.wording) c.requires.lawful c.in-Ok.ensures.fits)
+returns-clause-lawful c =
+    rw c.in_ok-add.ensures (lawful_with c.args.draft.now c.args.number (said c.in-Ok.wording) c.requires.lawful (rw c.passes.ensures at c.in-Ok.ensures.fits) (sym c.in_ok-is_out_of_place.ensures.out ∙ c.if-branch.false))
+
+pub returns-clause-index : goal.returns-clause-index
+returns-clause-index c = rw c.in_ok-add.ensures (c.in_ok-is_out_of_place.ensures.index c.if-branch.false c.args.number)

@@ -10,7 +10,10 @@ use Rattle.plcr_script.proofs.reading.read_lines.Goals as goal
 pub loop-rest-init : goal.loop-rest-init
 loop-rest-init c = record {
   read = rw c.in_ok-draft.ensures refl;
-  index = rw c.in_ok-draft.ensures (index_same c.in_ok-names.names (written_by c.args.before.now) c.in_ok-names.ensures);
+  index = rw c.in_ok-draft.ensures (record {
+    names = index_same c.in_ok-index.index.names (written_by c.args.before.now) c.in_ok-index.ensures.names;
+    inside = c.in_ok-index.ensures.inside;
+  });
   lawful = rw c.in_ok-draft.ensures (lawful_at_first c.args.mode c.args.before.now);
   first = omega arith;
   count = omega arith;

@@ -1,0 +1,12 @@
+use Rattle.plcr_make.proofs.Joining.{joined_none, joined_on, joined_all}
+use Rattle.plcr_make.specs.Images.{image_bytes}
+use Rattle.plcr_make.proofs.cores.add_images.Goals as goal
+
+pub loop-k-init : goal.loop-k-init
+loop-k-init c = joined_none (image_bytes) c.args.bytes.now.items
+
+pub loop-k-preserved : goal.loop-k-preserved
+loop-k-preserved c = joined_on (image_bytes) c.loop-k.k c.args.bytes.now.items c.loop-k.bytes.items c.add_image.new.bytes.items c.loop-k.invariant c.in_ok-add_image.ensures
+
+pub returns : goal.returns
+returns c = joined_all (image_bytes) c.loop-k.k c.args.images c.args.bytes.now.items c.loop-k.bytes.items c.loop-k.auto.k-end c.loop-k-test.false c.loop-k.invariant

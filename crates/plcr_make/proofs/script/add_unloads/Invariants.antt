@@ -1,0 +1,7 @@
+use Rattle.std.proofs.Common.{◌≡◌, ◌++◌}
+use Rattle.plcr_make.specs.Numbers.{joined}
+use Rattle.plcr_make.specs.Scripts.{unload_lines}
+use Rattle.plcr_make.proofs.script.add_unloads.Given as goal
+
+abbrev pub invariant-loop-k : goal.invariant-loop-k
+invariant-loop-k l = l.bytes.items ≡ l.initial.bytes.items ++ joined unload_lines l.k

@@ -1,0 +1,7 @@
+pub mod Numbers
+pub mod Segments
+pub mod Images
+pub mod Stacks
+pub mod Cores
+pub mod Scripts
+pub mod Summary

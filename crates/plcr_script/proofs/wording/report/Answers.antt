@@ -1,6 +1,0 @@
-use Rattle.std.proofs.Common.{rules}
-use Rattle.plcr_script.proofs.Steps.{too_many_for_report}
-use Rattle.plcr_script.proofs.wording.report.Goals as goal
-
-pub returns-then-is_some-clause-worded : goal.returns-then-is_some-clause-worded
-returns-then-is_some-clause-worded c = rw (c.in-Some.is, c.first_word.ensures.parts, c.in-Some-others.is, c.first_word-2.ensures.parts) (too_many_for_report c.args.passes c.first_word.result.0.now c.first_word-2.result.0.now c.first_word-2.result.1 (search rules))
