@@ -278,9 +278,9 @@ def random_case(rng, arch):
             code[at] = rng.choice([8, 16, 64, 128])
     words = []
     for index in range(WORDS):
-        kind = rng.random()
-        words.append(BASE + rng.randrange(0x1000, start) if kind < 0.6 else
-                     STACK + 8 * min(index + rng.randrange(1, 40), WORDS) if kind < 0.9 else rng.choice([0, 1, 4096, END - 8]))
+        kind = rng.random() + (0.3 if index % 2 else -0.3)  # as a chain of frames would have them
+        words.append(BASE + rng.randrange(0x1000, start) if kind > 0.5 else
+                     STACK + 8 * min(index + rng.randrange(2, 40, 2), WORDS) if kind > -0.25 else rng.choice([0, 1, 4096, END - 8]))
     stack = struct.pack("<%dQ" % WORDS, *words)
     pc, sp, fp = NAMED[arch]
     states = []
