@@ -245,7 +245,11 @@ fn in_two_regions(rt: HostRuntime) -> Result<(), Fail> {
     }
     // The last command ends with six numbers, whose upper bytes are zero.
     let file = large_image(rt.alloc(), 0x19)?;
-    let memory = memory_of(rt.alloc(), file, &[padded(A0, len as u64, 0, len - 7)])?;
+    let memory = memory_of(
+        rt.alloc(),
+        file,
+        &[padded(A0, len as u64, 0, len.saturating_sub(7))],
+    )?;
     assert_eq!(rt; parse(&memory, Arch::X86_64, A0), want);
     Ok(())
 }

@@ -1,6 +1,6 @@
 //! What the tests share: a core, its report, and desks and sinks in memory.
 
-ghost use Rattle.std.specs.Prelude.{◌≡◌, ◌+◌, ◌*◌, ◌<◌, ◌≤◌};
+ghost use Rattle.std.specs.Prelude.{◌≡◌, ◌+◌, ◌*◌, ◌<◌};
 
 use plcr_io::{MemDesk, MemFile, MemOut, NoMemory};
 use plcr_regs::Arch;
@@ -64,25 +64,24 @@ fn add_segment(bytes: &mut Vec<u8>, start: u64, size: u64) -> Result<(), AllocEr
 
 /// The address of an image.
 fn image_at(k: u32) -> u64
-    requires { k < 400 }
+    requires { k < 8 }
     ensures { result ≡ 4294967296 + 16384 * k }
 {
     0x1_0000_0000 + 0x4000 * u64::from(k)
 }
 
-/// The segment of an image. The 128 bytes of each stand behind those of the one before, from a place on.
-fn add_image_segment(bytes: &mut Vec<u8>, start: u32, k: u32) -> Result<(), AllocError>
-    requires { k < 400 }
+/// The segment of an image, whose 128 bytes stand behind the load commands.
+fn add_image_segment(bytes: &mut Vec<u8>, k: u32) -> Result<(), AllocError>
+    requires { k < 8 }
 {
-    let place = u64::from(start) + 128 * u64::from(k);
     add_u32s(bytes, &[0x19, 72, 0, 0, 0, 0])?;
-    add_u64s(bytes, &[image_at(k), 0x4000, place, 128])?;
+    add_u64s(bytes, &[image_at(k), 0x4000, 864 + 128 * u64::from(k), 128])?;
     add_u32s(bytes, &[5, 5, 0, 0])
 }
 
 /// An image: a header, a segment `__TEXT` and a uuid that ends with its number.
 fn add_image(bytes: &mut Vec<u8>, k: u32) -> Result<(), AllocError>
-    requires { k < 400 }
+    requires { k < 8 }
 {
     add_u32s(bytes, &[0xfeed_facf, 0x0100_0007, 3, 6, 2, 96, 0, 0])?;
     add_u32s(bytes, &[0x19, 72, 0x4554_5f5f, 0x5458, 0, 0])?;
@@ -110,13 +109,18 @@ fn core_bytes(alloc: Global, core: Core) -> Result<Vec<u8>, AllocError> {
         Core::Executable => (2, 2, 256),
         Core::Overlapping | Core::Wrapping => (4, 3, 328),
         Core::WithoutThread => (4, 1, 72),
-        Core::WithImages => return image_core(alloc, 8, 1),
+        Core::WithImages => (4, 10, 832),
         _ => (4, 2, 256),
     };
     add_u32s(
         &mut bytes,
         &[0xfeed_facf, 0x0100_0007, 3, filetype, commands, size, 0, 0],
     )?;
+    if matches!(core, Core::WithImages) {
+        for k in 0..8 {
+            add_image_segment(&mut bytes, k)?;
+        }
+    }
     add_segment(&mut bytes, 0x7000, 0x1000)?;
     match core {
         Core::Overlapping => add_segment(&mut bytes, 0x7800, 0x1000)?,
@@ -127,30 +131,13 @@ fn core_bytes(alloc: Global, core: Core) -> Result<Vec<u8>, AllocError> {
         Core::WithoutThread => {}
         _ => add_thread(&mut bytes)?,
     }
+    if matches!(core, Core::WithImages) {
+        for k in 0..8 {
+            add_image(&mut bytes, k)?;
+        }
+    }
     if matches!(core, Core::Cut) {
         bytes.truncate(100);
-    }
-    Ok(bytes)
-}
-
-/// A core of so many images and of so many threads, all in one state, with a segment at 0x7000.
-pub fn image_core(alloc: Global, images: u32, threads: u32) -> Result<Vec<u8>, AllocError>
-    requires { (images ≤ 400) × (threads ≤ 16) }
-{
-    let mut bytes = Vec::new(alloc);
-    let commands = images + 1 + threads;
-    let size = 72 * (images + 1) + 184 * threads;
-    let head = [0xfeed_facf, 0x0100_0007, 3, 4, commands, size, 0, 0];
-    add_u32s(&mut bytes, &head)?;
-    for k in 0..images {
-        add_image_segment(&mut bytes, 32 + size, k)?;
-    }
-    add_segment(&mut bytes, 0x7000, 0x1000)?;
-    for _ in 0..threads {
-        add_thread(&mut bytes)?;
-    }
-    for k in 0..images {
-        add_image(&mut bytes, k)?;
     }
     Ok(bytes)
 }
@@ -204,13 +191,8 @@ pub fn thread_core(
     Ok(bytes)
 }
 
-/// A desk with the core `c` of these bytes and the script `s`, and these outputs.
-pub fn desk_of(
-    alloc: Global,
-    core: Vec<u8>,
-    script: &[u8],
-    outs: Vec<MemOut>,
-) -> Result<MemDesk, Fail> {
+/// A desk with the core `c` of these bytes and the script `s`, and one output.
+pub fn desk_with(alloc: Global, core: Vec<u8>, script: &[u8]) -> Result<MemDesk, Fail> {
     let core = MemFile {
         name: String::from_str(alloc, "c")?,
         bytes: core,
@@ -219,23 +201,9 @@ pub fn desk_of(
         name: String::from_str(alloc, "s")?,
         bytes: Vec::from_slice(alloc, script)?,
     };
-    let files = vec![in alloc; core, script]?;
-    Ok(MemDesk::new(alloc, files, outs, Vec::new(alloc))?)
-}
-
-/// So many outputs.
-pub fn outputs(alloc: Global, count: u32) -> Result<Vec<MemOut>, Fail> {
-    let mut outs = Vec::new(alloc);
-    for _ in 0..count {
-        outs.push(MemOut::new(alloc, 1000, 300, Vec::new(alloc))?)?;
-    }
-    Ok(outs)
-}
-
-/// The same, and one output.
-pub fn desk_with(alloc: Global, core: Vec<u8>, script: &[u8]) -> Result<MemDesk, Fail> {
     let out = MemOut::new(alloc, 20_000, 300, Vec::new(alloc))?;
-    desk_of(alloc, core, script, vec![in alloc; out]?)
+    let files = vec![in alloc; core, script]?;
+    Ok(MemDesk::new(alloc, files, vec![in alloc; out]?, Vec::new(alloc))?)
 }
 
 /// A desk with the core `c` and the script `s`, and two outputs; its calls of these numbers fail, and the

@@ -9,11 +9,7 @@ mod frame_tests;
 #[cfg(test)]
 mod image_tests;
 mod laws;
-#[cfg(test)]
-mod long_tests;
 mod report;
-#[cfg(test)]
-mod run_tests;
 mod show;
 #[cfg(test)]
 mod show_tests;
