@@ -37,17 +37,17 @@ fn read(memory: &Memory, word: &SavedWord) -> Option<u64>
     memory.read_u64(word.at as u64)
 }
 
-// The registers before the stack is read: those that functions keep, and the pc where it is known.
+// Puts the registers before the stack is read into room: those that functions keep, and the pc where
+// it is known.
 #[tactic(auto, unfolding(plcr_regs::specs::Frames::kept_of))]
-fn before(frame: &Frame, back: Option<u64>) -> Registers
-    ensures value { result.value ≡ value_before frame.now back }
-    ensures arch { result.arch ≡ frame.now.registers.arch }
+fn before(frame: &Frame, back: Option<u64>, room: &mut Registers)
+    ensures value { room.new.value ≡ value_before frame.now back }
+    ensures arch { room.new.arch ≡ frame.now.registers.arch }
 {
-    let mut registers = frame.registers.kept();
+    frame.registers.keep_into(room);
     if let Some(back) = back {
-        registers.value[pc_place(frame.registers.arch)] = Some(back);
+        room.value[pc_place(frame.registers.arch)] = Some(back);
     }
-    registers
 }
 
 // Sets the registers that words hold.
@@ -79,29 +79,29 @@ fn finish(frame: &Frame, registers: &mut Registers, stack: i128)
     registers.value[sp_place(arch)] = Some((stack.unsigned_abs() % END as u128) as u64);
 }
 
-/// The caller once the stack is read. No word and no stack pointer may pass the addresses of 64 bits.
+/// Puts the caller into room once the stack is read. No word and no stack pointer may pass the
+/// addresses of 64 bits.
 #[tactic(auto, unfolding(crate::specs::Callers::read_caller, crate::specs::Callers::frame_of))]
 pub fn read_caller(
     memory: &Memory,
     frame: &Frame,
     caller: Caller,
     words: &[SavedWord],
-) -> Result<Frame, u8>
+    room: &mut Frame,
+) -> Result<(), u8>
     requires { AreRegisters words.now }
-    ensures frame { result ≡ read_caller memory.now frame.now (caller_of frame.now words.now caller) }
-    ensures thread { IfOk result (IsOfThread frame.now) }
+    ensures frame { result_map (λ _. room.new) result ≡ read_caller memory.now frame.now (caller_of frame.now words.now caller) }
+    ensures thread { IfOk result (λ _. IsOfThread frame.now room.new) }
 {
     if any_outside(words) || caller.stack > END {
         return Err(OUT_OF_RANGE);
     }
-    let mut registers = before(frame, caller.back);
-    if let Err(bad) = fill(memory, &mut registers, words) {
+    before(frame, caller.back, &mut room.registers);
+    if let Err(bad) = fill(memory, &mut room.registers, words) {
         return Err(bad);
     }
-    finish(frame, &mut registers, caller.stack);
-    Ok(Frame {
-        registers,
-        exact: false,
-        bits: frame.bits,
-    })
+    finish(frame, &mut room.registers, caller.stack);
+    room.exact = false;
+    room.bits = frame.bits;
+    Ok(())
 }
