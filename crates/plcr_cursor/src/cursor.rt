@@ -7,10 +7,10 @@ ghost use Rattle.plcr_cursor.specs.Frames.{frames_of, lookup_of, number_of};
 ghost use Rattle.plcr_cursor.specs.Walks.{Gives, IsIndex, arch_of, coming, given_last, start};
 
 use crate::asked::{Asked, Plain};
-use crate::given::{Given, Reader};
+use crate::given::Reader;
 use crate::known::Known;
 use crate::limits::MOST_FRAMES;
-use crate::readers::next_frame;
+use crate::turning::Turning;
 use plcr_macho::Images;
 use plcr_memory::Memory;
 use plcr_regs::{Frame, Registers};
@@ -20,7 +20,9 @@ use std::marker::Model;
 #[derive(Drop)]
 pub struct Cursor {
     // The frame given last; before the first the one that comes first.
-    last: Given,
+    last: Turning,
+    // What told it.
+    by: Reader,
     given: bool,
     // How many frames may still be given.
     left: usize,
@@ -30,12 +32,13 @@ impl Model for Cursor {
     ghost use Rattle.std.specs.Prelude.{IsSome};
     ghost use Rattle.plcr_regs.specs.Frames.{frame_pc};
     ghost use Rattle.plcr_cursor.specs.Walks.{Walk};
+    ghost use Rattle.plcr_cursor.specs.inner.Answering.{given_as};
 
     ghost Value = { Walk };
 
-    ghost view = { λ c. record { last = c.last; given = c.given; left = c.left } };
+    ghost view = { λ c. record { last = given_as c.last c.by; given = c.given; left = c.left } };
 
-    ghost invariant = { λ c. IsSome (frame_pc c.last.frame) };
+    ghost invariant = { λ c. IsSome (frame_pc c.last) };
 }
 
 impl Cursor {
@@ -53,10 +56,8 @@ impl Cursor {
             bits,
         };
         Cursor {
-            last: Given {
-                frame,
-                by: Reader::ThreadState,
-            },
+            last: Turning::at(&frame),
+            by: Reader::ThreadState,
             given: false,
             left: MOST_FRAMES,
         }
@@ -79,15 +80,15 @@ impl Cursor {
         if !self.given {
             self.given = true;
             self.left -= 1;
-            return self.last.frame.pc();
+            return self.last.frame().pc();
         }
-        let Some(next) = next_frame(asked, images, &self.last.frame) else {
+        let Some(by) = self.last.turn(asked, images) else {
             self.left = 0;
             return None;
         };
-        self.last = next;
+        self.by = by;
         self.left -= 1;
-        self.last.frame.pc()
+        self.last.frame().pc()
     }
 
     /// The pc of the next frame, without signature. None after the last, and from then on whatever it is called with. The
@@ -123,7 +124,7 @@ impl Cursor {
         ensures { result ≡ lookup_of (given_last self.now) }
     {
         if self.given {
-            self.last.frame.lookup()
+            self.last.frame().lookup()
         } else {
             None
         }
@@ -134,7 +135,7 @@ impl Cursor {
         ensures { result ≡ number_of (given_last self.now) }
     {
         if self.given {
-            Some(self.last.by.number())
+            Some(self.by.number())
         } else {
             None
         }

@@ -8,6 +8,7 @@ mod known;
 mod laws;
 mod limits;
 mod readers;
+mod turning;
 
 pub use cursor::Cursor;
 pub use given::{Given, Reader};
