@@ -71,7 +71,13 @@ impl Asked for Plain<'_> {
         parse(self.memory, arch, header).ok()
     }
 
-    fn compact(&mut self, _place: usize, image: &Image, frame: &Frame, room: &mut Frame) -> Outcome {
+    fn compact(
+        &mut self,
+        _place: usize,
+        image: &Image,
+        frame: &Frame,
+        room: &mut Frame,
+    ) -> Outcome {
         put(&plcr_compact::step(self.memory, image, frame), room)
     }
 

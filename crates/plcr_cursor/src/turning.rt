@@ -47,7 +47,11 @@ impl Turning {
     pub fn frame(&self) -> &Frame
         ensures { result.now ≡ self.now }
     {
-        if self.turned { &self.second } else { &self.first }
+        if self.turned {
+            &self.second
+        } else {
+            &self.first
+        }
     }
 
     /// Goes on to the frame behind it, where there is one. Gives what told that.

@@ -16,8 +16,8 @@ pub use arch::Arch;
 pub use frame::{Frame, Step};
 pub use limits::MOST_REGISTERS;
 pub use names::{count, name};
-pub use places::{dwarf_place, fp_place, lr_place, pc_place, sp_place};
 pub use outcome::Outcome;
+pub use places::{dwarf_place, fp_place, lr_place, pc_place, sp_place};
 pub use registers::Registers;
 pub use states::read_state;
 
