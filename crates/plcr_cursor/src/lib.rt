@@ -17,4 +17,8 @@ pub use laws::frames_lead;
 pub use limits::{MOST_FRAMES, NULL_PAGE};
 
 #[cfg(test)]
+mod fixtures;
+#[cfg(test)]
+mod order_tests;
+#[cfg(test)]
 mod tests;
