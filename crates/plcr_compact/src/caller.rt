@@ -17,8 +17,9 @@ pub const MOST_WORDS: usize = 12;
 /// The words that a function saved.
 pub type Words = ArrayVec<SavedWord, MOST_WORDS>;
 
-/// What is known of a caller before the stack is read, beside the registers that functions keep and the words that hold
-/// others: its pc, where a register has it, and its stack pointer, counted without modulo.
+/// What is known of a caller before the stack is read, beside the registers that functions keep and
+/// the words that hold others: its pc, where a register has it, and its stack pointer, counted
+/// without modulo.
 #[derive(Clone, Copy)]
 pub struct Caller {
     pub back: Option<u64>,

@@ -238,7 +238,8 @@ fn size_at(memory: &Memory, start: u64, place: u32, adjust: u32) -> Option<u64>
     Some(u64::from(size) + u64::from(adjust))
 }
 
-/// The caller by an encoding of a function that starts at an address; its words are put into room that has none.
+/// The caller by an encoding of a function that starts at an address; its words are put into room
+/// that has none.
 #[tactic(auto, unfolding(crate::specs::Callers::caller_by))]
 pub fn caller_by(
     memory: &Memory,

@@ -37,8 +37,8 @@ fn read(memory: &Memory, word: &SavedWord) -> Option<u64>
     memory.read_u64(word.at as u64)
 }
 
-// Puts the registers before the stack is read into room: those that functions keep, and the pc where
-// it is known.
+// Puts the registers before the stack is read into room: those that functions keep, and the pc
+// where it is known.
 #[tactic(auto, unfolding(plcr_regs::specs::Frames::kept_of))]
 fn before(frame: &Frame, back: Option<u64>, room: &mut Registers)
     ensures value { room.new.value ≡ value_before frame.now back }

@@ -18,7 +18,8 @@ pub trait Asked {
     /// The memory. No call changes it.
     ghost memory: { Self → Contents };
 
-    /// The image whose header stands at an address, if there is one. `place` is where it stands in a list.
+    /// The image whose header stands at an address, if there is one. `place` is where it stands in
+    /// a list.
     fn image(&mut self, place: usize, arch: Arch, header: u64) -> Option<Image>
         ensures image { result ≡ result_ok (image_at (memory self.old) arch header) }
         ensures same { memory self.new ≡ memory self.old };

@@ -42,7 +42,8 @@ impl Model for Cursor {
 }
 
 impl Cursor {
-    /// A walk over the frames of a thread in this state, under which so many low bits of an address of code count.
+    /// A walk over the frames of a thread in this state, under which so many low bits of an address
+    /// of code count.
     #[tactic(auto, unfolding(crate::specs::Frames::frames_of))]
     pub fn new(state: &Registers, bits: u8) -> Cursor
         requires known { IsSome (register_at state.now (pc_place state.now.arch)) }
@@ -91,8 +92,9 @@ impl Cursor {
         self.last.frame().pc()
     }
 
-    /// The pc of the next frame, without signature. None after the last, and from then on whatever it is called with. The
-    /// images have to be indexed for this memory and the thread's architecture.
+    /// The pc of the next frame, without signature. None after the last, and from then on whatever
+    /// it is called with. The images have to be indexed for this memory and the thread's
+    /// architecture.
     pub fn next<I: Images>(&mut self, memory: &Memory, images: &mut I) -> Option<u64>
         requires index { IsIndex memory.now (arch_of self.old) (I.images images.old) (I.extents images.old) }
         ensures gives { Gives (coming memory.now (I.images images.old) self.old) (coming memory.now (I.images images.old) self.new) (given_last self.old) (given_last self.new) result }
@@ -105,7 +107,8 @@ impl Cursor {
         self.advance(&mut Plain { memory }, images)
     }
 
-    /// What `next` says, of a memory of which something may be kept, and where more of it is kept then.
+    /// What `next` says, of a memory of which something may be kept, and where more of it is kept
+    /// then.
     pub fn next_with<I: Images>(&mut self, known: &mut Known, images: &mut I) -> Option<u64>
         requires index { IsIndex known.old (arch_of self.old) (I.images images.old) (I.extents images.old) }
         ensures gives { Gives (coming known.old (I.images images.old) self.old) (coming known.old (I.images images.old) self.new) (given_last self.old) (given_last self.new) result }
@@ -119,7 +122,8 @@ impl Cursor {
         self.advance(known, images)
     }
 
-    /// The address by which the function of the frame given last is looked up. None before the first.
+    /// The address by which the function of the frame given last is looked up. None before the
+    /// first.
     pub fn lookup(&self) -> Option<u64>
         ensures { result ≡ lookup_of (given_last self.now) }
     {

@@ -94,9 +94,9 @@ const COMPACT: [u32; 23] = [
 pub const COMPACT_BYTES: u32 = 92;
 
 // Call frame information, which lies at 0x10164. A common information entry, by which the canonical
-// frame address is rsp + 8 and the return address stands below it, and the functions at 0x400, 0x500
-// and 0x700, the last of which has no return address; then the same entry of signal frames, and the
-// function at 0x780, of 0x80 bytes.
+// frame address is rsp + 8 and the return address stands below it, and the functions at 0x400,
+// 0x500 and 0x700, the last of which has no return address; then the same entry of signal frames,
+// and the function at 0x780, of 0x80 bytes.
 const CALL_FRAMES: [u32; 37] = [
     16,
     0,

@@ -62,7 +62,8 @@ fn no_images(memory: &Memory) -> [Option<KnownImage>; KNOWN_IMAGES]
     [None; KNOWN_IMAGES]
 }
 
-/// A memory, with what was found of its images and of their tables in room of fixed size. Contracts see the memory.
+/// A memory, with what was found of its images and of their tables in room of fixed size. Contracts
+/// see the memory.
 #[derive(Drop)]
 pub struct Known<'m> {
     memory: &'m Memory,

@@ -37,72 +37,66 @@ fn told_of(
     walked(alloc, memory, &mut list, &state, 64)
 }
 
-// A pc, a stack pointer and a frame pointer, and the frames: the pc of each, the address that is
-// looked up, and what told it (1 compact unwind information, 2 call frame information, 3 a saved
-// frame).
+// A pc, a stack pointer and a frame pointer, and the frames from there on: the pc of each, the
+// address that is looked up, and what told it (1 compact unwind information, 2 call frame
+// information, 3 a saved frame).
+const WALKS: [((u64, u64, u64), &[(u64, u64, u8)]); 7] = [
+    // Compact unwind information counts, though the others tell a caller too.
+    (
+        (0x1_0410, 0x7010, 0x7000),
+        &[(0x1_0410, 0x1_0410, 0), (0x9000, 0x8fff, 1)],
+    ),
+    // It leaves the function to call frame information. In no image there are saved frames alone.
+    (
+        (0x1_0510, 0x7010, 0x7000),
+        &[
+            (0x1_0510, 0x1_0510, 0),
+            (0xa000, 0x9fff, 2),
+            (0x9000, 0x8fff, 3),
+        ],
+    ),
+    // Neither of the two tells a caller.
+    (
+        (0x1_0610, 0x7010, 0x7000),
+        &[(0x1_0610, 0x1_0610, 0), (0x9000, 0x8fff, 3)],
+    ),
+    // Call frame information tells that there is no caller, though there is a saved frame.
+    ((0x1_0710, 0x7010, 0x7000), &[(0x1_0710, 0x1_0710, 0)]),
+    // The caller of a signal frame stands at its pc, where another function begins.
+    (
+        (0x1_0790, 0x7018, 0x7000),
+        &[
+            (0x1_0790, 0x1_0790, 0),
+            (0x1_0500, 0x1_0500, 2),
+            (0xb000, 0xafff, 2),
+            (0x9000, 0x8fff, 3),
+        ],
+    ),
+    // Any other caller is looked up one before it.
+    (
+        (0x9000, 0x7010, 0x7028),
+        &[
+            (0x9000, 0x9000, 0),
+            (0x1_0500, 0x1_04ff, 3),
+            (0xc000, 0xbfff, 1),
+        ],
+    ),
+    // Also at the end of the image.
+    (
+        (0x9000, 0x7010, 0x7048),
+        &[
+            (0x9000, 0x9000, 0),
+            (0x1_0800, 0x1_07ff, 3),
+            (0xd000, 0xd000, 2),
+            (0xe000, 0xdfff, 3),
+        ],
+    ),
+];
+
 #[test]
 fn readers_are_asked_in_their_order(rt: HostRuntime) -> Result<(), Fail> {
     let memory = memory_with_image(rt.alloc(), WHOLE)?;
-    let cases = [
-        // Compact unwind information counts, though the others tell a caller too.
-        (
-            (0x1_0410, 0x7010, 0x7000),
-            [(0x1_0410, 0x1_0410, 0), (0x9000, 0x8fff, 1)].as_slice(),
-        ),
-        // It leaves the function to call frame information. In no image there are saved frames alone.
-        (
-            (0x1_0510, 0x7010, 0x7000),
-            [
-                (0x1_0510, 0x1_0510, 0),
-                (0xa000, 0x9fff, 2),
-                (0x9000, 0x8fff, 3),
-            ]
-            .as_slice(),
-        ),
-        // Neither of the two tells a caller.
-        (
-            (0x1_0610, 0x7010, 0x7000),
-            [(0x1_0610, 0x1_0610, 0), (0x9000, 0x8fff, 3)].as_slice(),
-        ),
-        // Call frame information tells that there is no caller, though there is a saved frame.
-        (
-            (0x1_0710, 0x7010, 0x7000),
-            [(0x1_0710, 0x1_0710, 0)].as_slice(),
-        ),
-        // The caller of a signal frame stands at its pc, where another function begins.
-        (
-            (0x1_0790, 0x7018, 0x7000),
-            [
-                (0x1_0790, 0x1_0790, 0),
-                (0x1_0500, 0x1_0500, 2),
-                (0xb000, 0xafff, 2),
-                (0x9000, 0x8fff, 3),
-            ]
-            .as_slice(),
-        ),
-        // Any other caller is looked up one before it.
-        (
-            (0x9000, 0x7010, 0x7028),
-            [
-                (0x9000, 0x9000, 0),
-                (0x1_0500, 0x1_04ff, 3),
-                (0xc000, 0xbfff, 1),
-            ]
-            .as_slice(),
-        ),
-        // Also at the end of the image.
-        (
-            (0x9000, 0x7010, 0x7048),
-            [
-                (0x9000, 0x9000, 0),
-                (0x1_0800, 0x1_07ff, 3),
-                (0xd000, 0xd000, 2),
-                (0xe000, 0xdfff, 3),
-            ]
-            .as_slice(),
-        ),
-    ];
-    for ((pc, sp, fp), want) in cases {
+    for ((pc, sp, fp), want) in WALKS {
         let (told, ends) = told_of(rt.alloc(), &memory, pc, sp, fp)?;
         assert!(rt; ends);
         assert_eq!(rt; told.len(), want.len(), "{pc}");

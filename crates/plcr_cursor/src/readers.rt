@@ -98,8 +98,8 @@ fn answer<A: Asked, I: Images>(
     }
 }
 
-// Puts the caller of a frame into room, by the first reader whose answer isn't Bad. Gives which this
-// is, where there is a caller.
+// Puts the caller of a frame into room, by the first reader whose answer isn't Bad. Gives which
+// this is, where there is a caller.
 #[tactic(auto, using(crate::proofs::Answered::caller_by))]
 fn caller<A: Asked, I: Images>(
     asked: &mut A,

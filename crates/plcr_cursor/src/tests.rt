@@ -108,7 +108,8 @@ const PLAIN: u64 = 0x1_0000_4100;
 fn frames_end_where_they_must(rt: HostRuntime) -> Result<(), Fail> {
     let alloc = rt.alloc();
     let (arm64, x86_64) = (Arch::Arm64, Arch::X86_64);
-    // The architecture and the bits; the pc and the fp; the two words at 0x7100; the pcs that are told.
+    // The architecture and the bits; the pc and the fp; the two words at 0x7100; the pcs that are
+    // told.
     let cases = [
         (arm64, 64, 9, 0x7100, [0x7100, 0x2000], [9].as_slice()),
         (arm64, 64, 9, 0x7100, [0x70f0, 0x2000], [9].as_slice()),
