@@ -8,7 +8,8 @@ use plcr_base::read_u64;
 use plcr_memory::Memory;
 use plcr_regs::{Frame, MOST_REGISTERS, Outcome, Step, fp_place, pc_place, sp_place};
 
-/// How many bytes a saved frame has: the frame pointer of the caller, and the address to which the call returns.
+/// How many bytes a saved frame has: the frame pointer of the caller, and the address to which the
+/// call returns.
 pub const SAVED_FRAME: usize = 16;
 
 // Puts the caller of a frame into room, by its frame pointer and the two words there.
@@ -55,8 +56,8 @@ pub fn step_into(memory: &Memory, frame: &Frame, room: &mut Frame) -> Outcome
 /// of the caller, and the address to which the call returns. End where the frame pointer is 0. Of
 /// the caller pc, fp and sp are known; its pc is without signature.
 ///
-/// Bad 1: the frame pointer isn't known. Bad 2: its 16 bytes aren't all mapped, or pass 2^64. Bad 3:
-/// the saved frame pointer is neither 0 nor above the one that leads to it.
+/// Bad 1: the frame pointer isn't known. Bad 2: its 16 bytes aren't all mapped, or pass 2^64. Bad
+/// 3: the saved frame pointer is neither 0 nor above the one that leads to it.
 pub fn step(memory: &Memory, frame: &Frame) -> Step
     ensures caller { result ≡ saved_frame memory.now frame.now }
     ensures thread { IfFrame result (IsOfThread frame.now) }
