@@ -11,7 +11,7 @@ use crate::search::{description_over, entry_at};
 use crate::sections::Surroundings;
 use plcr_leb128::Cells;
 
-/// The front of a section is kept as so many runs.
+/// The front of a section is kept as so many runs, a power of two.
 pub const FRONT_RUNS: usize = 32;
 
 /// Good entries of a section one after the other, from a place up to another. None of them covers
@@ -79,7 +79,7 @@ fn stretch_bits(size: u64) -> u32
 {
     64u32
         .saturating_sub(size.leading_zeros())
-        .saturating_sub(5)
+        .saturating_sub(FRONT_RUNS.trailing_zeros())
         .min(63)
 }
 

@@ -11,8 +11,9 @@ ghost use Rattle.plcr_dwarf_cfi.specs.inner.Keeping.{FrontHolds, Holds, IsFound}
 use crate::entries::FrameDescription;
 use crate::fault::CallFrameFault;
 use crate::front::{FRONT_RUNS, Run, description_with};
+use crate::remembered::Remembered;
 use crate::sections::Surroundings;
-use crate::steps::step_from;
+use crate::steps::step_with;
 use plcr_leb128::{Piece, Stored};
 use plcr_macho::{Image, Part};
 use plcr_memory::Memory;
@@ -20,7 +21,7 @@ use plcr_regs::{Frame, Step};
 use std::marker::Model;
 
 /// The answers for so many addresses are kept.
-pub const KNOWN_DESCRIPTIONS: usize = 512;
+pub const KNOWN_DESCRIPTIONS: usize = 1024;
 
 /// The fronts of so many sections are kept.
 pub const KNOWN_FRONTS: usize = 32;
@@ -185,6 +186,7 @@ pub struct KnownDescriptions<'m> {
     memory: &'m Memory,
     slots: [Option<KnownDescription>; KNOWN_DESCRIPTIONS],
     fronts: [Option<KnownFront>; KNOWN_FRONTS],
+    rows: Remembered,
 }
 
 impl<'m> Model for KnownDescriptions<'m> {
@@ -209,6 +211,7 @@ impl<'m> KnownDescriptions<'m> {
             memory,
             slots,
             fronts,
+            rows: Remembered::new(),
         }
     }
 
@@ -247,6 +250,6 @@ impl<'m> KnownDescriptions<'m> {
             unreachable!()
         };
         let found = self.find(part, address);
-        step_from(self.memory, &part, frame, &found)
+        step_with(self.memory, &part, frame, &found, &mut self.rows)
     }
 }

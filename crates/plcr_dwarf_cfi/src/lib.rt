@@ -20,6 +20,7 @@ mod laws;
 mod limits;
 mod opcodes;
 mod pointers;
+mod remembered;
 mod row;
 mod search;
 mod sections;
@@ -35,6 +36,10 @@ pub use laws::{instructions_are_spelled, rows_end_at_locations, the_first_is_fou
 pub use limits::{LINK_REGISTER, MOST_REMEMBERED, MOST_RULES};
 pub use steps::{find, step, step_from};
 
+#[cfg(test)]
+mod arm64_tests;
+#[cfg(test)]
+mod cases;
 #[cfg(test)]
 mod entry_tests;
 #[cfg(test)]

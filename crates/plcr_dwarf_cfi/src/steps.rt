@@ -8,6 +8,7 @@ ghost use Rattle.plcr_dwarf_cfi.specs.Sections.{section_at};
 use crate::caller::{caller_by, register_numbers};
 use crate::entries::FrameDescription;
 use crate::fault::CallFrameFault;
+use crate::remembered::Remembered;
 use crate::row::Row;
 use crate::sections::Surroundings;
 use plcr_leb128::{Piece, Stored};
@@ -47,6 +48,7 @@ fn row_for(
     frame: &Frame,
     description: &FrameDescription,
     address: u64,
+    rows: &mut Remembered,
 ) -> Result<Row, CallFrameFault>
     ensures { result ≡ row_at (section_at memory.now section.now.at section.now.size) (register_numbers frame.now.registers.arch) description.now address }
 {
@@ -58,11 +60,11 @@ fn row_for(
     };
     match memory.stored(section.at, section.size) {
         Some(bytes) => {
-            crate::unwind::row_at(&Stored(bytes), &around, count, description, address)
+            crate::unwind::row_at(&Stored(bytes), &around, count, description, address, rows)
         }
         None => {
             let piece = Piece::new(memory, section.at, section.size);
-            crate::unwind::row_at(&piece, &around, count, description, address)
+            crate::unwind::row_at(&piece, &around, count, description, address, rows)
         }
     }
 }
@@ -74,12 +76,39 @@ fn caller_from(
     frame: &Frame,
     address: u64,
     description: &FrameDescription,
+    rows: &mut Remembered,
 ) -> Result<Step, CallFrameFault>
     ensures caller { result ≡ caller_from (section_at memory.now section.now.at section.now.size) frame.now address description.now }
     ensures thread { IfOk result (λ step. IfFrame step (IsOfThread frame.now)) }
 {
-    let row = row_for(memory, section, frame, description, address)?;
+    let row = row_for(memory, section, frame, description, address, rows)?;
     caller_by(memory, frame, &description.common, &row)
+}
+
+/// The caller of a frame by what `find` answers for its lookup address, with room for remembered
+/// rows.
+pub fn step_with(
+    memory: &Memory,
+    section: &Part,
+    frame: &Frame,
+    found: &Result<FrameDescription, CallFrameFault>,
+    rows: &mut Remembered,
+) -> Step
+    requires { IsSome (frame_lookup frame.now) }
+    ensures caller { result ≡ caller_in (section_at memory.now section.now.at section.now.size) frame.now found.now }
+    ensures thread { IfFrame result (IsOfThread frame.now) }
+{
+    let Some(address) = frame.lookup() else {
+        unreachable!()
+    };
+    let description = match found {
+        Ok(description) => description,
+        Err(fault) => return Step::Bad(fault.number()),
+    };
+    match caller_from(memory, section, frame, address, description, rows) {
+        Ok(step) => step,
+        Err(fault) => Step::Bad(fault.number()),
+    }
 }
 
 /// The caller of a frame by what `find` answers for its lookup address, which a caller may have
@@ -94,17 +123,8 @@ pub fn step_from(
     ensures caller { result ≡ caller_in (section_at memory.now section.now.at section.now.size) frame.now found.now }
     ensures thread { IfFrame result (IsOfThread frame.now) }
 {
-    let Some(address) = frame.lookup() else {
-        unreachable!()
-    };
-    let description = match found {
-        Ok(description) => description,
-        Err(fault) => return Step::Bad(fault.number()),
-    };
-    match caller_from(memory, section, frame, address, description) {
-        Ok(step) => step,
-        Err(fault) => Step::Bad(fault.number()),
-    }
+    let mut rows = Remembered::new();
+    step_with(memory, section, frame, found, &mut rows)
 }
 
 /// The caller of a frame by the call frame information of its image.

@@ -3,11 +3,13 @@ ghost use Rattle.std.specs.Prelude.{◌≡◌, ◌≤◌};
 ghost use Rattle.plcr_base.specs.Chains.{result_map};
 ghost use Rattle.plcr_dwarf_cfi.specs.Rows.{instructed, own_instructions, row_at};
 ghost use Rattle.plcr_dwarf_cfi.specs.declared.limits.TheConstants.{MOST_RULES};
+ghost use Rattle.plcr_dwarf_cfi.specs.inner.Remembering.{table_of};
 ghost use Rattle.plcr_dwarf_cfi.specs.inner.Settings.{section};
 
 use crate::decode::decode_before;
 use crate::entries::{CommonInformation, Extent, FrameDescription};
 use crate::fault::CallFrameFault;
+use crate::remembered::Remembered;
 use crate::row::Row;
 use crate::sections::{Surroundings, Within, pass_over};
 use crate::table::RowTable;
@@ -23,15 +25,16 @@ fn instruct<C: Cells>(
     address: Option<u64>,
     extent: Extent,
     table: &mut RowTable,
+    rows: &mut Remembered,
 ) -> Result<(), CallFrameFault>
     requires { count ≤ MOST_RULES }
-    ensures { result_map (λ _. table.new) result ≡ instructed (section (C.cells cells.now) around.now) common.now count address extent table.old }
+    ensures { result_map (λ _. table_of table.new rows.new) result ≡ instructed (section (C.cells cells.now) around.now) common.now count address extent (table_of table.old rows.old) }
 {
     let entry = Within::new(cells, extent);
     let mut place = extent.start;
     for _done in 0..around.size {
         match decode_before(&entry, around, common.pointers, extent.end, place) {
-            Ok(Some((instruction, next))) => match table.apply(common, count, instruction) {
+            Ok(Some((instruction, next))) => match table.apply(rows, common, count, instruction) {
                 Ok(()) => {
                     if table.is_past(address) {
                         return Ok(());
@@ -66,7 +69,8 @@ fn own_instructions<C: Cells>(
     })
 }
 
-/// The row at an address, of an architecture with so many register numbers.
+/// The row at an address, of an architecture with so many register numbers. It takes room for
+/// remembered rows.
 #[tactic(auto, unfolding(crate::specs::Rows::row_at))]
 pub fn row_at<C: Cells>(
     cells: &C,
@@ -74,10 +78,12 @@ pub fn row_at<C: Cells>(
     count: u64,
     description: &FrameDescription,
     address: u64,
+    rows: &mut Remembered,
 ) -> Result<Row, CallFrameFault>
     requires { count ≤ MOST_RULES }
     ensures { result ≡ row_at (section (C.cells cells.now) around.now) count description.now address }
 {
+    rows.clear();
     let own = own_instructions(cells, around, description)?;
     let common = &description.common;
     let mut table = RowTable::new(description.initial_location);
@@ -89,8 +95,18 @@ pub fn row_at<C: Cells>(
         None,
         common.initial_instructions,
         &mut table,
+        rows,
     )?;
     table.begin();
-    instruct(cells, around, common, count, Some(address), own, &mut table)?;
-    Ok(table.row())
+    instruct(
+        cells,
+        around,
+        common,
+        count,
+        Some(address),
+        own,
+        &mut table,
+        rows,
+    )?;
+    Ok(table.row)
 }
