@@ -5,6 +5,7 @@ ghost use Rattle.plcr_compact.specs.Callers.{answered, caller_from, compact_fram
 ghost use Rattle.plcr_compact.specs.Sections.{found_at, section_of};
 
 use crate::bad::{NO_ENTRY, NO_UNWIND_INFO};
+use crate::caller::Words;
 use crate::calling::caller_by;
 use crate::carrying::read_caller;
 use crate::decoding::encoding;
@@ -51,8 +52,9 @@ fn caller_from(memory: &Memory, image: &Image, frame: &Frame, found: &Found) -> 
 {
     let encoding = encoding(frame.registers.arch, found.encoding)?;
     let start = image.header.wrapping_add(found.function);
-    let caller = caller_by(memory, start, frame, &encoding)?;
-    read_caller(memory, frame, &caller)
+    let mut words = Words::new();
+    let caller = caller_by(memory, start, frame, &encoding, &mut words)?;
+    read_caller(memory, frame, caller, words.as_slice())
 }
 
 /// The caller of a frame by what `find` says of its function. It is never told that there is no

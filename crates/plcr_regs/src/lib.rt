@@ -7,6 +7,7 @@ mod form;
 mod frame;
 mod limits;
 mod names;
+mod outcome;
 mod places;
 mod registers;
 mod states;
@@ -16,6 +17,7 @@ pub use frame::{Frame, Step};
 pub use limits::MOST_REGISTERS;
 pub use names::{count, name};
 pub use places::{dwarf_place, fp_place, lr_place, pc_place, sp_place};
+pub use outcome::Outcome;
 pub use registers::Registers;
 pub use states::read_state;
 
