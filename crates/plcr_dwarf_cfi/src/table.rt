@@ -1,51 +1,81 @@
 //! The table of rows, as far as instructions have come (DWARF 4, sections 6.4.1 and 6.4.2).
-ghost use Rattle.std.specs.Prelude.{◌≡◌, ◌≤◌, []};
+ghost use Rattle.std.specs.Prelude.{◌≡◌, ◌≤◌};
 ghost use Rattle.plcr_base.specs.Chains.{result_map};
 ghost use Rattle.plcr_dwarf_cfi.specs.declared.limits.TheConstants.{MOST_RULES};
-ghost use Rattle.plcr_dwarf_cfi.specs.inner.Remembering.{table_of};
 
 use crate::cfa::{created, defined};
 use crate::entries::CommonInformation;
 use crate::fault::CallFrameFault;
 use crate::instructions::{CfaDefinition, Instruction, RowCreation, RowState, RuleDefinition};
-use crate::remembered::Remembered;
+use crate::limits::MOST_REMEMBERED;
 use crate::row::Row;
+use arrayvec::ArrayVec;
+use std::marker::Model;
 
-/// The row that holds from a location on, and the initial row where there is one yet. The rows
-/// that are remembered are kept apart.
-#[derive(Clone, Copy)]
+/// The row that holds from a location on, the initial row where there is one yet, and the rows that
+/// are remembered.
+#[derive(Drop)]
 pub struct RowTable {
-    pub row: Row,
-    pub initial: Option<Row>,
-    pub location: u64,
+    row: Row,
+    initial: Option<Row>,
+    remembered: ArrayVec<Row, MOST_REMEMBERED>,
+    location: u64,
+}
+
+impl Model for RowTable {
+    ghost use Rattle.std.specs.Prelude.{◌≤◌, length, reverse};
+    ghost use Rattle.plcr_dwarf_cfi.specs.Rows.{Table};
+    ghost use Rattle.plcr_dwarf_cfi.specs.declared.limits.TheConstants.{MOST_REMEMBERED};
+
+    ghost Value = { Table };
+
+    ghost view = { λ t. record { row = t.row; initial = t.initial; remembered = reverse t.remembered.items; location = t.location } };
+
+    ghost invariant = { λ t. length t.remembered.items ≤ MOST_REMEMBERED };
 }
 
 impl RowTable {
-    ghost use Rattle.plcr_dwarf_cfi.specs.Rows.{applied, at_first, begun, created, is_past, kept, moved, with_definition, with_ruling};
-    ghost use Rattle.plcr_dwarf_cfi.specs.declared.row.Row.{Row};
-    ghost use Rattle.std.specs.Prelude.{List};
+    ghost use Rattle.plcr_dwarf_cfi.specs.Rows.{applied, at_first, begun, created, is_past, moved, remembered, taken_back, with_definition, with_ruling};
 
-    /// The table at a location, without rules.
-    pub fn new(location: u64) -> RowTable
-        ensures { table_of result [] ≡ at_first location }
+    /// Room for a table.
+    pub fn new() -> RowTable
+        ensures { result ≡ at_first 0 }
     {
         RowTable {
             row: Row::empty(),
             initial: None,
-            location,
+            remembered: ArrayVec::new(),
+            location: 0,
         }
+    }
+
+    /// Makes it the table at a location, without rules.
+    pub fn reset(&mut self, location: u64)
+        ensures { self.new ≡ at_first location }
+    {
+        self.row.clear();
+        self.initial = None;
+        self.remembered.clear();
+        self.location = location;
     }
 
     /// Takes the row as the initial one.
     pub fn begin(&mut self)
-        ensures { (rows : List Row) → table_of self.new rows ≡ begun (table_of self.old rows) }
+        ensures { self.new ≡ begun self.old }
     {
         self.initial = Some(self.row);
     }
 
+    /// The row.
+    pub fn row(&self) -> &Row
+        ensures { result.now ≡ self.now.row }
+    {
+        &self.row
+    }
+
     /// Whether the row holds from a location above the address on.
     pub fn is_past(&self, address: Option<u64>) -> bool
-        ensures { (rows : List Row) → result ≡ is_past address (table_of self.now rows) }
+        ensures { result ≡ is_past address self.now }
     {
         match address {
             Some(address) => address < self.location,
@@ -54,8 +84,8 @@ impl RowTable {
     }
 
     // Moves the location, but not before there is an initial row.
-    fn create(&mut self, _rows: &Remembered, common: &CommonInformation, creation: RowCreation)
-        ensures { table_of self.new _rows.now ≡ moved (created common.now creation self.old.location) self.old.initial (table_of self.old _rows.now) }
+    fn create(&mut self, common: &CommonInformation, creation: RowCreation)
+        ensures { self.new ≡ moved (created common.now creation self.old.location) self.old.initial self.old }
     {
         if self.initial.is_some() {
             self.location = created(common, creation, self.location);
@@ -64,11 +94,10 @@ impl RowTable {
 
     fn define(
         &mut self,
-        _rows: &Remembered,
         common: &CommonInformation,
         definition: CfaDefinition,
     ) -> Result<(), CallFrameFault>
-        ensures { result_map (λ _. table_of self.new _rows.now) result ≡ with_definition common.now definition (table_of self.old _rows.now) }
+        ensures { result_map (λ _. self.new) result ≡ with_definition common.now definition self.old }
     {
         let cfa = defined(common, definition, self.row.cfa)?;
         self.row.cfa = Some(cfa);
@@ -77,59 +106,58 @@ impl RowTable {
 
     fn rule(
         &mut self,
-        _rows: &Remembered,
         common: &CommonInformation,
         count: u64,
         definition: RuleDefinition,
     ) -> Result<(), CallFrameFault>
         requires { count ≤ MOST_RULES }
-        ensures { result_map (λ _. table_of self.new _rows.now) result ≡ with_ruling common.now count definition (table_of self.old _rows.now) }
+        ensures { result_map (λ _. self.new) result ≡ with_ruling common.now count definition self.old }
     {
         self.row
             .define_rule(common, count, definition, &self.initial)
     }
 
-    // Remembers the row, or takes back the one that was remembered last.
-    fn keep(&mut self, rows: &mut Remembered, state: RowState) -> Result<(), CallFrameFault>
-        ensures { result_map (λ _. table_of self.new rows.new) result ≡ kept state (table_of self.old rows.old) }
+    #[tactic(auto, using(crate::proofs::Tables::reverse_more, crate::proofs::Tables::height))]
+    fn remember(&mut self) -> Result<(), CallFrameFault>
+        ensures { result_map (λ _. self.new) result ≡ remembered self.old }
     {
-        match state {
-            RowState::RememberState => {
-                if rows.is_full() {
-                    return Err(CallFrameFault::RememberedRows);
-                }
-                rows.push(self.row);
-                Ok(())
-            }
-            RowState::RestoreState => {
-                let Some(row) = rows.pop() else {
-                    return Err(CallFrameFault::RememberedRows);
-                };
-                self.row = row;
-                Ok(())
-            }
+        if self.remembered.is_full() {
+            return Err(CallFrameFault::RememberedRows);
         }
+        self.remembered.push(self.row);
+        Ok(())
+    }
+
+    #[tactic(auto, using(crate::proofs::Tables::reverse_more, crate::proofs::Tables::height))]
+    fn take_back(&mut self) -> Result<(), CallFrameFault>
+        ensures { result_map (λ _. self.new) result ≡ taken_back self.old.initial self.old.location self.old.remembered }
+    {
+        let Some(row) = self.remembered.pop() else {
+            return Err(CallFrameFault::RememberedRows);
+        };
+        self.row = row;
+        Ok(())
     }
 
     /// Carries out an instruction, of an architecture with so many register numbers.
     pub fn apply(
         &mut self,
-        rows: &mut Remembered,
         common: &CommonInformation,
         count: u64,
         instruction: Instruction,
     ) -> Result<(), CallFrameFault>
         requires { count ≤ MOST_RULES }
-        ensures { result_map (λ _. table_of self.new rows.new) result ≡ applied common.now count instruction (table_of self.old rows.old) }
+        ensures { result_map (λ _. self.new) result ≡ applied common.now count instruction self.old }
     {
         match instruction {
             Instruction::Creation(creation) => {
-                self.create(rows, common, creation);
+                self.create(common, creation);
                 Ok(())
             }
-            Instruction::Cfa(definition) => self.define(rows, common, definition),
-            Instruction::Rule(definition) => self.rule(rows, common, count, definition),
-            Instruction::State(state) => self.keep(rows, state),
+            Instruction::Cfa(definition) => self.define(common, definition),
+            Instruction::Rule(definition) => self.rule(common, count, definition),
+            Instruction::State(RowState::RememberState) => self.remember(),
+            Instruction::State(RowState::RestoreState) => self.take_back(),
             Instruction::Nop | Instruction::GnuArgsSize(_) => Ok(()),
         }
     }

@@ -3,14 +3,11 @@ ghost use Rattle.std.specs.Prelude.{◌≡◌, ◌≤◌};
 ghost use Rattle.plcr_base.specs.Chains.{result_map};
 ghost use Rattle.plcr_dwarf_cfi.specs.Rows.{instructed, own_instructions, row_at};
 ghost use Rattle.plcr_dwarf_cfi.specs.declared.limits.TheConstants.{MOST_RULES};
-ghost use Rattle.plcr_dwarf_cfi.specs.inner.Remembering.{table_of};
 ghost use Rattle.plcr_dwarf_cfi.specs.inner.Settings.{section};
 
 use crate::decode::decode_before;
 use crate::entries::{CommonInformation, Extent, FrameDescription};
 use crate::fault::CallFrameFault;
-use crate::remembered::Remembered;
-use crate::row::Row;
 use crate::sections::{Surroundings, Within, pass_over};
 use crate::table::RowTable;
 use plcr_leb128::Cells;
@@ -25,16 +22,15 @@ fn instruct<C: Cells>(
     address: Option<u64>,
     extent: Extent,
     table: &mut RowTable,
-    rows: &mut Remembered,
 ) -> Result<(), CallFrameFault>
     requires { count ≤ MOST_RULES }
-    ensures { result_map (λ _. table_of table.new rows.new) result ≡ instructed (section (C.cells cells.now) around.now) common.now count address extent (table_of table.old rows.old) }
+    ensures { result_map (λ _. table.new) result ≡ instructed (section (C.cells cells.now) around.now) common.now count address extent table.old }
 {
     let entry = Within::new(cells, extent);
     let mut place = extent.start;
     for _done in 0..around.size {
         match decode_before(&entry, around, common.pointers, extent.end, place) {
-            Ok(Some((instruction, next))) => match table.apply(rows, common, count, instruction) {
+            Ok(Some((instruction, next))) => match table.apply(common, count, instruction) {
                 Ok(()) => {
                     if table.is_past(address) {
                         return Ok(());
@@ -69,8 +65,7 @@ fn own_instructions<C: Cells>(
     })
 }
 
-/// The row at an address, of an architecture with so many register numbers. It takes room for
-/// remembered rows.
+/// Makes the row of the table that at an address, of an architecture with so many register numbers.
 #[tactic(auto, unfolding(crate::specs::Rows::row_at))]
 pub fn row_at<C: Cells>(
     cells: &C,
@@ -78,15 +73,14 @@ pub fn row_at<C: Cells>(
     count: u64,
     description: &FrameDescription,
     address: u64,
-    rows: &mut Remembered,
-) -> Result<Row, CallFrameFault>
+    table: &mut RowTable,
+) -> Result<(), CallFrameFault>
     requires { count ≤ MOST_RULES }
-    ensures { result ≡ row_at (section (C.cells cells.now) around.now) count description.now address }
+    ensures { result_map (λ _. table.new.row) result ≡ row_at (section (C.cells cells.now) around.now) count description.now address }
 {
-    rows.clear();
     let own = own_instructions(cells, around, description)?;
     let common = &description.common;
-    let mut table = RowTable::new(description.initial_location);
+    table.reset(description.initial_location);
     instruct(
         cells,
         around,
@@ -94,19 +88,8 @@ pub fn row_at<C: Cells>(
         count,
         None,
         common.initial_instructions,
-        &mut table,
-        rows,
+        table,
     )?;
     table.begin();
-    instruct(
-        cells,
-        around,
-        common,
-        count,
-        Some(address),
-        own,
-        &mut table,
-        rows,
-    )?;
-    Ok(table.row)
+    instruct(cells, around, common, count, Some(address), own, table)
 }
