@@ -13,12 +13,12 @@ use crate::entries::FrameDescription;
 use crate::fault::CallFrameFault;
 use crate::front::{FRONT_RUNS, Run, description_with};
 use crate::sections::Surroundings;
-use crate::steps::step_with;
+use crate::steps::{step_in, step_with};
 use crate::table::RowTable;
 use plcr_leb128::{Piece, Stored};
 use plcr_macho::{Image, Part};
 use plcr_memory::Memory;
-use plcr_regs::{Frame, Outcome};
+use plcr_regs::{Frame, Outcome, Step};
 use std::marker::Model;
 
 /// The answers for so many addresses are kept.
@@ -235,5 +235,17 @@ impl<'m> KnownDescriptions<'m> {
         };
         let found = self.find(part, address);
         step_with(self.memory, &part, frame, &found, &mut self.table, room)
+    }
+
+    /// What `step` says.
+    pub fn step(&mut self, image: &Image, frame: &Frame) -> Step
+        requires { IsSome (frame_lookup frame.now) }
+        ensures caller { result ≡ call_frame self.old image.now frame.now }
+        ensures thread { IfFrame result (IsOfThread frame.now) }
+        ensures same { self.new ≡ self.old }
+    {
+        let mut room = *frame;
+        let outcome = self.step_into(image, frame, &mut room);
+        step_in(outcome, room)
     }
 }

@@ -1,7 +1,6 @@
 use crate::fixtures::*;
 use crate::{KnownDescriptions, step};
-use plcr_macho::Image;
-use plcr_regs::{Arch, Frame, Outcome, Step};
+use plcr_regs::{Arch, Frame};
 use std::alloc::{AllocError, Global};
 use std::test::*;
 
@@ -45,19 +44,6 @@ fn frame_at(pc: u64) -> Frame {
     frame(X86, true, &[(7, 0x7100), (16, pc)])
 }
 
-// The step that is told over what is kept.
-fn kept_step(known: &mut KnownDescriptions<'_>, image: &Image, frame: &Frame) -> Step {
-    if frame.lookup().is_none() {
-        return Step::End;
-    }
-    let mut room = *frame;
-    match known.step_into(image, frame, &mut room) {
-        Outcome::Caller => Step::Frame(room),
-        Outcome::End => Step::End,
-        Outcome::Bad(number) => Step::Bad(number),
-    }
-}
-
 // Whatever is kept, the answers are those of a search from the start.
 #[test]
 fn what_is_kept_changes_no_answer(rt: HostRuntime) -> Result<(), Fail> {
@@ -72,11 +58,11 @@ fn what_is_kept_changes_no_answer(rt: HostRuntime) -> Result<(), Fail> {
         let frame = frame_at(pc);
         if frame.lookup().is_some() {
             assert!(rt;
-                kept_step(&mut known, &whole, &frame) == step(&memory, &whole, &frame),
+                known.step(&whole, &frame) == step(&memory, &whole, &frame),
                 "{pc}"
             );
             assert!(rt;
-                kept_step(&mut known, &front, &frame) == step(&memory, &front, &frame),
+                known.step(&front, &frame) == step(&memory, &front, &frame),
                 "{pc}"
             );
         }

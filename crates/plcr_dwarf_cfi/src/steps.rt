@@ -113,8 +113,8 @@ pub fn step_with(
     }
 }
 
-// The step that an answer tells, with the frame in the room then.
-fn step_in(outcome: Outcome, room: Frame) -> Step
+/// The step that an answer tells, with the frame in the room then.
+pub fn step_in(outcome: Outcome, room: Frame) -> Step
     ensures { result ≡ step_in outcome room }
 {
     match outcome {
