@@ -19,6 +19,7 @@ mod known;
 mod laws;
 mod limits;
 mod opcodes;
+mod passing;
 mod pointers;
 mod row;
 mod search;
