@@ -1,4 +1,5 @@
 -- Definitions that only private functions' contracts cite.
+pub mod Endings
 pub mod Jobs
 pub mod Saving
 pub mod Taking
