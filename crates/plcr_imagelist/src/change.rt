@@ -132,13 +132,7 @@ fn store_load(books: &mut Books, nodes: &Nodes, header: u64, name: &[u8], load: 
 }
 
 // The same of any change: an unload has no such steps.
-fn store_words(
-    books: &mut Books,
-    nodes: &Nodes,
-    task: Task,
-    name: &[u8],
-    load: u32,
-) -> u32
+fn store_words(books: &mut Books, nodes: &Nodes, task: Task, name: &[u8], load: u32) -> u32
     requires table { books.old.owner.table ≡ nodes.now }
     requires making { IsMaking books.old task name.now load 0 }
     ensures making { IsMaking books.new task name.now load result }
