@@ -1,15 +1,14 @@
 -- A change that is made step by step.
-use Rattle.std.proofs.Common.{◌≡◌, ⊎_elim, ℕ, suc, ◌<◌, List, ◌∷◌, ◌+◌, length, refl, sym, ap, ◌∙◌, subst, arith}
+use Rattle.std.proofs.Common.{◌≡◌, ⊎_elim, ℕ, suc, ◌<◌, List, ◌∷◌, refl, sym, ap, ◌∙◌, subst, arith}
 use Rattle.std.proofs.lemmas.Bool.{cases_eq}
 use Rattle.plcr_machine.specs.declared.entry.Entry.TheVariants.{Load}
 use Rattle.plcr_machine.proofs.Cases.{eqb_same}
 use Rattle.plcr_nodes.specs.declared.view.Store.{Store}
-use Rattle.plcr_nodes.specs.Names.{words_of, stored_elsewhere, store}
+use Rattle.plcr_nodes.specs.Names.{stored_elsewhere, store}
 use Rattle.plcr_imagelist.specs.States.{WriterState, Doing, Loads, Unloads, change_step, steps_of, ChangeState, IsAtRest}
 use Rattle.plcr_imagelist.specs.Steps.{MakesStore, word_stored, value_stored, Advances}
-use Rattle.plcr_imagelist.specs.inner.Making.{stores_after, OnlyStores, HasCome, IsFinished}
+use Rattle.plcr_imagelist.specs.inner.Making.{OnlyStores, HasCome, IsFinished}
 use Rattle.plcr_imagelist.specs.Changes.{IsChangedAt, IsCountedAt, IsLoadedAt, IsUnloadedAt}
-use Rattle.plcr_imagelist.proofs.Storing.{after_elsewhere}
 
 some_steps : (doing : Doing) → 0 < change_step doing
 some_steps (Loads header name) = omega arith
@@ -54,22 +53,16 @@ come_start start none =
     let some = some_steps start.doing in
     record { table = refl; doing = refl; load = refl; most = omega arith; before = λ _. (refl, stores_none start.doing start.node start.writer); after = λ e. absurd (omega arith) }
 
--- all stores of a load
-pub come_filled : (start new : ChangeState) (header : ℕ) (name : List ℕ) (made : ℕ) → start.doing ≡ Loads header name → start.made ≡ 0 → made ≡ 3 + words_of (length name)
-    → new ≡ record start { writer = record start.writer { stores = stores_after start.node header name made start.writer.stores }; made = made } → HasCome start new
-come_filled start new header name made doing begun is now =
-    let last : change_step start.doing ≡ 4 + words_of (length name) = ap change_step doing in
-    let only : OnlyStores (Loads header name) start.node start.writer (record start.writer { stores = stores_after start.node header name made start.writer.stores }) =
-    (refl, after_elsewhere start.node header name made start.writer.stores) in
-    subst (λ (s : ChangeState). HasCome start s) (sym now)
-    (record {
-      table = refl;
-      doing = refl;
-      load = refl;
-      most = omega arith;
-      before = λ _. (refl, subst (λ (d : Doing). OnlyStores d start.node start.writer (record start.writer { stores = stores_after start.node header name made start.writer.stores })) (sym doing) only);
-      after = λ e. absurd (omega arith);
-    })
+-- all steps before the change itself
+pub come_stored : (start now : ChangeState) → now.doing ≡ start.doing → now.load ≡ start.load → now.node ≡ start.node → suc now.made ≡ change_step start.doing → OnlyStores start.doing start.node start.writer now.writer → HasCome start now
+come_stored start now doing load node last only = record {
+  table = stores_table start.doing start.node start.writer now.writer only;
+  doing = doing;
+  load = load;
+  most = omega arith;
+  before = λ _. (node, only);
+  after = λ e. absurd (omega arith);
+}
 
 -- the change itself stays on its table
 same_table : (old : WriterState) (doing : Doing) (load node : ℕ) (new : WriterState) → IsChangedAt old doing load node new → new.table ≡ old.table

@@ -4,7 +4,7 @@ use Rattle.std.proofs.lemmas.Bool.{and_parts, eqb-true}
 use Rattle.plcr_base.proofs.Plain.{and_false}
 use Rattle.plcr_machine.specs.declared.image.Image.{Image}
 use Rattle.plcr_machine.specs.declared.entry.Entry.{Entry}
-use Rattle.plcr_machine.specs.declared.entry.Entry.TheVariants.{Announce, Enter, Leave, Retire, Load, Unload, Count, Look}
+use Rattle.plcr_machine.specs.declared.entry.Entry.TheVariants.{Unload, Count}
 use Rattle.plcr_machine.specs.Lists.{has, without, live, loads}
 use Rattle.plcr_machine.specs.Nodes.{is_new, is_removed, is_cleared, is_free, is_waiting, is_let_go, counts_before}
 use Rattle.plcr_machine.specs.Passes.{counts, owes_count, all_under}

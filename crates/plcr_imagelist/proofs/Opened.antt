@@ -3,7 +3,7 @@ use Rattle.std.proofs.Common.{◌≡◌, ℕ, zero, suc, List, [], ◌∷◌, �
 use Rattle.std.proofs.Math.Seq.{get_or-append_seam}
 use Rattle.std.proofs.lemmas.Bool.{eqb-false}
 use Rattle.std.proofs.lemmas.List.{reverse-append, length-append, get_or_append_left}
-use Rattle.std.proofs.lemmas.List.Elements.{All-nil, All-push}
+use Rattle.std.proofs.lemmas.List.Elements.{All-nil, All-push, All-head, All-tail}
 use Rattle.atomic_table.specs.Seated.{TableId}
 use Rattle.plcr_nodes.specs.Tokens.{PassState}
 use Rattle.plcr_nodes.specs.Opening.{IsSized, opened_owner, opened_pass, opened_passes}
@@ -25,6 +25,11 @@ opened_ready z nodes passes sized zero = All-nil (IsReady nodes)
 opened_ready z nodes passes sized (suc count) =
     All-push (IsReady nodes) (opened_passes z nodes passes count) (opened_pass z nodes passes count) (opened_ready z nodes passes sized count)
     (record { known = record { few_nodes = sized.0.1; few_passes = sized.1.1; legal = tt; named = refl }; outside = refl; retired = refl; made = ([], refl) }, refl)
+
+pub all_reversed : (nodes : ℕ) (xs : List PassState) → All (IsReady nodes) xs → All (IsReady nodes) (reverse xs)
+all_reversed nodes [] h = All-nil (IsReady nodes)
+all_reversed nodes (x ∷ xs) h =
+    subst (All (IsReady nodes)) (sym (reverse-append (x ∷ []) xs)) (All-push (IsReady nodes) (reverse xs) x (all_reversed nodes xs (All-tail (IsReady nodes) x xs h)) (All-head (IsReady nodes) x xs h))
 
 map-snoc : (xs : List PassState) (x : PassState) → map walker_state (xs ++ x ∷ []) ≡ map walker_state xs ++ walker_state x ∷ []
 map-snoc [] x = refl

@@ -158,8 +158,8 @@ out_retired old out new met ended low high l k h outside = record {
   outside = subst (λ (s : PassState). is_inside s.number s.history ≡ false) (sym k.now) (inside_same out.number k.past out.history (own_of out.number out.history k.past k.sees.added) ∙ outside);
   retired = subst (λ (s : PassState). is_announced s.number s.history ≡ false) (sym k.now) (rw (eqb_same out.number) refl);
   made =
-    let own : own_entries old.number old.history ≡ Enter old.number ∷ Announce old.number h.made.0 ∷ entries_of_holds old.number h.made.1 = h.made.2 in
-    let r = released_left old out new met ended low high l k h in
-    let same : new.number ≡ old.number = ap (λ (s : PassState). s.number) k.now ∙ ap (λ (s : PassState). s.number) l.entry.now in
-    subst (λ n. MadeHolds n new.history) (sym same) (h.made.0 ∷ h.made.1, r.own ∙ ap (λ (es : List Entry). Retire old.number ∷ Leave old.number ∷ es) own);
+      let own : own_entries old.number old.history ≡ Enter old.number ∷ Announce old.number h.made.0 ∷ entries_of_holds old.number h.made.1 = h.made.2 in
+      let r = released_left old out new met ended low high l k h in
+      let same : new.number ≡ old.number = ap (λ (s : PassState). s.number) k.now ∙ ap (λ (s : PassState). s.number) l.entry.now in
+      subst (λ n. MadeHolds n new.history) (sym same) (h.made.0 ∷ h.made.1, r.own ∙ ap (λ (es : List Entry). Retire old.number ∷ Leave old.number ∷ es) own);
 }

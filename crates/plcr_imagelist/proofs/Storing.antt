@@ -32,7 +32,7 @@ stored_more node header name made ss most before k below =
 
 -- so many steps store just that
 pub stored_after : (node header : ℕ) (name : List ℕ) (made : ℕ) (ss : List Store) → made ≤ 3 + words_of (length name) → AreStored node header name made (stores_after node header name made ss)
-stored_after node header name zero ss most k below = absurd (omega arith)
+stored_after node header name zero ss most = λ k below. absurd (omega arith)
 stored_after node header name (suc made) ss most =
     let one : made + 1 ≡ suc made = omega arith in
     subst (λ m. AreStored node header name m (stores_after node header name (suc made) ss)) one
