@@ -10,11 +10,12 @@ use Rattle.plcr_dwarf_cfi.specs.declared.entries.FrameDescription.{FrameDescript
 use Rattle.plcr_dwarf_cfi.specs.declared.fault.CallFrameFault.{CallFrameFault}
 use Rattle.plcr_dwarf_cfi.specs.declared.fault.CallFrameFault.TheVariants.{NotCovered, Truncated}
 use Rattle.plcr_dwarf_cfi.specs.declared.front.Run.{Run}
+use Rattle.plcr_dwarf_cfi.specs.declared.passing.Code.{Code}
 use Rattle.plcr_dwarf_cfi.specs.declared.passing.Passed.{Passed}
 use Rattle.plcr_dwarf_cfi.specs.Entries.{common_before, covers, description_for, description_in, description_over, entry_at, found_in}
 use Rattle.plcr_dwarf_cfi.specs.Lists.{listed}
 use Rattle.plcr_dwarf_cfi.specs.Sections.{Section, within}
-use Rattle.plcr_dwarf_cfi.specs.inner.Fronts.{IsNamed, IsPassed, IsRun, found_from, is_outside, last_of, run_at, with_code, with_entry}
+use Rattle.plcr_dwarf_cfi.specs.inner.Fronts.{IsNamed, IsPassed, IsRun, described, found_from, is_outside, last_of, run_at, with_code, with_entry}
 use Rattle.plcr_dwarf_cfi.proofs.Searches.{search_start}
 
 -- step by step
@@ -169,3 +170,15 @@ pub passed_stands : (s : Section) (place : ℕ) (e : Extent) (id : ℕ) (c : Com
     → entry_at s place ≡ Ok (Some (Description d, e.end))
 unfolding entry_at
 passed_stands s place e id c d is before there = rw (is.inside, is.extent, is.some, is.named, is.other, before, there) refl
+
+pub passed_is : (s : Section) (place a : ℕ) (e : Extent) (id : ℕ) (c : CommonInformation) (code : Code)
+    → IsNamed s place e id → common_before s e.start id ≡ Ok c → Ok (described e c code) ≡ description_in (within s e) e c
+    → (nat_le code.start a && nat_lt (a - code.start) code.range) ≡ false
+    → IsPassed s place a (record { start = code.start; range = code.range; next = e.end })
+passed_is s place a e id c code named before there apart = record {
+  description = described e c code;
+  stands = passed_stands s place e id c (described e c code) named before (sym there);
+  location = refl;
+  range = refl;
+  apart = apart;
+}

@@ -256,7 +256,8 @@ fn a_section_that_is_cut_has_no_caller(rt: HostRuntime) -> Result<(), Fail> {
     Ok(())
 }
 
-// A block's bytes belong to its instruction: one that isn't mapped is a fault, whether the expression is carried out or not.
+// A block's bytes belong to its instruction: one that isn't mapped is a fault, whether the
+// expression is carried out or not.
 #[test]
 fn all_bytes_of_a_block_are_there(rt: HostRuntime) -> Result<(), Fail> {
     let section = function(

@@ -1,5 +1,6 @@
 //! What was found in the sections of a memory, kept so that an address is searched once, and the
 //! front of a section that was read so that others are found sooner.
+ghost use Rattle.std.specs.Bool.{OnTrue};
 ghost use Rattle.std.specs.Prelude.{◌≡◌, ◌<◌, All, IfSome, IsSome};
 ghost use Rattle.plcr_regs.specs.Frames.{IfFrame, IsOfThread, frame_lookup};
 ghost use Rattle.plcr_regs.specs.Outcomes.{step_in};
@@ -108,7 +109,15 @@ fn find_with(
     }
 }
 
-// The same, where the front kept may be that of another section.
+// Whether the front that is kept is that of a section.
+fn is_front(_memory: &Memory, front: &KnownFront, part: Part) -> bool
+    requires { FrontHolds _memory.now front.now }
+    ensures { OnTrue result (All (IsRun (section_at _memory.now part.at part.size)) front.now.runs) }
+{
+    front.part.at == part.at && front.part.size == part.size
+}
+
+// What `find` says, and the front is kept that was read.
 fn find_in(
     memory: &Memory,
     part: Part,
@@ -119,9 +128,12 @@ fn find_in(
     ensures found { IsFound memory.now part address result }
     ensures known { FrontHolds memory.now front.new }
 {
-    if front.part.at != part.at || front.part.size != part.size {
-        *front = no_front(memory, part);
+    let kept = is_front(memory, front, part);
+    front.part = part;
+    if kept {
+        return find_with(memory, part, address, &mut front.runs);
     }
+    front.runs = no_runs(memory, part);
     find_with(memory, part, address, &mut front.runs)
 }
 
