@@ -1,2 +1,3 @@
-pub mod Making
+pub mod Numerals
 pub mod Make
+pub mod inner

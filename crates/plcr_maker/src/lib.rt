@@ -6,9 +6,11 @@ mod command;
 mod counts;
 mod ignored;
 mod making;
+mod numerals;
 mod runs;
 mod saving;
 #[cfg(test)]
 mod tests;
 
 pub use command::make_command;
+pub use numerals::images_of;

@@ -11,7 +11,7 @@ ghost use Rattle.plcr_make.specs.Cores.{core_of};
 ghost use Rattle.plcr_make.specs.Scripts.{script_of};
 ghost use Rattle.plcr_make.specs.MadeScripts.{made_script};
 ghost use Rattle.plcr_make.specs.MadeScripts as scripts;
-ghost use Rattle.plcr_maker.specs.Making.{AreCounts, IsRun, IsMade};
+ghost use Rattle.plcr_maker.specs.inner.Making.{AreCounts, IsRun, IsMade};
 
 use crate::counts::{Counts, counts_of};
 use crate::runs::{Ran, run_made};

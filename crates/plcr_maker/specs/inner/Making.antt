@@ -1,7 +1,6 @@
 -- What `make` makes in memory, before it makes its first file.
-use Rattle.std.specs.Prelude.{◌≡◌, ℕ, List, [], ◌∷◌, Some, Ok, length, sum_by, codes}
+use Rattle.std.specs.Prelude.{◌≡◌, ℕ, List, [], ◌∷◌, Some, Ok, length}
 use Rattle.plcr_report.specs.declared.messages.Report.{Report}
-use Rattle.plcr_report.specs.declared.messages.Thread.{Thread}
 use Rattle.plcr_core.specs.declared.read.Core.{Core}
 use Rattle.plcr_io.specs.MemFiles.{last_named}
 use Rattle.plcr_decode.specs.Reads.{reads}
@@ -14,17 +13,10 @@ use Rattle.plcr_make.specs.Cores.{core_of}
 use Rattle.plcr_make.specs.Scripts.{script_of}
 use Rattle.plcr_make.specs.MadeScripts.{made_script}
 use Rattle.plcr_make.specs.Summary.{summary_line}
+use Rattle.plcr_maker.specs.Make.{report_name, frames_in}
 use Rattle.plcr_maker.specs.declared.counts.Counts.{Counts}
 use Rattle.plcr_maker.specs.declared.runs.Ran.{Ran}
 use Rattle.plcr_maker.specs.declared.making.Made.{Made}
-
--- the name of the report's file
-abbrev pub report_name : List ℕ
-report_name = codes "made.plcrash"
-
--- how many frames threads have
-abbrev pub frames_in : List Thread → ℕ
-frames_in threads = sum_by (λ t. length t.frames) threads
 
 -- the numbers of a report
 pub record AreCounts (report : Report) (counts : Counts) : Type 0 where
