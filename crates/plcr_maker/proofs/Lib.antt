@@ -2,3 +2,4 @@ pub mod Saved
 pub mod Counted
 pub mod Played
 pub mod Whole
+pub mod Digits

@@ -1,0 +1,1 @@
+use Rattle.plcr_maker.proofs.numerals.images_of.Goals as goal
