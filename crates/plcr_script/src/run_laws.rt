@@ -1,6 +1,6 @@
 //! What the runs of all scripts have in common, each as the contract of a function that does nothing.
 
-ghost use Rattle.plcr_script.specs.RunLaws.{PassesAreWhereTheyWerePut, RunsGoOn, EndedWalksStay, WalksComeToTheirEnds, ReportsAreOfLawfulWalks, RunsKeepLawfully, RunsKeepTheirFiles, StoppedRunsArePrefixes};
+ghost use Rattle.plcr_script.specs.RunLaws.{PassesAreWhereTheyWerePut, RunsGoOn, EndedWalksStay, WalksComeToTheirEnds, ReportsAreOfLawfulWalks, RunsKeepLawfully, RunsKeepTheirFiles, EndsFollow, StoppedRunsArePrefixes};
 
 /// The walk of each pass that is in comes to its end, and stays there.
 pub fn walks_come_to_their_ends()
@@ -24,9 +24,10 @@ pub fn passes_are_where_they_were_put()
     ensures { PassesAreWhereTheyWerePut }
 {}
 
-/// A run keeps the files that its script names; each has a report of the images of a lawful walk, and its line tells the
-/// walk's window.
+/// A run keeps the files that its script names. Each was written in a hold of its pass and has a report of the images of
+/// that hold's lawful walk, and its line tells the hold's window. What happened by then stays as the run ends.
 pub fn reports_are_kept_lawfully()
     ensures lawfully { RunsKeepLawfully }
     ensures files { RunsKeepTheirFiles }
+    ensures ends { EndsFollow }
 {}

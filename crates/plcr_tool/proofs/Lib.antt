@@ -5,6 +5,7 @@ pub mod Ended
 pub mod Fitting
 pub mod Headlined
 pub mod Shown
+pub mod Statused
 pub mod Stored
 pub mod Threaded
 pub mod Written

@@ -4,5 +4,6 @@ pub mod Laws
 pub mod Past
 pub mod Report
 pub mod Show
+pub mod Statuses
 pub mod Top
 pub mod inner

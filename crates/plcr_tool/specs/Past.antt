@@ -20,10 +20,13 @@ pub record Left (Leaves : Meanings → ScriptValue → Option WriterState → Ty
   pub leaves : Leaves (meanings_of job.core script) script past
 
 -- the same of the job that the files of the words hold
-abbrev pub FilesLeft : (Meanings → ScriptValue → Option WriterState → Type 0) → List ℕ → List ℕ → Seen → Seen → Option WriterState → Type 0
-FilesLeft Leaves core script old new past = HasRead (IsJob ALONE) (report_files core script) (λ job old new. Left Leaves past job) old new
+abbrev pub FilesLeft : (Meanings → ScriptValue → Option WriterState → Type 0)
+    → (core script : List ℕ) → (old new : Seen) → Option WriterState → Type 0
+FilesLeft Leaves core script old new past =
+    HasRead (IsJob ALONE) (report_files core script) (λ job old new. Left Leaves past job) old new
 
--- What `report CORE SCRIPT` leaves, by its status: the writer of the list that was opened for the run, which has met each pass of that list, and what has happened there; or none
+-- What `report CORE SCRIPT` leaves, by its status: the writer of the list that was opened for the
+-- run, which has met each pass of that list, and what has happened there; or none
 pub record ReportLeaves (core script : List ℕ) (old new : Seen) (past : Option WriterState) (status : ℕ) : Type 0 where
   -- just what the script means
   pub done : status ≡ 0 → FilesLeft LeavesWhole core script old new past

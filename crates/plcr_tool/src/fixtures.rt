@@ -7,7 +7,8 @@ use plcr_regs::Arch;
 use std::alloc::{AllocError, Global};
 use std::test::Fail;
 
-/// The report of one x86-64 thread, which was stopped with rsp 0x7000 and rip 0x100000f50, all else 0.
+/// The report of one x86-64 thread, which was stopped with rsp 0x7000 and rip 0x100000f50, all else
+/// 0.
 pub const REPORT: [u8; 271] = [
     0x70, 0x6c, 0x63, 0x72, 0x61, 0x73, 0x68, 0x01, 0x0a, 0x09, 0x08, 0x00, 0x12, 0x01, 0x30, 0x18,
     0x01, 0x20, 0x00, 0x12, 0x08, 0x0a, 0x03, 0x61, 0x70, 0x70, 0x12, 0x01, 0x31, 0x1a, 0xcd, 0x01,
@@ -28,8 +29,8 @@ pub const REPORT: [u8; 271] = [
     0x0a, 0x03, 0x61, 0x70, 0x70, 0x10, 0x00, 0x28, 0x00, 0x30, 0x01, 0x4a, 0x02, 0x08, 0x00,
 ];
 
-/// What is changed in a core of one segment at 0x7000 and one thread. With images it has eight, 0x4000 apart from
-/// 0x100000000 on.
+/// What is changed in a core of one segment at 0x7000 and one thread. With images it has eight,
+/// 0x4000 apart from 0x100000000 on.
 #[derive(Clone, Copy, Debug)]
 pub enum Core {
     Whole,
@@ -70,7 +71,8 @@ fn image_at(k: u32) -> u64
     0x1_0000_0000 + 0x4000 * u64::from(k)
 }
 
-/// The segment of an image. The 128 bytes of each stand behind those of the one before, from a place on.
+/// The segment of an image. The 128 bytes of each stand behind those of the one before, from a
+/// place on.
 fn add_image_segment(bytes: &mut Vec<u8>, start: u32, k: u32) -> Result<(), AllocError>
     requires { k < 400 }
 {
@@ -155,8 +157,8 @@ pub fn image_core(alloc: Global, images: u32, threads: u32) -> Result<Vec<u8>, A
     Ok(bytes)
 }
 
-/// The registers of a thread that was stopped with this pc and this frame pointer, and with its stack at 0x7000, all
-/// else 0.
+/// The registers of a thread that was stopped with this pc and this frame pointer, and with its
+/// stack at 0x7000, all else 0.
 fn add_registers(bytes: &mut Vec<u8>, arch: Arch, pc: u64, fp: u64) -> Result<(), AllocError> {
     let (count, places) = match arch {
         Arch::X86_64 => (21, [6, 7, 16]),
@@ -174,8 +176,8 @@ fn add_registers(bytes: &mut Vec<u8>, arch: Arch, pc: u64, fp: u64) -> Result<()
     Ok(())
 }
 
-/// A core of one thread with this pc and this frame pointer. These words stand at 0x7100; without any, a segment at
-/// 0x7000 has no file bytes.
+/// A core of one thread with this pc and this frame pointer. These words stand at 0x7100; without
+/// any, a segment at 0x7000 has no file bytes.
 pub fn thread_core(
     alloc: Global,
     arch: Arch,
@@ -204,8 +206,8 @@ pub fn thread_core(
     Ok(bytes)
 }
 
-/// A desk with the core `c` of these bytes and the script `s`, and three outputs of so much room; the puts of these
-/// numbers to the first of them fail.
+/// A desk with the core `c` of these bytes and the script `s`, and three outputs of so much room;
+/// the puts of these numbers to the first of them fail.
 pub fn desk_of(
     alloc: Global,
     core: Vec<u8>,
@@ -229,8 +231,8 @@ pub fn desk_of(
     Ok(MemDesk::new(alloc, files, outs, Vec::new(alloc))?)
 }
 
-/// A desk with the core `c` and the script `s`, and two outputs; its calls of these numbers fail, and the
-/// puts of those numbers to the second output.
+/// A desk with the core `c` and the script `s`, and two outputs; its calls of these numbers fail,
+/// and the puts of those numbers to the second output.
 pub fn desk(
     alloc: Global,
     core: Core,

@@ -23,8 +23,9 @@ fn an_arm64_thread_is_reported(rt: HostRuntime) -> Result<(), Fail> {
     Ok(())
 }
 
-// Behind the thread's number stand its frames: that of the state, and 0x2000. The one behind it is at 4,096. Against the
-// report of the same thread without a frame pointer, there are 5 bytes more for the frame, and 2 for the frame pointer.
+// Behind the thread's number stand its frames: that of the state, and 0x2000. The one behind it is
+// at 4,096. Against the report of the same thread without a frame pointer, there are 5 bytes more
+// for the frame, and 2 for the frame pointer.
 #[test]
 fn the_bytes_of_frames(rt: HostRuntime) -> Result<(), Fail> {
     let alloc = rt.alloc();
@@ -47,7 +48,8 @@ fn the_bytes_of_frames(rt: HostRuntime) -> Result<(), Fail> {
     Ok(())
 }
 
-// The pcs of the frames of the one thread in the report of this core, and the value of its register `pc`.
+// The pcs of the frames of the one thread in the report of this core, and the value of its register
+// `pc`.
 fn frames_told(
     alloc: Global,
     arch: Arch,
@@ -89,8 +91,9 @@ const PLAIN_BITS: &[u8] = b"report 0 a\n";
 
 const BITS_47: &[u8] = b"set bits 47\nreport 0 a\n";
 
-// Frames end where the next frame pointer doesn't rise, where it isn't mapped, and at the null page. What of an address
-// of code counts is told by `bits`, on arm64 alone; the register stays as it is.
+// Frames end where the next frame pointer doesn't rise, where it isn't mapped, and at the null
+// page. What of an address of code counts is told by `bits`, on arm64 alone; the register stays as
+// it is.
 #[test]
 fn frames_by_saved_frame_pointers(rt: HostRuntime) -> Result<(), Fail> {
     let alloc = rt.alloc();

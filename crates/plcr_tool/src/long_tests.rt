@@ -54,34 +54,42 @@ fn three_hundred_images(rt: HostRuntime) -> Result<(), Fail> {
     Ok(())
 }
 
-/// Statements of every kind but `report`, with a pass that is out.
+/// Statements of every kind but `report`, with a pass that is out: three loads and two unloads.
 fn add_statements(alloc: Global, script: &mut Vec<u8>, i: u32) -> Result<(), Fail> {
-    let header = 0x1_0000_0000 + 0x4000 * u64::from(i % 8);
+    let one = 0x1_0000_0000 + 0x4000 * u64::from(i % 8);
     let other = 0x1_0000_0000 + 0x4000 * u64::from((i % 8 + 3) % 8);
     let pass = i % 1024;
-    let loads = format!(in alloc; "load {header} n\nbegin load {other} m\nstep 2\n")?;
+    let loads =
+        format!(in alloc; "load {one} n\nload {other} m\nbegin load {other} n\nstep 2\n")?;
     let walk = format!(in alloc; "enter {pass}\nwalk {pass} 1\nend\n")?;
-    let unload = format!(in alloc; "begin unload {header}\nstep 1\nend\nleave {pass}\n")?;
+    let begun = format!(in alloc; "begin unload {one}\nstep 1\nend\n")?;
+    let unload = format!(in alloc; "unload {other}\nleave {pass}\n")?;
     script.extend_from_slice(loads.as_bytes())?;
     script.extend_from_slice(walk.as_bytes())?;
+    script.extend_from_slice(begun.as_bytes())?;
     script.extend_from_slice(unload.as_bytes())?;
     Ok(())
 }
 
-// The list is full after a while, and from then on each image that is unloaded makes room for one load.
+// The list is full after 4,094 rounds. From then on the images that a round unloads make room for
+// two loads of the next: the third is refused, and its steps find no change open.
 #[test]
 fn a_hundred_thousand_statements(rt: HostRuntime) -> Result<(), Fail> {
     let alloc = rt.alloc();
     let mut script = b"table 4096 1024\n".to_vec(alloc)?;
-    for i in 0..10_000 {
+    for i in 0..8_333 {
         add_statements(alloc, &mut script, i)?;
     }
-    script.extend_from_slice(b"report 5 a\n")?;
+    script.extend_from_slice(b"enter 1\nwalk 1 0\nreport 5 a\nreport 1 b\n")?;
     let core = image_core(alloc, 8, 1)?;
     let (desk, lines) = run(alloc, core, script.as_slice())?;
     let ends = lines.bytes().iter().filter(|byte| **byte == b'\n').count();
-    assert_eq!(rt; ends, 100_001);
-    assert!(rt; lines.bytes().ends_with(b"\n100001 leave 783 1 24094 24095\n100002 report a 180451 4095 24095 24095\n"));
-    assert_eq!(rt; desk.file("a").map(|file| file.len()), Some(180_451));
+    assert_eq!(rt; ends, 100_000);
+    assert_eq!(rt; lines.bytes().len(), 1_768_394);
+    let end = b"\n99997 leave 140 1 37424 37426\n99998 enter 1\n99999 walk 1 0 more\n\
+        100000 report a 180407 4094 37426 37426\n100001 report b 180407 4094 37426 37426\n";
+    assert!(rt; lines.bytes().ends_with(end));
+    assert_eq!(rt; desk.file("a").map(|file| file.len()), Some(180_407));
+    assert_eq!(rt; desk.file("b").map(|file| file.len()), Some(180_407));
     Ok(())
 }

@@ -22,11 +22,11 @@ const ALONE: Modes = Modes {
     later: Mode::Single,
 };
 
-/// Runs a script on a core: keeps each report that it asks for, and prints the log. Gives the status:
-/// 0 done, 2 a file couldn't be taken, 3 no core, 4 no script, 5 a file not kept or a line not printed,
-/// 7 want of memory. All memory is taken before the first output is made and the first line printed.
-/// At 0 and 5 it leaves the writer of the image list that it opened in `past`, after each pass of that
-/// list has met it.
+/// Runs a script on a core: keeps each report that it asks for, and prints the log. Gives the
+/// status: 0 done, 2 a file couldn't be taken, 3 no core, 4 no script, 5 a file not kept or a line
+/// not printed, 7 want of memory. All memory is taken before the first output is made and the first
+/// line printed. At 0 and 5 it leaves the writer of the image list that it opened in `past`, after
+/// each pass of that list has met it.
 pub fn report_command<D: Desk, L: Sink>(
     alloc: Global,
     core: &str,

@@ -149,23 +149,41 @@ fn a_put_fails(rt: HostRuntime) -> Result<(), Fail> {
     Ok(())
 }
 
-// Ten passes are in, one of them behind two images, and four steps of a load are made. All passes meet the writer.
-#[test]
-fn a_run_stops_with_passes_in(rt: HostRuntime) -> Result<(), Fail> {
-    let alloc = rt.alloc();
+/// Ten passes go in, one of them walks past two images, and four steps of a load are made.
+fn with_passes_in(alloc: Global, last: &[u8]) -> Result<Vec<u8>, Fail> {
     let mut script = EIGHT_LOADS.to_vec(alloc)?;
     for pass in 1..11 {
         script.extend_from_slice(format!(in alloc; "enter {pass}\n")?.as_bytes())?;
     }
-    script.extend_from_slice(b"walk 3 2\nbegin load 0x100000000 I\nstep 4\nreport 0 a\nenter 11\n")?;
+    script.extend_from_slice(b"walk 3 2\nbegin load 0x100000000 I\nstep 4\n")?;
+    script.extend_from_slice(last)?;
+    Ok(script)
+}
+
+// All passes come out, the load is made to its end, and all passes meet the writer.
+#[test]
+fn a_script_ends_with_passes_in(rt: HostRuntime) -> Result<(), Fail> {
+    let alloc = rt.alloc();
+    let script = with_passes_in(alloc, b"")?;
+    let ran = run(alloc, script.as_slice(), Vec::new(alloc))?;
+    assert_eq!(rt; ran.status, 0);
+    let end = b"\n18 enter 10\n19 walk 3 2 more\n20 begin 6\n21 step 4\n";
+    assert!(rt; ran.lines.bytes().ends_with(end));
+    assert!(rt; ran.past.is_some());
+    Ok(())
+}
+
+// The third put of the report fails: the statement behind it isn't reached.
+#[test]
+fn a_run_stops_with_passes_in(rt: HostRuntime) -> Result<(), Fail> {
+    let alloc = rt.alloc();
+    let script = with_passes_in(alloc, b"report 0 a\nenter 11\n")?;
     let ran = run(alloc, script.as_slice(), vec![in alloc; 3]?)?;
     assert_eq!(rt; ran.status, 5);
-    assert!(rt;
-        ran.lines
-            .bytes()
-            .ends_with(b"\n18 enter 10\n19 walk 3 2 more\n20 begin 6\n21 step 4\ncannot write a\n")
-    );
+    let end = b"\n18 enter 10\n19 walk 3 2 more\n20 begin 6\n21 step 4\ncannot write a\n";
+    assert!(rt; ran.lines.bytes().ends_with(end));
     assert!(rt; ran.desk.file("a").is_none());
+    assert_eq!(rt; ran.desk.dropped(0).map(|front| front.len()), Some(512));
     assert!(rt; ran.past.is_some());
     Ok(())
 }

@@ -17,9 +17,9 @@ use std::alloc::Global;
 const USAGE: &[u8] =
     b"usage: report CORE SCRIPT / show REPORT / make N CORE SCRIPT / threads CORE SCRIPT...\n";
 
-/// Does what the words of the command line ask for, on a desk and a sink for its lines, and gives the
-/// status: that of the command, or 1, behind the usage line, exactly where the words fit no form. A command
-/// that runs scripts leaves the writer of its image list in `past`.
+/// Does what the words of the command line ask for, on a desk and a sink for its lines, and gives
+/// the status: that of the command, or 1, behind the usage line, exactly where the words fit no
+/// form. A command that runs scripts leaves the writer of its image list in `past`.
 pub fn top<D: Desk, L: Sink>(
     alloc: Global,
     words: &[String],

@@ -34,7 +34,7 @@ Leaves core script old new past Misused = past ≡ None
 
 -- where it ended behind its run, what it kept is true
 abbrev pub TrulyBy : List ℕ → List ℕ → Seen → Seen → Option WriterState → Ending → Type 0
-TrulyBy core script old new past Done = HasRead (IsJob ALONE) (report_files core script) (RanTruly past) old new
-TrulyBy core script old new past Stopped = HasRead (IsJob ALONE) (report_files core script) (RanTruly past) old new
+TrulyBy core script old new past Done = HasRead (IsJob ALONE) (report_files core script) (RanTruly past 0) old new
+TrulyBy core script old new past Stopped = HasRead (IsJob ALONE) (report_files core script) (RanTruly past 5) old new
 TrulyBy core script old new past (Refused refusal) = Unit {0}
 TrulyBy core script old new past Misused = Unit {0}
