@@ -1,5 +1,5 @@
 -- The words of the command line: the command that they choose, and what the program does for them.
-use Rattle.std.specs.Prelude.{◌≡◌, ℕ, List, [], ◌∷◌, codes, if◌then◌else◌}
+use Rattle.std.specs.Prelude.{◌≡◌, ℕ, List, [], ◌∷◌, Option, Some, None, codes, if◌then◌else◌}
 use Rattle.std.specs.Str.{bytes_eq}
 use Rattle.plcr_base.specs.Told.{Prints}
 use Rattle.plcr_command.specs.declared.endings.Ending.{Ending}
