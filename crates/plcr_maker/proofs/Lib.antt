@@ -3,3 +3,4 @@ pub mod Counted
 pub mod Played
 pub mod Whole
 pub mod Digits
+pub mod Statuses

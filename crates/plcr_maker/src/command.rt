@@ -16,10 +16,11 @@ use plcr_io::{Desk, PutFailed, Sink};
 use plcr_make::write_summary;
 use std::alloc::Global;
 
-/// Makes a core and a script of so many images, and a report by them; keeps the three, and prints a line of
-/// the report. Gives the status: 0 done, 5 a file not kept or the line not printed whole, 7 want of memory.
-/// It takes no file. All memory is taken before the first output is made. At 0 and 5 it leaves the writer of
-/// the image list that the script ran on in `past`, after each pass of that list has met it.
+/// Makes a core and a script of so many images, and a report by them; keeps the three, and prints a
+/// line of the report. Gives the status: 0 done, 5 a file not kept or the line not printed whole, 7
+/// want of memory. It takes no file. All memory is taken before the first output is made. At 0 and
+/// 5 it leaves the writer of the image list that the script ran on in `past`, after each pass of
+/// that list has met it.
 pub fn make_command<D: Desk, L: Sink>(
     alloc: Global,
     n: u32,

@@ -11,8 +11,8 @@ use plcr_make::MOST_IMAGES;
 /// The most digits of a number of images.
 const COUNT_DIGITS: usize = 4;
 
-/// The number of images that a word asks for: 1 to 4,000, in 1 to 4 decimal digits. None for every other
-/// word.
+/// The number of images that a word asks for: 1 to 4,000, in 1 to 4 decimal digits. None for every
+/// other word.
 pub fn images_of(word: &str) -> Option<u32>
     ensures number { result ≡ images_in word.now }
     ensures few { IfSome result (λ n. (1 ≤ n) × (n ≤ MOST_IMAGES)) }

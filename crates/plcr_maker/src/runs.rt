@@ -26,7 +26,8 @@ pub(crate) struct Ran {
     pub writer: Writer,
 }
 
-/// Runs a script that keeps one report, in memory; none where memory is wanting, or the room for the report.
+/// Runs a script that keeps one report, in memory; none where memory is wanting, or the room for
+/// the report.
 pub(crate) fn run_made(alloc: Global, core: &Core, script: &Script) -> Option<Ran>
     requires threads { AreThreads core.now.arch core.now.threads }
     requires script { IsLawful script.now }
@@ -55,7 +56,8 @@ pub(crate) fn run_made(alloc: Global, core: &Core, script: &Script) -> Option<Ra
 
 /// The report that a desk has kept.
 fn report_in(alloc: Global, desk: &MemDesk) -> Option<Vec<u8>>
-    ensures { IfSome result (λ bytes. file_now (contents desk.now) report_name ≡ Some bytes.items) }
+    ensures { IfSome result (λ bytes.
+        file_now (contents desk.now) report_name ≡ Some bytes.items) }
 {
     let bytes = desk.file(MADE_REPORT)?;
     match bytes.to_vec(alloc) {
