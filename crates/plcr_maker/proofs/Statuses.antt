@@ -11,10 +11,10 @@ use Rattle.plcr_maker.specs.Make.{StopsIn, HasMade, Makes, MadeLeft, MakeLeaves}
 use Rattle.plcr_maker.specs.Laws.{MakeIs, MadeByStatus, MakesAreComplete}
 
 at : (images : ℕ) (core script : List ℕ) (old new : Seen) (past : Option WriterState) (status : ℕ) (ending : Ending) → status ≡ status_of ending → Makes images core script old new ending → MakeLeaves images past status → MakeIs images core script old new past status
-at images core script old new past status Done is did leaves = inl (is, (did, leaves.ran (inl is)))
-at images core script old new past status Stopped is did leaves = inr (inl (is, (did, leaves.ran (inr is))))
+at images core script old new past status Done is did leaves = inl (is, did, leaves.ran (inl is))
+at images core script old new past status Stopped is did leaves = inr (inl (is, did, leaves.ran (inr is)))
 at images core script old new past status (Refused OutOfMemory) is did leaves =
-    inr (inr (is, (did, leaves.others (λ e. omega (arith, is, e)) (λ e. omega (arith, is, e)))))
+    inr (inr (is, did, leaves.others (λ e. omega (arith, is, e)) (λ e. omega (arith, is, e))))
 at images core script old new past status (Refused (CannotRead word)) is did leaves = absurd did
 at images core script old new past status (Refused (TooLong word)) is did leaves = absurd did
 at images core script old new past status (Refused (CoreRefused fault)) is did leaves = absurd did

@@ -12,13 +12,13 @@ returns-in_err-digit c =
 
 pub overflow_mul-value : goal.overflow_mul-value
 overflow_mul-value c =
-    let small = few_digits c.args.text.now c.loop-byte.byte-index c.loop-byte.invariant.digits (omega arith) in
+    let small = few_digits c.args.text.now c.loop-byte.byte-index c.loop-byte.invariant.digits (omega arith) c.requires in
     omega (arith, small, c.loop-byte.invariant.value)
 
 pub overflow_add-value : goal.overflow_add-value
 overflow_add-value c =
     let digit = c.in_ok-digit.ensures.value in
-    let small = few_digits c.args.text.now c.loop-byte.byte-index c.loop-byte.invariant.digits (omega arith) in
+    let small = few_digits c.args.text.now c.loop-byte.byte-index c.loop-byte.invariant.digits (omega arith) c.requires in
     omega (arith, small, c.loop-byte.invariant.value, digit.0, digit.1)
 
 pub loop-byte-preserved : goal.loop-byte-preserved
