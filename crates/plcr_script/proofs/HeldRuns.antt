@@ -57,13 +57,13 @@ module _ (past : List Event) where
   entered_follows : (pass : ℕ) (s : State) → Follows past s.events → Follows past (entered pass s).events
   entered_follows pass s f = one_follows (Noted (Enter pass)) (Noted (Announce pass (counts (noted_in s.events))) ∷ s.events) (one_follows (Noted (Announce pass (counts (noted_in s.events)))) s.events f)
 
+  left_follows : (pass : ℕ) (b : Bool) (events : List Event) → Follows past events → Follows past (if b then leaves pass events else events)
+  left_follows pass true events f = leaves_follow pass events f
+  left_follows pass false events f = f
+
   all_left_follow : (passes : ℕ) (places : ℕ → Place) (events : List Event) → Follows past events → Follows past (all_left passes places events)
   all_left_follow zero places events f = f
-  all_left_follow (suc p) places events f = of (is_in (places p))
-    where
-      of : (b : Bool) → Follows past (if b then leaves p (all_left p places events) else all_left p places events)
-      of true = leaves_follow p (all_left p places events) (all_left_follow p places events f)
-      of false = all_left_follow p places events f
+  all_left_follow (suc p) places events f = left_follows p (is_in (places p)) (all_left p places events) (all_left_follow p places events f)
 
   finished_follow : (opened : Option Opened) (events : List Event) → Follows past events → Follows past (finished opened events)
   finished_follow None events f = f

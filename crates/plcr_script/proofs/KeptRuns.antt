@@ -170,6 +170,7 @@ module _ (process : Meanings) (nodes passes : ℕ) where
   turn_lawful : (s : State) (statement : Statement) (later : List Event) → Sound s → Paced s →
       let turn = turn_of process nodes passes s statement in
       All (IsLawfulReport process (later ++ turn.state.events) turn) turn.kept
+  unfolding turn_of
   turn_lawful s (statements.Report p file) later h pace = report_lawful s p file later h pace
   turn_lawful s statement later h pace = rw (turn_quiet process nodes passes s statement refl) (All-nil (IsLawfulReport process (later ++ (turn_of process nodes passes s statement).state.events) (turn_of process nodes passes s statement)))
 

@@ -2,7 +2,10 @@
 use Rattle.std.proofs.Common.{inl, inr, ◌≡◌, ◌⊎◌, ◌↔◌, ℕ, ◌<◌, List, [], ◌∷◌, ◌++◌, Option, None, length, refl, sym, ap, subst, ◌∙◌, arith, append-nil}
 use Rattle.plcr_base.specs.Told.{Prints, AppendsProperFront}
 use Rattle.plcr_base.proofs.Appended.{append_nothing}
+use Rattle.plcr_core.specs.declared.fault.CoreFault.{CoreFault}
+use Rattle.plcr_decode.specs.declared.faults.DecodeFault.{DecodeFault}
 use Rattle.plcr_imagelist.specs.States.{WriterState}
+use Rattle.plcr_command.specs.declared.files.FileWord.{FileWord}
 use Rattle.plcr_command.specs.declared.endings.Ending.{Ending}
 use Rattle.plcr_command.specs.declared.endings.Ending.TheVariants.{Done, Stopped, Refused, Misused}
 use Rattle.plcr_command.specs.declared.refusals.Refusal.{Refusal}
@@ -49,15 +52,15 @@ module _ (Misread : List (List ℕ) → Refusal → Type 0) (files : List File) 
   }
 
 -- bytes aren't refused for what can't be wrong with them
-job_read : (contents : List (List ℕ)) (word : _) → JobMisread ALONE contents (CannotRead word) → ⊥
+job_read : (contents : List (List ℕ)) (word : FileWord) → JobMisread ALONE contents (CannotRead word) → ⊥
 job_read [] word is = is
 job_read (core ∷ contents) word is = is
 
-job_long : (contents : List (List ℕ)) (word : _) → JobMisread ALONE contents (TooLong word) → ⊥
+job_long : (contents : List (List ℕ)) (word : FileWord) → JobMisread ALONE contents (TooLong word) → ⊥
 job_long [] word is = is
 job_long (core ∷ contents) word is = is
 
-job_report : (contents : List (List ℕ)) (fault : _) → JobMisread ALONE contents (ReportRefused fault) → ⊥
+job_report : (contents : List (List ℕ)) (fault : DecodeFault) → JobMisread ALONE contents (ReportRefused fault) → ⊥
 job_report [] fault is = is
 job_report (core ∷ contents) fault is = is
 
@@ -88,17 +91,17 @@ pub reports_by_status : ReportsByStatus
 reports_by_status core script old new past status does left = report_at core script old new past status does.ending does.number does.did left
 
 -- the same of a report that is shown
-shown_read : (contents : List (List ℕ)) (word : _) → ReportMisread contents (CannotRead word) → ⊥
+shown_read : (contents : List (List ℕ)) (word : FileWord) → ReportMisread contents (CannotRead word) → ⊥
 shown_read [] word is = is
 shown_read (bytes ∷ []) word is = is
 shown_read (bytes ∷ other ∷ contents) word is = is
 
-shown_long : (contents : List (List ℕ)) (word : _) → ReportMisread contents (TooLong word) → ⊥
+shown_long : (contents : List (List ℕ)) (word : FileWord) → ReportMisread contents (TooLong word) → ⊥
 shown_long [] word is = is
 shown_long (bytes ∷ []) word is = is
 shown_long (bytes ∷ other ∷ contents) word is = is
 
-shown_core : (contents : List (List ℕ)) (fault : _) → ReportMisread contents (CoreRefused fault) → ⊥
+shown_core : (contents : List (List ℕ)) (fault : CoreFault) → ReportMisread contents (CoreRefused fault) → ⊥
 shown_core [] fault is = is
 shown_core (bytes ∷ []) fault is = is
 shown_core (bytes ∷ other ∷ contents) fault is = is
