@@ -14,7 +14,7 @@ use Rattle.plcr_maker.specs.Numerals.{if_makable, images_in}
 pub few_digits : (text : List ℕ) (i : ℕ) → AllDigits 10 (take i text) → i < length text → length text ≤ COUNT_DIGITS → digits_value 10 (take i text) < 1000
 few_digits text i digits within few =
     let count : length (take i text) ≡ i = length-take-le i text (omega arith) in
-    let power : 10 ^ length (take i text) ≤ 10 ^ 3 = pow-le-pow_right {n = 10} (omega arith) (omega (arith, count)) in
+    let power : 10 ^ length (take i text) ≤ 10 ^ 3 = pow-le-pow_right {n = 10} (omega arith) {i = length (take i text)} {j = 3} (omega (arith, count)) in
     omega (arith, digits_value-lt 10 (take i text) digits, power)
 
 -- what digits write, as a number of images
