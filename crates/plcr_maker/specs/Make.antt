@@ -47,7 +47,7 @@ pub record IsMake (images : ℕ) (bytes : List ℕ) : Type 0 where
 abbrev pub summary_of : Report → List ℕ → List ℕ
 summary_of report bytes =
     summary_line (length report.binary_images) (length report.threads)
-        (frames_in report.threads) (length bytes)
+    (frames_in report.threads) (length bytes)
 
 -- the three files, in the order in which they are kept
 abbrev pub made_files : (images : ℕ) → (core script bytes : List ℕ) → List File

@@ -53,10 +53,7 @@ fn made<R: Abort + AllocGlobal>(rt: &R, images: u32, line: &str, bytes: usize) -
         desk.file(NAMES[1]),
         Some(script_bytes(alloc, images)?.as_slice())
     );
-    assert_eq!(rt;
-        desk.file(NAMES[2]).map(|report| report.len()),
-        Some(bytes)
-    );
+    assert_eq!(rt; desk.file(NAMES[2]).map(|report| report.len()), Some(bytes));
     assert!(rt; desk.dropped(0).is_none());
     assert!(rt; past.is_some());
     Ok(())
@@ -83,13 +80,28 @@ fn the_most_images_are_made(rt: HostRuntime) -> Result<(), Fail> {
 // Which fault, what is printed, how many files are kept, and how many bytes of the next are given up.
 const FAULTS: [(Fault, &str, usize, Option<usize>); 9] = [
     (Fault::Call(1), "cannot write a.core\n", 0, None),
-    (Fault::Put { output: 0, put: 2 }, "cannot write a.core\n", 0, Some(4_096)),
+    (
+        Fault::Put { output: 0, put: 2 },
+        "cannot write a.core\n",
+        0,
+        Some(4_096),
+    ),
     (Fault::Call(2), "cannot write a.core\n", 0, None),
     (Fault::Call(3), "cannot write a.script\n", 1, None),
-    (Fault::Put { output: 1, put: 1 }, "cannot write a.script\n", 1, Some(0)),
+    (
+        Fault::Put { output: 1, put: 1 },
+        "cannot write a.script\n",
+        1,
+        Some(0),
+    ),
     (Fault::Call(4), "cannot write a.script\n", 1, None),
     (Fault::Call(5), "cannot write made.plcrash\n", 2, None),
-    (Fault::Put { output: 2, put: 2 }, "cannot write made.plcrash\n", 2, Some(4_096)),
+    (
+        Fault::Put { output: 2, put: 2 },
+        "cannot write made.plcrash\n",
+        2,
+        Some(4_096),
+    ),
     (Fault::Call(6), "cannot write made.plcrash\n", 2, None),
 ];
 

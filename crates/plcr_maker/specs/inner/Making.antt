@@ -53,4 +53,4 @@ files_of core script made =
 abbrev pub line_of : Made → List ℕ
 line_of made =
     summary_line made.counts.images made.counts.threads made.counts.frames
-        (length made.report.items)
+    (length made.report.items)
