@@ -5,7 +5,7 @@ use Rattle.std.proofs.lemmas.List.Sums.{sum_by_push}
 use Rattle.std.proofs.lemmas.Option.{slice_get_read}
 use Rattle.plcr_report.specs.declared.messages.Thread.{Thread}
 use Rattle.plcr_command.proofs.Numbered.{take_next}
-use Rattle.plcr_maker.specs.Making.{frames_in}
+use Rattle.plcr_maker.specs.Make.{frames_in}
 
 -- the frames of one thread more
 pub frames_next : (threads : List Thread) (i : ℕ) (thread : Thread) → i < length threads → thread ≡ get_or threads i thread → frames_in (take (i + 1) threads) ≡ frames_in (take i threads) + length thread.frames

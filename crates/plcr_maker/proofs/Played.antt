@@ -11,7 +11,8 @@ use Rattle.plcr_command.specs.Process.{meanings_of}
 use Rattle.plcr_command.specs.Seen.{seen}
 use Rattle.plcr_run.specs.Past.{LeavesWhole, RanWhole}
 use Rattle.plcr_maker.specs.declared.runs.Ran.{Ran}
-use Rattle.plcr_maker.specs.Making.{report_name, IsRun}
+use Rattle.plcr_maker.specs.Make.{report_name}
+use Rattle.plcr_maker.specs.inner.Making.{IsRun}
 
 -- or nothing
 or_nothing : {A : Type 0} (o : Option A) → option_or o None ≡ o

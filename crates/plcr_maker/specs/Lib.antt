@@ -1,2 +1,4 @@
-pub mod Making
+pub mod Numerals
 pub mod Make
+pub mod Laws
+pub mod inner

@@ -1,6 +1,7 @@
 //! What the summary tells of a report.
 ghost use Rattle.std.specs.Prelude.{◌≡◌, length, sum_by, IfSome};
-ghost use Rattle.plcr_maker.specs.Making.{frames_in, AreCounts};
+ghost use Rattle.plcr_maker.specs.Make.{frames_in};
+ghost use Rattle.plcr_maker.specs.inner.Making.{AreCounts};
 
 use plcr_decode::{Report, Thread};
 

@@ -11,7 +11,7 @@ ghost use Rattle.plcr_make.specs.Cores.{core_of};
 ghost use Rattle.plcr_make.specs.Scripts.{script_of};
 ghost use Rattle.plcr_make.specs.MadeScripts.{made_script};
 ghost use Rattle.plcr_make.specs.MadeScripts as scripts;
-ghost use Rattle.plcr_maker.specs.Making.{AreCounts, IsRun, IsMade};
+ghost use Rattle.plcr_maker.specs.inner.Making.{AreCounts, IsRun, IsMade};
 
 use crate::counts::{Counts, counts_of};
 use crate::runs::{Ran, run_made};
@@ -23,7 +23,8 @@ use plcr_make::{core_bytes, script_bytes};
 use plcr_script::{Mode, Script, read_script};
 use std::alloc::Global;
 
-/// The bytes of the three files, what the summary tells of the report, and the writer of the list that the script ran on.
+/// The bytes of the three files, what the summary tells of the report, and the writer of the list
+/// that the script ran on.
 #[derive(Drop)]
 pub(crate) struct Made {
     pub core: Vec<u8>,
@@ -76,7 +77,8 @@ fn script_in(alloc: Global, images: u32) -> Option<Vec<u8>>
 
 /// The counts of the report that these bytes spell; none where they spell none.
 fn counts_in(alloc: Global, bytes: &[u8]) -> Option<Counts>
-    ensures { IfSome result (λ counts. (report : Report) × (reads bytes.now ≡ Ok report) × AreCounts report counts) }
+    ensures { IfSome result (λ counts.
+        (report : Report) × (reads bytes.now ≡ Ok report) × AreCounts report counts) }
 {
     match decode(alloc, bytes) {
         Ok(report) => counts_of(&report),
@@ -87,7 +89,8 @@ fn counts_in(alloc: Global, bytes: &[u8]) -> Option<Counts>
 /// The run of the made script on the made core.
 fn ran_of(alloc: Global, images: u32) -> Option<Ran>
     requires { (1 ≤ images) × (images ≤ MOST_IMAGES) }
-    ensures { IfSome result (λ ran. (core : Core) × IsCore (core_of images) core × IsRun core (made_script images) ran) }
+    ensures { IfSome result (λ ran.
+        (core : Core) × IsCore (core_of images) core × IsRun core (made_script images) ran) }
 {
     let core = made_core(alloc, images)?;
     let script = made_script(alloc, images)?;

@@ -3,7 +3,8 @@ ghost use Rattle.std.specs.Prelude.{◌≡◌, [], Some, IfSome};
 ghost use Rattle.plcr_core.specs.Cores.{AreThreads};
 ghost use Rattle.plcr_io.specs.MemDesk.{contents, file_now};
 ghost use Rattle.plcr_script.specs.Lawful.{IsLawful};
-ghost use Rattle.plcr_maker.specs.Making.{report_name, IsRun};
+ghost use Rattle.plcr_maker.specs.Make.{report_name};
+ghost use Rattle.plcr_maker.specs.inner.Making.{IsRun};
 
 use crate::ignored::Ignored;
 use plcr_command::{CoreProcess, Ending};
@@ -25,7 +26,8 @@ pub(crate) struct Ran {
     pub writer: Writer,
 }
 
-/// Runs a script that keeps one report, in memory; none where memory is wanting, or the room for the report.
+/// Runs a script that keeps one report, in memory; none where memory is wanting, or the room for
+/// the report.
 pub(crate) fn run_made(alloc: Global, core: &Core, script: &Script) -> Option<Ran>
     requires threads { AreThreads core.now.arch core.now.threads }
     requires script { IsLawful script.now }
@@ -54,7 +56,8 @@ pub(crate) fn run_made(alloc: Global, core: &Core, script: &Script) -> Option<Ra
 
 /// The report that a desk has kept.
 fn report_in(alloc: Global, desk: &MemDesk) -> Option<Vec<u8>>
-    ensures { IfSome result (λ bytes. file_now (contents desk.now) report_name ≡ Some bytes.items) }
+    ensures { IfSome result (λ bytes.
+        file_now (contents desk.now) report_name ≡ Some bytes.items) }
 {
     let bytes = desk.file(MADE_REPORT)?;
     match bytes.to_vec(alloc) {

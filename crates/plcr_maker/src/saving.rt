@@ -2,9 +2,9 @@
 ghost use Rattle.std.specs.Prelude.{◌≡◌, [], ◌∷◌, OnOk, OnErr};
 ghost use Rattle.plcr_command.specs.Seen.{seen};
 ghost use Rattle.plcr_command.specs.Endings.{HasKept, CannotWrite};
-ghost use Rattle.plcr_command.specs.inner.Endings.{GoesOn};
-ghost use Rattle.plcr_maker.specs.Making.{files_of};
+ghost use Rattle.plcr_command.specs.Endings.{GoesOn};
 ghost use Rattle.plcr_maker.specs.Make.{CannotKeepOne};
+ghost use Rattle.plcr_maker.specs.inner.Making.{files_of};
 
 use crate::making::Made;
 use plcr_command::{Unsaved, print_unwritten, save_bytes};

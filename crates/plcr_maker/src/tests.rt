@@ -5,123 +5,164 @@ use std::alloc::Global;
 use std::process::Abort;
 use std::test::Fail;
 
-// A desk for three files, of which these calls fail, from 1: each file is made and then kept.
-fn desk(alloc: Global, failing: Vec<u32>) -> Result<MemDesk, Fail> {
+const NAMES: [&str; 3] = ["a.core", "a.script", "made.plcrash"];
+
+// What of a run is to fail: a call of the desk, from 1, or a put to one of its three outputs.
+#[derive(Clone, Copy)]
+enum Fault {
+    Nowhere,
+    Call(u32),
+    Put { output: usize, put: u32 },
+}
+
+// A desk for three files. Each is made and then kept, so its calls are numbered from 1 to 6.
+fn desk(alloc: Global, fault: Fault) -> Result<MemDesk, Fail> {
+    let mut calls = Vec::new(alloc);
+    if let Fault::Call(call) = fault {
+        calls.push(call)?;
+    }
     let mut outs = Vec::new(alloc);
-    outs.push(MemOut::new(alloc, 1_000_000, 4_096, Vec::new(alloc))?)?;
-    outs.push(MemOut::new(alloc, 1_000_000, 4_096, Vec::new(alloc))?)?;
-    outs.push(MemOut::new(alloc, 1_000_000, 4_096, Vec::new(alloc))?)?;
-    Ok(MemDesk::new(alloc, Vec::new(alloc), outs, failing)?)
+    for i in 0..NAMES.len() {
+        let mut puts = Vec::new(alloc);
+        match fault {
+            Fault::Put { output, put } if output == i => puts.push(put)?,
+            _ => {}
+        }
+        outs.push(MemOut::new(alloc, 1_000_000, 4_096, puts)?)?;
+    }
+    Ok(MemDesk::new(alloc, Vec::new(alloc), outs, calls)?)
 }
 
 // What is printed of the report, and its length.
 fn made<R: Abort + AllocGlobal>(rt: &R, images: u32, line: &str, bytes: usize) -> Result<(), Fail> {
     let alloc = rt.alloc();
-    let mut desk = desk(alloc, Vec::new(alloc))?;
+    let mut desk = desk(alloc, Fault::Nowhere)?;
     let mut lines = MemOut::new(alloc, 100, 100, Vec::new(alloc))?;
     let mut past = None;
     assert!(rt; images >= 1 && images <= 4_000);
     let status = make_command(
-        alloc, images, "a.core", "a.script", &mut desk, &mut lines, &mut past,
+        alloc, images, NAMES[0], NAMES[1], &mut desk, &mut lines, &mut past,
     );
     assert_eq!(rt; status, 0);
     assert_eq!(rt; lines.bytes(), line.as_bytes());
     assert_eq!(rt;
-        desk.file("made.plcrash").map(|report| report.len()),
-        Some(bytes)
-    );
-    assert_eq!(rt;
-        desk.file("a.core"),
+        desk.file(NAMES[0]),
         Some(core_bytes(alloc, images)?.as_slice())
     );
     assert_eq!(rt;
-        desk.file("a.script"),
+        desk.file(NAMES[1]),
         Some(script_bytes(alloc, images)?.as_slice())
     );
+    assert_eq!(rt; desk.file(NAMES[2]).map(|report| report.len()), Some(bytes));
+    assert!(rt; desk.dropped(0).is_none());
     assert!(rt; past.is_some());
     Ok(())
 }
 
 #[test]
 fn one_image_is_loaded_and_unloaded(rt: HostRuntime) -> Result<(), Fail> {
-    made(
-        &rt,
-        1,
-        "made images 0 threads 16 frames 512 bytes 7487\n",
-        7_487,
-    )
+    let line = "made images 0 threads 16 frames 512 bytes 7487\n";
+    made(&rt, 1, line, 7_487)
 }
 
 #[test]
 fn each_seventh_image_is_unloaded(rt: HostRuntime) -> Result<(), Fail> {
-    made(
-        &rt,
-        10,
-        "made images 8 threads 16 frames 512 bytes 7983\n",
-        7_983,
-    )
+    let line = "made images 8 threads 16 frames 512 bytes 7983\n";
+    made(&rt, 10, line, 7_983)
 }
 
 #[test]
 fn the_most_images_are_made(rt: HostRuntime) -> Result<(), Fail> {
-    made(
-        &rt,
-        4_000,
-        "made images 3428 threads 16 frames 512 bytes 229357\n",
-        229_357,
-    )
+    let line = "made images 3428 threads 16 frames 512 bytes 229357\n";
+    made(&rt, 4_000, line, 229_357)
 }
 
-// The status and the lines, and which of the files were kept.
-fn fails<R: Abort + AllocGlobal>(
-    rt: &R,
-    failing: u32,
-    room: usize,
-    text: &str,
-    kept: [bool; 3],
-) -> Result<(), Fail> {
+// Which fault, what is printed, how many files are kept, and how many bytes of the next are given up.
+const FAULTS: [(Fault, &str, usize, Option<usize>); 9] = [
+    (Fault::Call(1), "cannot write a.core\n", 0, None),
+    (
+        Fault::Put { output: 0, put: 2 },
+        "cannot write a.core\n",
+        0,
+        Some(4_096),
+    ),
+    (Fault::Call(2), "cannot write a.core\n", 0, None),
+    (Fault::Call(3), "cannot write a.script\n", 1, None),
+    (
+        Fault::Put { output: 1, put: 1 },
+        "cannot write a.script\n",
+        1,
+        Some(0),
+    ),
+    (Fault::Call(4), "cannot write a.script\n", 1, None),
+    (Fault::Call(5), "cannot write made.plcrash\n", 2, None),
+    (
+        Fault::Put { output: 2, put: 2 },
+        "cannot write made.plcrash\n",
+        2,
+        Some(4_096),
+    ),
+    (Fault::Call(6), "cannot write made.plcrash\n", 2, None),
+];
+
+#[test]
+fn it_stops_at_the_first_file_that_is_not_kept(rt: HostRuntime) -> Result<(), Fail> {
     let alloc = rt.alloc();
-    let mut calls = Vec::new(alloc);
-    calls.push(failing)?;
-    let mut desk = desk(alloc, calls)?;
-    let mut lines = MemOut::new(alloc, room, 100, Vec::new(alloc))?;
+    for (fault, text, kept, dropped) in FAULTS {
+        let mut desk = desk(alloc, fault)?;
+        let mut lines = MemOut::new(alloc, 100, 100, Vec::new(alloc))?;
+        let mut past = None;
+        let status = make_command(
+            alloc, 2, NAMES[0], NAMES[1], &mut desk, &mut lines, &mut past,
+        );
+        assert_eq!(rt; status, 5);
+        assert_eq!(rt; lines.bytes(), text.as_bytes());
+        for (i, name) in NAMES.iter().enumerate() {
+            assert_eq!(rt; desk.file(name).is_some(), i < kept, "{text}");
+        }
+        assert_eq!(rt; desk.dropped(0).map(|front| front.len()), dropped);
+        assert!(rt; past.is_some());
+    }
+    Ok(())
+}
+
+#[test]
+fn a_line_that_is_not_printed_whole_is_told(rt: HostRuntime) -> Result<(), Fail> {
+    let alloc = rt.alloc();
+    let mut desk = desk(alloc, Fault::Nowhere)?;
+    let mut lines = MemOut::new(alloc, 10, 100, Vec::new(alloc))?;
     let mut past = None;
     let status = make_command(
-        alloc, 2, "a.core", "a.script", &mut desk, &mut lines, &mut past,
+        alloc, 2, NAMES[0], NAMES[1], &mut desk, &mut lines, &mut past,
     );
     assert_eq!(rt; status, 5);
-    assert_eq!(rt; lines.bytes(), text.as_bytes());
-    let names = ["a.core", "a.script", "made.plcrash"];
-    for (name, kept) in names.iter().zip(kept) {
-        assert_eq!(rt; desk.file(name).is_some(), kept, "{name}");
-    }
+    assert_eq!(rt; lines.bytes(), b"made image".as_slice());
+    assert!(rt; desk.file(NAMES[2]).is_some());
     assert!(rt; past.is_some());
     Ok(())
 }
 
 #[test]
-fn it_stops_at_the_first_file_that_is_not_kept(rt: HostRuntime) -> Result<(), Fail> {
-    fails(&rt, 1, 100, "cannot write a.core\n", [false, false, false])?;
-    fails(&rt, 2, 100, "cannot write a.core\n", [false, false, false])?;
-    fails(&rt, 3, 100, "cannot write a.script\n", [true, false, false])?;
-    fails(&rt, 4, 100, "cannot write a.script\n", [true, false, false])?;
-    fails(
-        &rt,
-        5,
-        100,
-        "cannot write made.plcrash\n",
-        [true, true, false],
-    )?;
-    fails(
-        &rt,
-        6,
-        100,
-        "cannot write made.plcrash\n",
-        [true, true, false],
-    )
-}
-
-#[test]
-fn a_line_that_is_not_printed_whole_is_told(rt: HostRuntime) -> Result<(), Fail> {
-    fails(&rt, 7, 10, "made image", [true, true, true])
+fn words_ask_for_one_to_four_thousand_images(rt: HostRuntime) -> Result<(), Fail> {
+    let words = [
+        ("1", Some(1)),
+        ("10", Some(10)),
+        ("0010", Some(10)),
+        ("4000", Some(4_000)),
+        ("00010", None),
+        ("4001", None),
+        ("9999", None),
+        ("0", None),
+        ("0000", None),
+        ("", None),
+        ("+1", None),
+        ("-1", None),
+        ("1 ", None),
+        ("0x1", None),
+        ("\u{ff11}", None),
+    ];
+    for (word, images) in words {
+        assert_eq!(rt; images_of(word), images, "{word}");
+    }
+    Ok(())
 }

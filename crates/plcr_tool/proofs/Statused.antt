@@ -21,7 +21,7 @@ use Rattle.plcr_tool.specs.declared.report.TheConstants.{ALONE}
 use Rattle.plcr_tool.specs.Report.{Reports, report_files}
 use Rattle.plcr_tool.specs.Show.{ReportMisread, Shows, shown_files}
 use Rattle.plcr_tool.specs.Past.{ReportLeaves}
-use Rattle.plcr_tool.specs.Top.{Form, Report, Show, Usage, Does, form_of}
+use Rattle.plcr_tool.specs.Top.{Form, Report, Show, Make, Usage, Does, form_of}
 use Rattle.plcr_tool.specs.Statuses.{Refuses, CannotTake, IsNone, WantsMemory, ReportIs, ShowIs, ReportsByStatus, ShownByStatus, MisusedWords}
 
 -- no line was printed for want of memory
@@ -145,6 +145,7 @@ one_is (Refused OutOfMemory) is = absurd (omega (arith, is))
 only_usage : (form : Form) (old new : Seen) → Does form old new Misused → form ≡ Usage
 only_usage (Report core script) old new does = absurd does
 only_usage (Show report) old new does = absurd does
+only_usage (Make images core script) old new does = absurd does
 only_usage Usage old new does = refl
 
 only_misused : (ending : Ending) (old new : Seen) → Does Usage old new ending → status_of ending ≡ 1

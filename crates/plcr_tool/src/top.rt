@@ -11,6 +11,7 @@ use crate::show::show_command;
 use plcr_command::{Ending, print_line, status};
 use plcr_imagelist::Writer;
 use plcr_io::{Desk, Sink};
+use plcr_maker::{images_of, make_command};
 use std::alloc::Global;
 
 /// The command forms, as the usage line tells them.
@@ -50,6 +51,18 @@ pub fn top<D: Desk, L: Sink>(
         [word, core, script] => {
             if word.as_str() == "report" {
                 report_command(alloc, core.as_str(), script.as_str(), desk, lines, past)
+            } else {
+                misused(lines)
+            }
+        }
+        [word, number, core, script] => {
+            if word.as_str() == "make" {
+                match images_of(number.as_str()) {
+                    Some(n) => {
+                        make_command(alloc, n, core.as_str(), script.as_str(), desk, lines, past)
+                    }
+                    None => misused(lines),
+                }
             } else {
                 misused(lines)
             }

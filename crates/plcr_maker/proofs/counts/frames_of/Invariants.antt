@@ -1,5 +1,5 @@
 use Rattle.std.proofs.Common.{◌≡◌, take}
-use Rattle.plcr_maker.specs.Making.{frames_in}
+use Rattle.plcr_maker.specs.Make.{frames_in}
 use Rattle.plcr_maker.proofs.counts.frames_of.Given as goal
 
 abbrev pub invariant-loop-thread : goal.invariant-loop-thread

@@ -14,13 +14,13 @@ use Rattle.plcr_maker.proofs.runs.run_made.Goals as goal
 pub play-ending-requires-clause-context : goal.play-ending-requires-clause-context
 play-ending-requires-clause-context c =
     let core = c.args.core.now in
-    (rw c.context-context.ensures.arch (threads_writable core.arch core.threads c.requires.threads), same_writable c.context-context.result (context_of c.args.script.now core.arch) c.context-context.ensures (c.requires.script.writable core.arch))
+    (rw c.context-context.ensures.same.arch (threads_writable core.arch core.threads c.requires.threads), same_writable c.context-context.result (context_of c.args.script.now core.arch) c.context-context.ensures.same (c.requires.script.writable core.arch))
 
 pub returns : goal.returns
 returns c =
     let core = c.args.core.now in
     let script = c.args.script.now in
-    let same = report_is core script c.context-context.result c.context-context.ensures in
+    let same = report_is core script c.context-context.result c.context-context.ensures.same in
     let before = contents c.in_ok-desk.desk in
     let after = contents c.play-ending.new.desk in
     let run = subst (λ (m : Meanings). RanWhole m script (seen (tells before) None 0) (seen (tells after) None 0) c.play-ending.new.past) (λ i. record { fault = fault_at core; report = λ images. same images i }) c.in-Done.ensures.played in
