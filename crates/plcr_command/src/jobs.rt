@@ -41,8 +41,8 @@ struct JobFiles {
     scripts: Vec<Bytes>,
 }
 
-/// Takes and reads a core and scripts: first all are taken, in this order, then the core is read, and then
-/// the scripts, each behind those before it.
+/// Takes and reads a core and scripts: first all are taken, in this order, then the core is read,
+/// and then the scripts, each behind those before it.
 ///
 /// # Errors
 ///

@@ -7,7 +7,7 @@ use Rattle.plcr_command.specs.Saving.{IsUnsaved}
 use Rattle.plcr_command.specs.Lines.{cannot_write}
 use Rattle.plcr_command.specs.Seen.{Seen, seen}
 use Rattle.plcr_command.specs.Endings.{HasKept, CannotWrite}
-use Rattle.plcr_command.specs.inner.Endings.{GoesOn}
+use Rattle.plcr_command.specs.Endings.{GoesOn}
 use Rattle.plcr_command.proofs.Kept.{unwritten_after}
 use Rattle.plcr_maker.specs.Make.{CannotKeepOne}
 

@@ -2,7 +2,7 @@
 ghost use Rattle.std.specs.Prelude.{◌≡◌, ◌≤◌, None};
 ghost use Rattle.plcr_command.specs.Seen.{seen};
 ghost use Rattle.plcr_command.specs.Endings.{Goes};
-ghost use Rattle.plcr_command.specs.inner.Endings.{GoesOn};
+ghost use Rattle.plcr_command.specs.Endings.{GoesOn};
 ghost use Rattle.plcr_make.specs.declared.constants.TheConstants.{MOST_IMAGES};
 ghost use Rattle.plcr_maker.specs.Make.{MakeDoes, MakeLeaves, Makes};
 ghost use Rattle.plcr_maker.specs.inner.Handing.{HandsOut, LeavesBy};

@@ -2,7 +2,7 @@
 ghost use Rattle.std.specs.Prelude.{◌≡◌, [], ◌∷◌, OnOk, OnErr};
 ghost use Rattle.plcr_command.specs.Seen.{seen};
 ghost use Rattle.plcr_command.specs.Endings.{HasKept, CannotWrite};
-ghost use Rattle.plcr_command.specs.inner.Endings.{GoesOn};
+ghost use Rattle.plcr_command.specs.Endings.{GoesOn};
 ghost use Rattle.plcr_maker.specs.Make.{CannotKeepOne};
 ghost use Rattle.plcr_maker.specs.inner.Making.{files_of};
 

@@ -17,8 +17,7 @@ use Rattle.plcr_script.specs.RunLaws.{state_behind}
 use Rattle.plcr_script.proofs.PrefixRuns.{states_go_on}
 use Rattle.plcr_script.proofs.Insides.{in_behind_more}
 use Rattle.plcr_command.specs.Seen.{Seen}
-use Rattle.plcr_command.specs.Endings.{HasKept, CannotPrint}
-use Rattle.plcr_command.specs.inner.Endings.{GoesOn}
+use Rattle.plcr_command.specs.Endings.{GoesOn, HasKept, CannotPrint}
 use Rattle.plcr_command.proofs.Kept.{kept_none, kept_twice, goes_none, goes_twice, unwritten_after, unprinted_after}
 use Rattle.plcr_command.proofs.Numbered.{parts_at, take_next}
 use Rattle.plcr_run.specs.declared.stepping.Stop.{Stop}

@@ -1,4 +1,5 @@
-//! What the runs of all scripts have in common, each as the contract of a function that does nothing.
+//! What the runs of all scripts have in common, each as the contract of a function that does
+//! nothing.
 
 ghost use Rattle.plcr_script.specs.RunLaws.{PassesAreWhereTheyWerePut, RunsGoOn, EndedWalksStay, WalksComeToTheirEnds, ReportsAreOfLawfulWalks, RunsKeepLawfully, RunsKeepTheirFiles, EndsFollow, StoppedRunsArePrefixes};
 
@@ -13,7 +14,8 @@ pub fn reports_are_of_lawful_walks()
     ensures { ReportsAreOfLawfulWalks }
 {}
 
-/// A run goes on from where it is; and one that stops made the first of the changes that the whole run makes.
+/// A run goes on from where it is; and one that stops made the first of the changes that the whole
+/// run makes.
 pub fn stopped_runs_are_prefixes()
     ensures go_on { RunsGoOn }
     ensures prefix { StoppedRunsArePrefixes }

@@ -1,5 +1,5 @@
 //! A script that was read.
-ghost use Rattle.std.specs.Prelude.{◌≡◌, ◌↔◌, ◌<◌, ◌^◌, [], length, IsTrue, Some};
+ghost use Rattle.std.specs.Prelude.{◌≡◌, ◌<◌, ◌^◌, length, Some};
 
 use crate::statements::{NumberedStatement, Statement};
 use crate::values::DescriptiveValues;
@@ -53,13 +53,6 @@ impl Script {
         ensures { result ≡ length self.now.statements }
     {
         self.statements.len()
-    }
-
-    /// Whether there is no statement.
-    pub fn is_empty(&self) -> bool
-        ensures { IsTrue result ↔ (self.now.statements ≡ []) }
-    {
-        self.statements.is_empty()
     }
 
     /// The number of the line of the i-th statement, from 1.

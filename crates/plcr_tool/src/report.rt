@@ -2,8 +2,7 @@
 ghost use Rattle.std.specs.Prelude.{◌≡◌, [], ◌∷◌, None, length};
 ghost use Rattle.plcr_command.specs.Seen.{seen};
 ghost use Rattle.plcr_command.specs.Jobs.{IsLawfulJob};
-ghost use Rattle.plcr_command.specs.Endings.{Goes};
-ghost use Rattle.plcr_command.specs.inner.Endings.{GoesOn};
+ghost use Rattle.plcr_command.specs.Endings.{Goes, GoesOn};
 ghost use Rattle.plcr_tool.specs.Headline.{ReportsTellTruly};
 ghost use Rattle.plcr_tool.specs.Past.{ReportLeaves};
 ghost use Rattle.plcr_tool.specs.Report.{ReportDoes, Reports};
