@@ -30,7 +30,11 @@ fn what_is_made_is_reported_again(rt: HostRuntime) -> Result<(), Fail> {
     assert_eq!(rt; lines.bytes(), line.as_slice());
     assert!(rt; past.is_some());
     let core = file_of(alloc, "g.core", first.file("g.core").ok_or("no core")?)?;
-    let script = file_of(alloc, "g.script", first.file("g.script").ok_or("no script")?)?;
+    let script = file_of(
+        alloc,
+        "g.script",
+        first.file("g.script").ok_or("no script")?,
+    )?;
     let mut second = desk(alloc, vec![in alloc; core, script]?)?;
     let mut lines = MemOut::new(alloc, 500, 100, Vec::new(alloc))?;
     let asked = words(alloc, &["report", "g.core", "g.script"])?;
