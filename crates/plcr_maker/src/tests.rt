@@ -15,21 +15,26 @@ enum Fault {
     Put { output: usize, put: u32 },
 }
 
+// The failing puts of an output, from 1.
+fn failing_puts(alloc: Global, fault: Fault, at: usize) -> Result<Vec<u32>, Fail> {
+    let mut puts = Vec::new(alloc);
+    match fault {
+        Fault::Put { output, put } if output == at => puts.push(put)?,
+        _ => {}
+    }
+    Ok(puts)
+}
+
 // A desk for three files. Each is made and then kept, so its calls are numbered from 1 to 6.
 fn desk(alloc: Global, fault: Fault) -> Result<MemDesk, Fail> {
     let mut calls = Vec::new(alloc);
     if let Fault::Call(call) = fault {
         calls.push(call)?;
     }
-    let mut outs = Vec::new(alloc);
-    for i in 0..NAMES.len() {
-        let mut puts = Vec::new(alloc);
-        match fault {
-            Fault::Put { output, put } if output == i => puts.push(put)?,
-            _ => {}
-        }
-        outs.push(MemOut::new(alloc, 1_000_000, 4_096, puts)?)?;
-    }
+    let one = MemOut::new(alloc, 1_000_000, 4_096, failing_puts(alloc, fault, 0)?)?;
+    let two = MemOut::new(alloc, 1_000_000, 4_096, failing_puts(alloc, fault, 1)?)?;
+    let three = MemOut::new(alloc, 1_000_000, 4_096, failing_puts(alloc, fault, 2)?)?;
+    let outs = vec![in alloc; one, two, three]?;
     Ok(MemDesk::new(alloc, Vec::new(alloc), outs, calls)?)
 }
 
