@@ -86,6 +86,14 @@ fn tell(list: &ImageList, writer: &mut Writer, hold: &mut Hold)
     writer.told(list, note);
 }
 
+/// How the report ends: the image, whose 11 bytes say its header, size 0 and its name, the signal
+/// `SIGABRT` with `#0`, the process `app` and that no user asked for it.
+const END: [u8; 45] = [
+    0x22, 0x09, 0x08, 0x80, 0xa0, 0x01, 0x10, 0x00, 0x1a, 0x01, 0x78, 0x32, 0x0f, 0x0a, 0x07, 0x53,
+    0x49, 0x47, 0x41, 0x42, 0x52, 0x54, 0x12, 0x02, 0x23, 0x30, 0x18, 0x00, 0x3a, 0x0b, 0x0a, 0x03,
+    0x61, 0x70, 0x70, 0x10, 0x00, 0x28, 0x00, 0x30, 0x01, 0x4a, 0x02, 0x08, 0x00,
+];
+
 /// An x86-64 thread with rsp 0x7000 and rip 0x100000f50, all else 0.
 fn stopped() -> Registers
     ensures { IsWhole Arch.X86_64 result }
@@ -132,7 +140,7 @@ fn nothing_mapped(alloc: Global) -> Result<Memory, MemoryFault> {
     }
 }
 
-/// Two loads and an unload are counted before the report; each step of a third load is left to later.
+/// Two loads and an unload are counted before the report. A third load stays open.
 fn use_both(
     rt: &impl Abort,
     alloc: Global,
@@ -145,7 +153,8 @@ fn use_both(
     };
     let (mut writer, loaded) = change(&list, writer).load(&list, 0x5000, b"x");
     assert_eq!(rt; loaded, Ok(2));
-    let (pass, window, written) = report(&list, pass, memory, &[stopped()], &context(), out);
+    let (threads, about) = ([stopped()], context());
+    let (pass, window, written) = report(&list, pass, memory, &threads, &about, out);
     assert_eq!(rt; window, Window { low: 3, high: 3 });
     assert_eq!(rt; written, Ok(282));
     let mut hold = pass.enter(&list);
@@ -164,9 +173,6 @@ fn a_program_uses_the_list_and_the_encoder(rt: HostRuntime) -> Result<(), Fail> 
     if use_both(&rt, alloc, &memory, &mut out).is_err() {
         panic!(rt; "no memory")
     }
-    let image = [
-        0x22, 0x09, 0x08, 0x80, 0xa0, 0x01, 0x10, 0x00, 0x1a, 0x01, 0x78,
-    ];
-    assert_eq!(rt; &out.bytes()[237..248], image.as_slice());
+    assert!(rt; out.bytes().ends_with(&END));
     Ok(())
 }
