@@ -1,6 +1,6 @@
 -- The image that has a frame's lookup address, by the index of the list.
-use Rattle.std.proofs.Common.{◌≡◌, ℕ, ◌≤◌, ◌<◌, List, length, Option, Some, None, refl, sym, ap, subst, ◌∙◌}
-use Rattle.std.specs.Prelude.{option_map, Ok, IsSomeAnd, IfSome}
+use Rattle.std.proofs.Common.{◌≡◌, ℕ, Bool, true, false, ◌≤◌, ◌<◌, List, length, Option, Some, None, refl, sym, ap, subst, ◌∙◌}
+use Rattle.std.specs.Prelude.{option_map, Ok, IsSomeAnd}
 use Rattle.std.specs.Option.{option_and_then}
 use Rattle.std.specs.Result.{result_ok}
 use Rattle.plcr_memory.specs.Regions.{Contents}
@@ -13,9 +13,11 @@ use Rattle.plcr_macho.specs.Index.{Extent, index_of, located}
 use Rattle.plcr_macho.specs.Loading.{image_at}
 use Rattle.plcr_macho.proofs.Agreeing.{index_agrees}
 use Rattle.plcr_macho.proofs.Held.{first_found}
+use Rattle.plcr_cursor.specs.declared.given.Reader.{Reader}
 use Rattle.plcr_cursor.specs.declared.located.Located.{Located}
 use Rattle.plcr_cursor.specs.Frames.{located_at, located_over}
-use Rattle.plcr_cursor.specs.inner.Answering.{IsBelow}
+use Rattle.plcr_cursor.specs.Walks.{located_last}
+use Rattle.plcr_cursor.specs.inner.Answering.{IsBelow, given_as}
 
 -- the image of the list that has a frame's lookup address stands at this place
 pub record IsLocated (memory : Contents) (images : List Listed) (frame : Frame) (place : ℕ) : Type 0 where
@@ -50,6 +52,12 @@ module _ (memory : Contents) (images : List Listed) (frame : Frame) where
 
   pub located_below : (over : Option Located) → over ≡ located_over memory images frame → IsBelow frame over
   located_below over is = subst (IsBelow frame) (sym is) (below_at (frame_lookup frame) refl)
+
+-- as the one of the frame given last
+pub below_last : (memory : Contents) (images : List Listed) (frame : Frame) (by : Reader) (given : Bool) (left : ℕ) (over : Option Located)
+    → given ≡ true → over ≡ located_last memory images (record { last = given_as frame by; given = given; left = left }) → IsBelow frame over
+below_last memory images frame by true left over known is = located_below memory images frame over is
+below_last memory images frame by false left over known is = absurd (cc)
 
 module _ (memory : Contents) (images : List Listed) (frame : Frame) (address : ℕ) (extents : Option (List Extent)) (looked : Some address ≡ frame_lookup frame)
     (index : extents ≡ Some (index_of memory frame.registers.arch images)) where
