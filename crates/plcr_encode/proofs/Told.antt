@@ -79,6 +79,11 @@ module _ (memory : Contents) (arch : Arch) (listed : List Listed) where
       let others = gives.3 in
       append_assoc rows (row_told pc by lookup position ∷ []) (kept after) ∙ ((λ k. rows ++ (row k ∷ kept (others k))) ∙ had)
 
+  -- fewer frames come behind one
+  pub fewer : (before after : List Given) (last now : Option Given) (answer : Option ℕ) (pc : ℕ) → Gives before after last now answer → answer ≡ Some pc → length after < length before
+  fewer [] after last now answer pc gives is = let none = gives.0 in absurd (cc)
+  fewer (x ∷ xs) after last now answer pc gives is = let others = ap length gives.3 in omega (arith, others)
+
   -- where no frame comes, all rows are kept
   pub rows_end : (rows : List FrameRow) (before after : List Given) (whole : List FrameRow) (last now : Option Given) (answer : Option ℕ)
       → Gives before after last now answer → answer ≡ None → rows ++ kept before ≡ whole → rows ≡ whole

@@ -54,11 +54,12 @@ fn walk_frames<I: Images>(
     let mut cursor = Cursor::new(state, bits);
     let mut over = None;
     while let Some(pc) = cursor.next_over(known, &over) {
+        let lookup = cursor.lookup().unwrap_or(0);
         over = cursor.locate(known, images);
         rows.push(FrameRow {
             pc,
             by: cursor.by().unwrap_or(0),
-            lookup: cursor.lookup().unwrap_or(0),
+            lookup,
             position: tabled(&over),
             symbol: None,
         });
