@@ -75,12 +75,7 @@ fn by_saved_frame<A: Asked>(asked: &mut A, frame: &Frame, room: &mut Frame) -> T
 }
 
 // The answer that counts, where this is the image.
-fn answer<A: Asked>(
-    asked: &mut A,
-    over: &Option<Located>,
-    frame: &Frame,
-    room: &mut Frame,
-) -> Told
+fn answer<A: Asked>(asked: &mut A, over: &Option<Located>, frame: &Frame, room: &mut Frame) -> Told
     requires { IsBelow frame.now over.now }
     ensures answer { answer_in result room.new ≡ answer_by (A.memory asked.old) frame.now (image_in over.now) }
     ensures thread { IfFrame (step_in result.outcome room.new) (IsOfThread frame.now) }

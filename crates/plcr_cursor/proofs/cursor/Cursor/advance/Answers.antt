@@ -1,4 +1,4 @@
-use Rattle.std.proofs.Common.{◌≡◌, sym, ap, ◌∙◌}
+use Rattle.std.proofs.Common.{sym, ap, ◌∙◌}
 use Rattle.plcr_cursor.specs.Walks.{Walk, located_last}
 use Rattle.plcr_cursor.proofs.Locating.{below_last}
 use Rattle.plcr_cursor.proofs.cursor.Cursor.advance.Goals as goal
