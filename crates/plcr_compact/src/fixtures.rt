@@ -1,7 +1,6 @@
-use crate::{find, step_from};
 use plcr_macho::{Image, Part};
 use plcr_memory::{Memory, MemoryFault, Region, are_backed};
-use plcr_regs::{Arch, Frame, MOST_REGISTERS, Registers, Step, pc_place};
+use plcr_regs::{Arch, Frame, MOST_REGISTERS, Registers, pc_place};
 use std::alloc::{AllocError, Global};
 
 /// Where the image of the tests lies, its section `__unwind_info`, and the stack.
@@ -131,34 +130,4 @@ pub fn registers(known: &[(usize, u64)]) -> [Option<u64>; MOST_REGISTERS] {
         }
     }
     value
-}
-
-/// The place of the frame pointer in the thread state of arm64.
-pub const FP: usize = 29;
-
-/// That of the link register.
-pub const LR: usize = 30;
-
-/// That of the stack pointer.
-pub const SP: usize = 31;
-
-/// That of the program counter.
-pub const PC: usize = 32;
-
-/// What the reader says of a frame at an offset, by its two halves.
-pub fn stepped(memory: &Memory, image: &Image, frame: &Frame, offset: u64) -> Step {
-    match find(memory, image, offset) {
-        Ok(found) => step_from(memory, image, frame, &found),
-        Err(bad) => Step::Bad(bad),
-    }
-}
-
-/// The caller of which these registers are known.
-pub fn caller(arch: Arch, bits: u8, known: &[(usize, u64)]) -> Step {
-    let value = registers(known);
-    Step::Frame(Frame {
-        registers: Registers { arch, value },
-        exact: false,
-        bits,
-    })
 }

@@ -32,8 +32,6 @@ pub use laws::{entries_are_chosen, permutations_are_orders};
 pub use section::{Entry, Found, PageHeader, SectionHeader, Table};
 
 #[cfg(test)]
-mod arm64_tests;
-#[cfg(test)]
 mod fixtures;
 #[cfg(test)]
 mod section_tests;
