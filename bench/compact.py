@@ -31,6 +31,7 @@ NAMED = {"x86-64": ("rip", "rsp", "rbp"), "arm64": ("pc", "sp", "fp")}
 SAVED = "rbx r12 r13 r14 r15 rbp".split()
 FOLLOWERS = {0: [], 1: [1], 2: [5, 1], 3: [20, 4, 1], 4: [60, 12, 3, 1], 5: [120, 24, 6, 2, 1], 6: [120, 24, 6, 2, 1, 1]}
 END = 1 << 64
+PAGE_BYTES = 4096  # LLVM's linker lays the pages of a section so far apart
 
 
 class Bad(Exception):
@@ -166,8 +167,8 @@ def walk(arch, memory, functions, sentinel, size, state):
     return frames
 
 
-def section(pages, common, sentinel):
-    """Pages are (offset of the first function, whether it is compressed, entries, own encodings)."""
+def section(pages, common, sentinel, apart=0):
+    """Pages are (offset of the first function, whether it is compressed, entries, own encodings), at least so many bytes apart."""
     index_at = 28 + 4 * len(common)
     at = index_at + 12 * (len(pages) + 1)
     index, bodies = [], []
@@ -179,8 +180,8 @@ def section(pages, common, sentinel):
                 struct.pack("<I", number << 24 | offset - first) for offset, number in entries)
         else:
             body = struct.pack("<IHH", 2, 8, len(entries)) + b"".join(struct.pack("<II", *entry) for entry in entries)
-        bodies.append(body)
-        at += len(body)
+        bodies.append(body.ljust(apart, b"\0"))
+        at += len(bodies[-1])
     index.append(struct.pack("<III", sentinel, 0, 0))
     head = struct.pack("<7I", 1, 28, len(common), 0, 0, index_at, len(index))
     return head + struct.pack("<%dI" % len(common), *common) + b"".join(index + bodies)
@@ -317,7 +318,7 @@ def timed(folder, pages):
         first = 0x1000 + page * each * apart
         lists.append((first, True, [(first + apart * index, index % 2) for index in range(each)], []))
         places += [BASE + first + apart * index + 20 for index in range(0, each, 7)]
-    unwind = section(lists, [0x01000000, 0x01020001], 0x1000 + pages * each * apart)
+    unwind = section(lists, [0x01000000, 0x01020001], 0x1000 + pages * each * apart, PAGE_BYTES)
     threads, frames, step = 200, 500, 32
     data, states = bytearray(threads * frames * step), []
     for thread in range(threads):
