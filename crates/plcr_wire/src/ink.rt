@@ -51,7 +51,6 @@ pub trait Ink: Put {
     }
 
     /// Writes a field that is a text or a run of bytes.
-    #[tactic(auto, using(crate::proofs::Writing::wrote_bytes))]
     fn text(&mut self, field: u32, bytes: &[u8])
         requires some { 0 < field }
         requires within { field < 2 ^ 29 }
