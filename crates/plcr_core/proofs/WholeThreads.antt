@@ -13,7 +13,7 @@ use Rattle.plcr_core.specs.Groups.{Group, first_state, groups_in, thread_in}
 use Rattle.plcr_core.specs.Cores.{AreThreads, Parts, parts_in, thread_of}
 use Rattle.plcr_core.proofs.LaidOut.{comes_from}
 
-whole_or : (P : Registers → Type 0) (a b : Option Registers) → IfSome a P → IfSome b P → IfSome (option_or a b) P
+pub whole_or : (P : Registers → Type 0) (a b : Option Registers) → IfSome a P → IfSome b P → IfSome (option_or a b) P
 whole_or P None b h k = k
 whole_or P (Some x) b h k = h
 

@@ -1,3 +1,3 @@
 pub mod Chained
 pub mod Answered
-pub mod Located
+pub mod Locating

@@ -16,6 +16,7 @@ use Rattle.plcr_frameptr.specs.Saved.{saved_frame}
 use Rattle.plcr_cursor.specs.declared.given.Given.{Given}
 use Rattle.plcr_cursor.specs.declared.given.Reader.{Reader}
 use Rattle.plcr_cursor.specs.declared.given.Reader.TheVariants.{ThreadState, CompactUnwind, CallFrameInformation, FramePointer}
+use Rattle.plcr_cursor.specs.declared.located.Located.{Located}
 use Rattle.plcr_cursor.specs.declared.limits.TheConstants.{MOST_FRAMES, NULL_PAGE}
 
 -- the number of a reader in a report
@@ -25,10 +26,17 @@ reader_number CompactUnwind = 1
 reader_number CallFrameInformation = 2
 reader_number FramePointer = 3
 
+-- an image with its place in the list
+abbrev pub located_at : ℕ × Image → Located
+located_at found = record { place = found.0; image = found.1 }
+
 -- the first image of the list that has the address by which a frame's function is looked up
+abbrev pub located_over : Contents → List Listed → Frame → Option Located
+located_over memory images frame =
+    option_and_then (λ address. option_map located_at (first_over memory frame.registers.arch address 0 images)) (frame_lookup frame)
+
 abbrev pub image_over : Contents → List Listed → Frame → Option Image
-image_over memory images frame =
-    option_and_then (λ address. option_map (λ found. found.1) (first_over memory frame.registers.arch address 0 images)) (frame_lookup frame)
+image_over memory images frame = option_map (λ found. found.image) (located_over memory images frame)
 
 -- what a reader answers, and which it is
 pub record Answer : Type 0 where

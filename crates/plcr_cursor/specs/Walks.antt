@@ -1,5 +1,6 @@
 -- A walk over the frames of a thread.
 use Rattle.std.specs.Prelude.{◌≡◌, ℕ, Bool, false, if◌then◌else◌, List, [], ◌∷◌, Option, Some, None, IsSome}
+use Rattle.std.specs.Option.{option_and_then}
 use Rattle.plcr_memory.specs.Regions.{Contents}
 use Rattle.plcr_macho.specs.Images.{Listed}
 use Rattle.plcr_macho.specs.Index.{Extent, index_of}
@@ -8,7 +9,8 @@ use Rattle.plcr_regs.specs.declared.registers.Registers.{Registers}
 use Rattle.plcr_regs.specs.Frames.{frame_pc}
 use Rattle.plcr_cursor.specs.declared.given.Given.{Given}
 use Rattle.plcr_cursor.specs.declared.limits.TheConstants.{MOST_FRAMES}
-use Rattle.plcr_cursor.specs.Frames.{first_given, frames_from, next_of}
+use Rattle.plcr_cursor.specs.declared.located.Located.{Located}
+use Rattle.plcr_cursor.specs.Frames.{first_given, frames_from, located_over, next_of}
 
 -- how far a walk has come: the frame given last, or the first before it is given, whether one was given, and how many more may be
 pub record Walk : Type 0 where
@@ -23,6 +25,10 @@ start state bits = record { last = first_given state bits; given = false; left =
 -- the frame given last
 abbrev pub given_last : Walk → Option Given
 given_last walk = if walk.given then Some walk.last else None
+
+-- the image that has the address by which the function of the frame given last is looked up
+abbrev pub located_last : Contents → List Listed → Walk → Option Located
+located_last memory images walk = option_and_then (λ given. located_over memory images given.frame) (given_last walk)
 
 -- the architecture of its thread
 abbrev pub arch_of : Walk → Arch

@@ -4,12 +4,14 @@ ghost use Rattle.plcr_macho.specs.Images.{Listed};
 ghost use Rattle.plcr_regs.specs.Frames.{register_at};
 ghost use Rattle.plcr_regs.specs.Places.{pc_place};
 ghost use Rattle.plcr_cursor.specs.Frames.{frames_of, lookup_of, number_of};
-ghost use Rattle.plcr_cursor.specs.Walks.{Gives, IsIndex, arch_of, coming, given_last, start};
+ghost use Rattle.plcr_cursor.specs.Walks.{Gives, IsIndex, arch_of, coming, given_last, located_last, start};
 
 use crate::asked::{Asked, Plain};
 use crate::given::Reader;
 use crate::known::Known;
 use crate::limits::MOST_FRAMES;
+use crate::located::Located;
+use crate::readers::locate_over;
 use crate::turning::Turning;
 use plcr_macho::Images;
 use plcr_memory::Memory;
@@ -64,16 +66,30 @@ impl Cursor {
         }
     }
 
-    // The pc of the next frame.
-    fn advance<A: Asked, I: Images>(&mut self, asked: &mut A, images: &mut I) -> Option<u64>
-        requires index { IsIndex (A.memory asked.old) (arch_of self.old) (I.images images.old) (I.extents images.old) }
-        ensures gives { Gives (coming (A.memory asked.old) (I.images images.old) self.old) (coming (A.memory asked.old) (I.images images.old) self.new) (given_last self.old) (given_last self.new) result }
-        ensures ended { IfNone result ((memory : Contents) (images : List Listed) → coming memory images self.new ≡ []) }
-        ensures arch { arch_of self.new ≡ arch_of self.old }
+    // The image that has the address by which the function of the frame given last is looked up.
+    fn over<A: Asked, I: Images>(&self, asked: &mut A, images: &mut I) -> Option<Located>
+        requires index { IsIndex (A.memory asked.old) (arch_of self.now) (I.images images.old) (I.extents images.old) }
+        ensures located { result ≡ located_last (A.memory asked.old) (I.images images.old) self.now }
         ensures memory { A.memory asked.new ≡ A.memory asked.old }
         ensures same { I.images images.new ≡ I.images images.old }
         ensures index { I.extents images.new ≡ I.extents images.old }
         ensures follows { I.follows images.old images.new }
+    {
+        if self.given {
+            locate_over(asked, images, self.last.frame())
+        } else {
+            None
+        }
+    }
+
+    // The pc of the next frame, where this is the image of the one given last.
+    fn advance<A: Asked>(&mut self, asked: &mut A, over: &Option<Located>) -> Option<u64>
+        requires { (images : List Listed) × (over.now ≡ located_last (A.memory asked.old) images self.old) }
+        ensures gives { (images : List Listed) → over.now ≡ located_last (A.memory asked.old) images self.old →
+            Gives (coming (A.memory asked.old) images self.old) (coming (A.memory asked.old) images self.new) (given_last self.old) (given_last self.new) result }
+        ensures ended { IfNone result ((memory : Contents) (images : List Listed) → coming memory images self.new ≡ []) }
+        ensures arch { arch_of self.new ≡ arch_of self.old }
+        ensures memory { A.memory asked.new ≡ A.memory asked.old }
     {
         if self.left == 0 {
             return None;
@@ -83,7 +99,7 @@ impl Cursor {
             self.left -= 1;
             return self.last.frame().pc();
         }
-        let Some(by) = self.last.turn(asked, images) else {
+        let Some(by) = self.last.turn(asked, over) else {
             self.left = 0;
             return None;
         };
@@ -104,11 +120,38 @@ impl Cursor {
         ensures index { I.extents images.new ≡ I.extents images.old }
         ensures follows { I.follows images.old images.new }
     {
-        self.advance(&mut Plain { memory }, images)
+        let mut asked = Plain { memory };
+        let over = self.over(&mut asked, images);
+        self.advance(&mut asked, &over)
+    }
+
+    /// The image that has the address by which the function of the frame given last is looked up:
+    /// the first of the list. None before the first frame, and where no image has the address.
+    pub fn locate<I: Images>(&self, known: &mut Known, images: &mut I) -> Option<Located>
+        requires index { IsIndex known.old (arch_of self.now) (I.images images.old) (I.extents images.old) }
+        ensures located { result ≡ located_last known.old (I.images images.old) self.now }
+        ensures memory { known.new ≡ known.old }
+        ensures same { I.images images.new ≡ I.images images.old }
+        ensures index { I.extents images.new ≡ I.extents images.old }
+        ensures follows { I.follows images.old images.new }
+    {
+        self.over(known, images)
     }
 
     /// What `next` says, of a memory of which something may be kept, and where more of it is kept
-    /// then.
+    /// then. `over` is what `locate` gives of the frame given last, so that this is located once.
+    pub fn next_over(&mut self, known: &mut Known, over: &Option<Located>) -> Option<u64>
+        requires located { (images : List Listed) × (over.now ≡ located_last known.old images self.old) }
+        ensures gives { (images : List Listed) → over.now ≡ located_last known.old images self.old →
+            Gives (coming known.old images self.old) (coming known.old images self.new) (given_last self.old) (given_last self.new) result }
+        ensures ended { IfNone result ((memory : Contents) (images : List Listed) → coming memory images self.new ≡ []) }
+        ensures arch { arch_of self.new ≡ arch_of self.old }
+        ensures memory { known.new ≡ known.old }
+    {
+        self.advance(known, over)
+    }
+
+    /// What `next` says, of a memory of which something may be kept.
     pub fn next_with<I: Images>(&mut self, known: &mut Known, images: &mut I) -> Option<u64>
         requires index { IsIndex known.old (arch_of self.old) (I.images images.old) (I.extents images.old) }
         ensures gives { Gives (coming known.old (I.images images.old) self.old) (coming known.old (I.images images.old) self.new) (given_last self.old) (given_last self.new) result }
@@ -119,7 +162,8 @@ impl Cursor {
         ensures index { I.extents images.new ≡ I.extents images.old }
         ensures follows { I.follows images.old images.new }
     {
-        self.advance(known, images)
+        let over = self.over(known, images);
+        self.advance(known, &over)
     }
 
     /// The address by which the function of the frame given last is looked up. None before the

@@ -95,9 +95,10 @@ pub const COMPACT_BYTES: u32 = 92;
 
 // Call frame information, which lies at 0x10164. A common information entry, by which the canonical
 // frame address is rsp + 8 and the return address stands below it, and the functions at 0x400,
-// 0x500 and 0x700, the last of which has no return address; then the same entry of signal frames,
-// and the function at 0x780, of 0x80 bytes.
-const CALL_FRAMES: [u32; 37] = [
+// 0x500, 0x600 and 0x700: the canonical frame address of that at 0x600, of 0x80 bytes, is an
+// expression that goes back by its own length for ever, and the last has no return address; then the
+// same entry of signal frames, and the function at 0x780, of 0x80 bytes.
+const CALL_FRAMES: [u32; 45] = [
     16,
     0,
     0x7801_0001,
@@ -115,8 +116,16 @@ const CALL_FRAMES: [u32; 37] = [
     0,
     0x100,
     0,
-    24,
+    28,
     72,
+    0x1_0600,
+    0,
+    0x80,
+    0,
+    0xfd2f_030f,
+    0xff,
+    24,
+    104,
     0x1_0700,
     0,
     0x80,
@@ -138,13 +147,13 @@ const CALL_FRAMES: [u32; 37] = [
 ];
 
 /// How many bytes it has.
-pub const CALL_FRAME_BYTES: u32 = 148;
+pub const CALL_FRAME_BYTES: u32 = 180;
 
 /// How many bytes its header and commands have.
 pub const IMAGE_HEADER: usize = 264;
 
 /// How many bytes the image has.
-pub const IMAGE_BYTES: usize = 504;
+pub const IMAGE_BYTES: usize = 536;
 
 // What lies on the stack.
 const WORDS: [u64; 20] = [

@@ -4,7 +4,7 @@ ghost use Rattle.std.specs.Result.{result_ok};
 ghost use Rattle.plcr_macho.specs.Loading.{image_at};
 ghost use Rattle.plcr_cursor.specs.inner.Keeping.{Holds, IsImage};
 
-use crate::asked::{Asked, put};
+use crate::asked::Asked;
 use plcr_compact::KnownSections;
 use plcr_dwarf_cfi::KnownDescriptions;
 use plcr_macho::{Image, parse};
@@ -34,11 +34,9 @@ fn recall(
     requires { All (Holds memory.now) slots.now }
     ensures { IfSome result (IsImage memory.now arch header) }
 {
-    let known = slots[slot % KNOWN_IMAGES]?;
-    if known.arch == arch && known.header == header {
-        Some(known.image)
-    } else {
-        None
+    match &slots[slot % KNOWN_IMAGES] {
+        Some(known) if known.arch == arch && known.header == header => Some(known.image),
+        _ => None,
     }
 }
 
@@ -128,7 +126,7 @@ impl Asked for Known<'_> {
     }
 
     fn call_frame(&mut self, image: &Image, frame: &Frame, room: &mut Frame) -> Outcome {
-        put(&self.descriptions.step(image, frame), room)
+        self.descriptions.step_into(image, frame, room)
     }
 
     fn saved(&mut self, frame: &Frame, room: &mut Frame) -> Outcome {

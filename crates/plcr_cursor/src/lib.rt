@@ -7,6 +7,7 @@ mod given;
 mod known;
 mod laws;
 mod limits;
+mod located;
 mod readers;
 mod turning;
 
@@ -15,6 +16,7 @@ pub use given::{Given, Reader};
 pub use known::{KNOWN_IMAGES, Known};
 pub use laws::frames_lead;
 pub use limits::{MOST_FRAMES, NULL_PAGE};
+pub use located::Located;
 
 #[cfg(test)]
 mod fixtures;

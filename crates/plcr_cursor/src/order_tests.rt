@@ -40,7 +40,7 @@ fn told_of(
 // A pc, a stack pointer and a frame pointer, and the frames from there on: the pc of each, the
 // address that is looked up, and what told it (1 compact unwind information, 2 call frame
 // information, 3 a saved frame).
-const WALKS: [((u64, u64, u64), &[(u64, u64, u8)]); 7] = [
+const WALKS: [((u64, u64, u64), &[(u64, u64, u8)]); 8] = [
     // Compact unwind information counts, though the others tell a caller too.
     (
         (0x1_0410, 0x7010, 0x7000),
@@ -55,10 +55,15 @@ const WALKS: [((u64, u64, u64), &[(u64, u64, u8)]); 7] = [
             (0x9000, 0x8fff, 3),
         ],
     ),
-    // Neither of the two tells a caller.
+    // Neither of the two tells a caller: the expression of the one takes too many operations.
     (
         (0x1_0610, 0x7010, 0x7000),
         &[(0x1_0610, 0x1_0610, 0), (0x9000, 0x8fff, 3)],
+    ),
+    // Nor where call frame information has no such function.
+    (
+        (0x1_0690, 0x7010, 0x7000),
+        &[(0x1_0690, 0x1_0690, 0), (0x9000, 0x8fff, 3)],
     ),
     // Call frame information tells that there is no caller, though there is a saved frame.
     ((0x1_0710, 0x7010, 0x7000), &[(0x1_0710, 0x1_0710, 0)]),

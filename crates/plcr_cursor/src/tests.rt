@@ -50,7 +50,8 @@ fn tell(cursor: &Cursor, pc: u64) -> Told {
 }
 
 /// The frames of a thread, and whether none was told before the first and after the last, and the
-/// same frames where something is kept of the memory.
+/// same frames where something is kept of the memory, also where each frame's image was located
+/// before.
 pub fn walked<I: Images>(
     alloc: Global,
     memory: &Memory,
@@ -66,12 +67,16 @@ pub fn walked<I: Images>(
     let mut cursor = Cursor::new(state, bits);
     let mut keeping = Cursor::new(state, bits);
     let mut known = Known::new(memory);
+    let mut located = Cursor::new(state, bits);
+    let mut over = located.locate(&mut known, images);
     let mut told = Vec::new(alloc);
-    let mut same = cursor.lookup().is_none() && cursor.by().is_none();
+    let mut same = cursor.lookup().is_none() && cursor.by().is_none() && over.is_none();
     for _ in 0..=MOST_FRAMES {
         let pc = cursor.next(memory, images);
         let kept = keeping.next_with(&mut known, images);
         same &= pc == kept && tell(&cursor, 0) == tell(&keeping, 0);
+        same &= pc == located.next_over(&mut known, &over) && tell(&cursor, 0) == tell(&located, 0);
+        over = located.locate(&mut known, images);
         if let Some(pc) = pc {
             told.push(tell(&cursor, pc))?;
         }

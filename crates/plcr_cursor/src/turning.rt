@@ -1,14 +1,14 @@
 //! The frame given last, with room for the next.
-ghost use Rattle.std.specs.Prelude.{◌≡◌, IfNone, IfSome, IsSome, option_map};
+ghost use Rattle.std.specs.Prelude.{◌≡◌, List, IfNone, IfSome, IsSome, option_map};
+ghost use Rattle.plcr_macho.specs.Images.{Listed};
 ghost use Rattle.plcr_regs.specs.Frames.{IsOfThread, frame_pc};
-ghost use Rattle.plcr_cursor.specs.Frames.{next_of};
-ghost use Rattle.plcr_cursor.specs.Walks.{IsIndex};
-ghost use Rattle.plcr_cursor.specs.inner.Answering.{given_as};
+ghost use Rattle.plcr_cursor.specs.Frames.{located_over, next_of};
+ghost use Rattle.plcr_cursor.specs.inner.Answering.{IsBelow, given_as};
 
 use crate::asked::Asked;
 use crate::given::Reader;
+use crate::located::Located;
 use crate::readers::next_frame;
-use plcr_macho::Images;
 use plcr_regs::Frame;
 use std::marker::Model;
 
@@ -54,24 +54,23 @@ impl Turning {
         }
     }
 
-    /// Goes on to the frame behind it, where there is one. Gives what told that.
-    pub fn turn<A: Asked, I: Images>(&mut self, asked: &mut A, images: &mut I) -> Option<Reader>
-        requires { IsIndex (A.memory asked.old) self.old.registers.arch (I.images images.old) (I.extents images.old) }
-        ensures next { option_map (given_as self.new) result ≡ next_of (A.memory asked.old) (I.images images.old) self.old }
+    /// Goes on to the frame behind it, where there is one. `over` is the image that has the address
+    /// by which the frame's function is looked up. Gives what told the next.
+    pub fn turn<A: Asked>(&mut self, asked: &mut A, over: &Option<Located>) -> Option<Reader>
+        requires { IsBelow self.old over.now }
+        ensures next { (images : List Listed) → over.now ≡ located_over (A.memory asked.old) images self.old →
+            option_map (given_as self.new) result ≡ next_of (A.memory asked.old) images self.old }
         ensures stays { IfNone result (self.new ≡ self.old) }
         ensures thread { IfSome result (λ _. IsOfThread self.old self.new) }
         ensures known { IfSome result (λ _. IsSome (frame_pc self.new)) }
         ensures memory { A.memory asked.new ≡ A.memory asked.old }
-        ensures same { I.images images.new ≡ I.images images.old }
-        ensures index { I.extents images.new ≡ I.extents images.old }
-        ensures follows { I.follows images.old images.new }
     {
         if self.turned {
-            let by = next_frame(asked, images, &self.second, &mut self.first)?;
+            let by = next_frame(asked, over, &self.second, &mut self.first)?;
             self.turned = false;
             return Some(by);
         }
-        let by = next_frame(asked, images, &self.first, &mut self.second)?;
+        let by = next_frame(asked, over, &self.first, &mut self.second)?;
         self.turned = true;
         Some(by)
     }

@@ -72,6 +72,32 @@ fn rows_of_a_function(rt: HostRuntime) -> Result<(), Fail> {
     Ok(())
 }
 
+// The fields of the same common information entry, which says that a signal interrupts what it
+// describes.
+const SIGNAL_COMMON: &[u8] = &[1, b'z', b'S', 0, 1, 0x78, 16, 0, 0x0c, 7, 8, 0x90, 1];
+
+#[test]
+fn the_caller_of_a_signal_frame_is_exact(rt: HostRuntime) -> Result<(), Fail> {
+    let mut rest = Vec::new(rt.alloc());
+    rest.push(0)?;
+    rest.extend_from_slice(SAVES_RBP)?;
+    let section = function(rt.alloc(), SIGNAL_COMMON, rest.as_slice())?;
+    let at_end = answer(
+        rt.alloc(),
+        section.as_slice(),
+        X86,
+        F + 12,
+        &[(6, 0xb0), (7, 0x7100)],
+    )?;
+    let caller = frame(X86, true, &[(6, 0xb0), (7, 0x7108), (16, WORD + 0x7100)]);
+    assert!(rt; at_end == Step::Frame(caller));
+    assert_eq!(rt; caller.lookup(), Some(WORD + 0x7100));
+    let restored = answer(rt.alloc(), section.as_slice(), X86, F + 13, &[(6, 0x7100)])?;
+    let caller = [(6, WORD + 0x7100), (7, 0x7110), (16, WORD + 0x7108)];
+    assert!(rt; restored == Step::Frame(frame(X86, true, &caller)));
+    Ok(())
+}
+
 // What is known of the frame in the tests of instructions: rax, rbx, rbp, rsp, r12 and rip. rdx is
 // unknown.
 const KNOWN: &[(usize, u64)] = &[(0, 0xa0), (1, 0xb1), (6, 0x7140), (7, 0x7100), (12, 0xc1)];

@@ -7,42 +7,50 @@ use Rattle.plcr_memory.specs.Regions.{Contents}
 use Rattle.plcr_regs.specs.declared.arch.Arch.{Arch}
 use Rattle.plcr_macho.specs.declared.image.Image.{Image}
 use Rattle.plcr_macho.specs.declared.image.ImageFault.{ImageFault}
+use Rattle.plcr_macho.specs.declared.image.Symtab.{Symtab}
 use Rattle.plcr_macho.specs.Containing.{first_over}
 use Rattle.plcr_macho.specs.Images.{Listed, listed_at}
 use Rattle.plcr_macho.specs.Loading.{image_at}
-use Rattle.plcr_macho.proofs.Agreeing.{index_agrees}
 use Rattle.plcr_macho.proofs.Held.{first_found}
 use Rattle.plcr_symbols.specs.declared.symbol.SymbolAt.{SymbolAt}
 use Rattle.plcr_symbols.specs.Symbols.{symbol_at}
+use Rattle.plcr_symbols.specs.Symbols as symbols
 use Rattle.plcr_symbols.proofs.Lawful.{symbol_named}
 use Rattle.plcr_cursor.specs.declared.given.Given.{Given}
+use Rattle.plcr_cursor.specs.Frames.{located_at}
 use Rattle.plcr_encode.specs.declared.frame_rows.FrameRow.{FrameRow}
 use Rattle.plcr_encode.specs.Frames.{frame_of, lookup_in, pc_of, symbol_of, symbol_over}
-use Rattle.plcr_encode.specs.inner.FrameRows.{IsBare, IsNamed, IsNamedIn, IsPlaced, frame_in, position_of, row_of, symbol_by, symbol_within}
+use Rattle.plcr_encode.specs.inner.FrameRows.{IsBare, IsNamed, IsNamedIn, IsPlaced, frame_in, position_of, row_of, symbol_by, symbol_within, tabled}
 use Rattle.plcr_encode.specs.inner.Lookups.{answered}
 
 module _ (memory : Contents) (arch : Arch) (listed : List Listed) where
-  -- the symbol by an image's position is that in the image
+  -- the symbol by the position of an image with a symbol table is that in the image
+  by_table : (address : ℕ) (place : ℕ) (image : Image) (table : Option Symtab) → image.symtab ≡ table → image_at memory arch (listed_at listed place).header ≡ Ok image
+      → symbol_by memory arch listed (option_map (λ _. place) table) address ≡ symbol_at memory image address
+  unfolding symbol_at
+  by_table address place image None none reads = sym (ap (option_and_then (λ (t : Symtab). symbols.symbol_by memory image t address)) none)
+  by_table address place image (Some table) has reads = ap (λ (r : Result Image ImageFault). symbol_within memory r address) reads
+
   by_first : (address : ℕ) (first : Option (ℕ × Image)) → first_over memory arch address 0 listed ≡ first
-      → symbol_by memory arch listed (option_map (λ (found : ℕ × Image). found.0) first) address ≡ option_and_then (λ (found : ℕ × Image). symbol_at memory found.1 address) first
+      → symbol_by memory arch listed (tabled (option_map located_at first)) address ≡ option_and_then (λ (found : ℕ × Image). symbol_at memory found.1 address) first
   by_first address None is = refl
-  by_first address (Some found) is = ap (λ (r : Result Image ImageFault). symbol_within memory r address) (first_found memory arch address listed found.0 found.1 is).here.reads
+  by_first address (Some found) is = by_table address found.0 found.1 found.1.symtab refl (first_found memory arch address listed found.0 found.1 is).here.reads
 
   pub by_position : (address : ℕ) → symbol_by memory arch listed (position_of memory arch listed address) address ≡ symbol_over memory arch listed address
-  by_position address =
-      ap (λ (o : Option ℕ). symbol_by memory arch listed o address) (index_agrees memory arch address listed)
-      ∙ by_first address (first_over memory arch address 0 listed) refl
+  by_position address = by_first address (first_over memory arch address 0 listed) refl
 
   -- a position is in the list
+  table_placed : (place : ℕ) (table : Option Symtab) → place < length listed → IfSome (option_map (λ (_ : Symtab). place) table) (λ i. i < length listed)
+  table_placed place None lt = tt
+  table_placed place (Some table) lt = lt
+
   first_placed : (address : ℕ) (first : Option (ℕ × Image)) → first_over memory arch address 0 listed ≡ first
-      → IfSome (option_map (λ (found : ℕ × Image). found.0) first) (λ i. i < length listed)
+      → IfSome (tabled (option_map located_at first)) (λ i. i < length listed)
   first_placed address None is = tt
-  first_placed address (Some found) is = (first_found memory arch address listed found.0 found.1 is).inside
+  first_placed address (Some found) is = table_placed found.0 found.1.symtab (first_found memory arch address listed found.0 found.1 is).inside
 
   position_placed : (address : ℕ) → IfSome (position_of memory arch listed address) (λ i. i < length listed)
-  position_placed address =
-      let agrees = index_agrees memory arch address listed in
-      rw agrees (first_placed address (first_over memory arch address 0 listed) refl)
+  position_placed address = first_placed address (first_over memory arch address 0 listed) refl
 
   pub rows_placed : (frames : List Given) → All (IsPlaced listed) (map (row_of memory arch listed) frames)
   rows_placed frames = All-map (IsPlaced listed) (row_of memory arch listed) frames (λ k d lt. position_placed (lookup_in (get_or frames k d)))

@@ -116,7 +116,7 @@ fn are_bare(rows: &[FrameRow]) -> bool
 
 /// Finds the symbols of the rows of threads' frames. The lookups are sorted by image and address,
 /// so that the table of each image is gone through once, and the rows keep their order. Where no image
-/// has an address of the rows, nothing is looked for.
+/// with a symbol table has an address of the rows, nothing is looked for.
 pub(crate) fn find_symbols<I: Images>(room: &mut Room, images: &mut I, memory: &Memory, arch: Arch)
     requires { All (IsPlaced (I.images images.old)) room.old.rows.items }
     ensures counts { room.new.counts.items ≡ room.old.counts.items }

@@ -13,14 +13,14 @@ pub(crate) struct FrameRow {
     pub(crate) by: u8,
     /// The address by which its function is looked up.
     pub(crate) lookup: u64,
-    /// The position of the image that has this address.
+    /// The position of the image that has this address, where it has a symbol table.
     pub(crate) position: Option<usize>,
     /// The symbol of this address.
     pub(crate) symbol: Option<SymbolAt>,
 }
 
 impl FrameRow {
-    /// Whether no image has its address, and it has no symbol.
+    /// Whether no image with a symbol table has its address, and it has no symbol.
     pub(crate) fn is_bare(&self) -> bool
         ensures { IsTrue result ↔ IsBare self.now }
     {

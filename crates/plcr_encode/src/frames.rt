@@ -9,7 +9,7 @@ ghost use Rattle.plcr_regs.specs.States.{IsWhole};
 ghost use Rattle.plcr_cursor.specs.declared.limits.TheConstants.{MOST_FRAMES};
 ghost use Rattle.plcr_cursor.specs.Walks.{IsIndex};
 ghost use Rattle.plcr_encode.specs.Frames.{thread_frames};
-ghost use Rattle.plcr_encode.specs.inner.FrameRows.{IsNamedIn};
+ghost use Rattle.plcr_encode.specs.inner.FrameRows.{IsNamedIn, tabled};
 ghost use Rattle.plcr_encode.specs.inner.Groups.{AreRowsOf, count_of, walked};
 
 use crate::answers::find_symbols;
@@ -17,10 +17,20 @@ use crate::frame_rows::FrameRow;
 use crate::limits::GROUP_FRAMES;
 use crate::room::Room;
 use arrayvec::ArrayVec;
-use plcr_cursor::{Cursor, Known, MOST_FRAMES};
+use plcr_cursor::{Cursor, Known, Located, MOST_FRAMES};
 use plcr_macho::Images;
 use plcr_memory::Memory;
 use plcr_regs::{Arch, Registers};
+
+/// The position of an image that has a symbol table.
+fn tabled(over: &Option<Located>) -> Option<usize>
+    ensures { result ≡ tabled over.now }
+{
+    match over {
+        Some(located) if located.image.symtab.is_some() => Some(located.place),
+        _ => None,
+    }
+}
 
 /// Walks over the frames of a thread that was stopped in this state, and keeps them in place of
 /// those before. Their symbols aren't found yet.
@@ -42,14 +52,15 @@ fn walk_frames<I: Images>(
     ensures follows { I.follows images.old images.new }
 {
     let mut cursor = Cursor::new(state, bits);
-    while let Some(pc) = cursor.next_with(known, images) {
+    let mut over = None;
+    while let Some(pc) = cursor.next_over(known, &over) {
         let lookup = cursor.lookup().unwrap_or(0);
-        let position = images.locate(lookup);
+        over = cursor.locate(known, images);
         rows.push(FrameRow {
             pc,
             by: cursor.by().unwrap_or(0),
             lookup,
-            position,
+            position: tabled(&over),
             symbol: None,
         });
     }

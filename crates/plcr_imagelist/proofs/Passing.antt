@@ -18,9 +18,10 @@ use Rattle.plcr_nodes.proofs.Seeing.{own_of, grows_again, adds_again}
 use Rattle.plcr_nodes.proofs.Known.{inside_same, announced_same}
 use Rattle.plcr_imagelist.specs.Holds.{WalkerState, IsPassed, IsHeld, IsReleased, HasEnded, start_of}
 use Rattle.plcr_imagelist.specs.inner.Holding.{walker_state, images_on, IsOut, IsHolding}
+use Rattle.plcr_imagelist.specs.inner.Indexing.{hold_of}
 use Rattle.plcr_imagelist.proofs.Looking.{went_again}
 use Rattle.plcr_imagelist.proofs.Meeting.{before_enter-same, ended_on}
-use Rattle.plcr_imagelist.proofs.Walking.{MadeHoldsAndAnnounced, hold_of}
+use Rattle.plcr_imagelist.proofs.Walking.{MadeHoldsAndAnnounced}
 
 pub goes_again : (nodes passes p : ℕ) (a b c : List Entry) (a' b' c' : List (List ℕ)) → GoesOn nodes passes false (p ∷ []) a a' b b' → GoesOn nodes passes false (p ∷ []) b b' c c' → GoesOn nodes passes false (p ∷ []) a a' c c'
 goes_again nodes passes p a b c a' b' c' g h = record { added = adds_again false (p ∷ []) a b c g.added h.added; named = went_again a' b' c' g.named h.named; legal = h.legal; short = h.short }

@@ -19,8 +19,9 @@ use Rattle.plcr_nodes.specs.Tokens.{PassState, IsRead}
 use Rattle.plcr_nodes.proofs.Staying.{image_stays, name_stays}
 use Rattle.plcr_imagelist.specs.inner.Holding.{images_on, IsHolding}
 use Rattle.plcr_imagelist.specs.Walk.{with_name, all_named, IsSameWalk}
+use Rattle.plcr_imagelist.specs.inner.Indexing.{hold_of}
 use Rattle.plcr_imagelist.proofs.Meeting.{images_stay, before_enter-same, ended_on}
-use Rattle.plcr_imagelist.proofs.Walking.{holding_stays, hold_of}
+use Rattle.plcr_imagelist.proofs.Walking.{holding_stays}
 
 among_place : (ns : List ℕ) (i d : ℕ) → i < length ns → among (get_or ns i d) ns ≡ true
 among_place [] i d below = absurd (omega arith)

@@ -21,12 +21,13 @@ use Rattle.plcr_imagelist.specs.Holds.{EndedAt}
 use Rattle.plcr_imagelist.specs.Tellings.{IsWriterTold, IsWalkerTold, IsHoldTold, IsMet}
 use Rattle.plcr_nodes.proofs.Pacing.{changes_same, owes_same, paced_same}
 use Rattle.plcr_imagelist.specs.declared.bounds.Removed.{Removed}
+use Rattle.plcr_imagelist.specs.inner.Indexing.{hold_of}
 use Rattle.plcr_machine.proofs.ListsMade.{takes_same}
 use Rattle.plcr_imagelist.proofs.Bounding.{bounds_seen}
 use Rattle.plcr_imagelist.proofs.Freeing.{told_seen}
 use Rattle.plcr_imagelist.proofs.Kept.{waiting_same}
 use Rattle.plcr_imagelist.proofs.Meeting.{images_stay, before_enter-same, ended_on}
-use Rattle.plcr_imagelist.proofs.Walking.{holding_stays, hold_of}
+use Rattle.plcr_imagelist.proofs.Walking.{holding_stays}
 
 -- books that agree with a history agree with one that went on by entries of others
 agrees_seen : (o : OwnerState) (past : List Entry) (names : List (List ℕ)) (joined bounds spares : List ℕ) (gone : List Removed) (listed : List Image) (c l : ℕ) → owner_entries past ≡ owner_entries o.history → IsHistory o.nodes o.passes past names

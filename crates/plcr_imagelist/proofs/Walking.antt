@@ -20,15 +20,13 @@ use Rattle.plcr_nodes.proofs.Known.{inside_same, reach_bound}
 use Rattle.plcr_nodes.proofs.Staying.{reach_stays}
 use Rattle.plcr_imagelist.specs.inner.Keeping.{last_of}
 use Rattle.plcr_imagelist.specs.inner.Holding.{walker_state, images_on, IsHolding}
-use Rattle.plcr_imagelist.specs.Holds.{HoldState, EndedAt, IsNext}
+use Rattle.plcr_imagelist.specs.Holds.{EndedAt, IsNext}
+use Rattle.plcr_imagelist.specs.inner.Indexing.{hold_of}
 use Rattle.plcr_imagelist.proofs.Meeting.{before_enter-same, follow_rises, rises-snoc, few_met, images_on-snoc, among-snoc, follows_last, images_stay, lawful_whole, ended_on}
 
 -- a pass that has seen more
 abbrev pub on_with : PassState → List Entry → List (List ℕ) → List ℕ → PassState
 on_with s past names given = record s { history = past; names = names; given = given }
-
-abbrev pub hold_of : PassState → List ℕ → Bool → HoldState
-hold_of pass met ended = record { walker = walker_state pass; met = images_on met pass.history; ended = ended; extents = [] }
 
 -- a pass that made whole holds, and announced itself
 abbrev pub MadeHoldsAndAnnounced : ℕ → List Entry → Type 0

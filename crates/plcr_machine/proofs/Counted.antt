@@ -12,7 +12,7 @@ use Rattle.plcr_machine.specs.Histories.{IsLegal}
 use Rattle.plcr_machine.proofs.Cases.{by_cases, at_or_else, not_both}
 use Rattle.plcr_machine.proofs.OnNodes.{IsApart, without_absent}
 use Rattle.plcr_machine.proofs.Freedom.{has-live, removed_old, live_apart}
-use Rattle.plcr_machine.proofs.Insiders.{count_below-same, count_below-positive}
+use Rattle.plcr_machine.proofs.Insiders.{count_below-same, count_below-none, count_below-positive}
 use Rattle.plcr_machine.proofs.Full.{live-length}
 
 -- a list without one of its images is shorter by one
@@ -67,10 +67,6 @@ count_below-one f g p (suc n) same =
     (λ e. let below : count_below f n ≡ count_below g n = count_below-same f g n (λ k lt. same k (ne_eqb p k (λ s. omega arith))) in
     by_cases (f n) (λ t. rw t (omega (arith, below))) (λ t. rw t (omega (arith, below))))
     (λ e. let below = count_below-one f g p n same in rw (same n e) (omega (arith, below)))
-
-count_below-none : (f : ℕ → Bool) (n : ℕ) → ((k : ℕ) → k < n → f k ≡ false) → count_below f n ≡ 0
-count_below-none f zero none = refl
-count_below-none f (suc n) none = let below = count_below-none f n (λ k lt. none k (omega arith)) in rw (none n (omega arith)) (omega (arith, below))
 
 -- how many nodes are removed
 removed_count : ℕ → List Entry → ℕ

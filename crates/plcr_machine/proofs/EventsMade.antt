@@ -15,7 +15,7 @@ use Rattle.plcr_machine.specs.Events.{Event, Changed, Noted, events_of, changes_
 use Rattle.plcr_machine.proofs.Cases.{by_cases, at_or_else, eqb_same, or-false}
 use Rattle.plcr_machine.proofs.Under.{all_under-more, all_under-same}
 use Rattle.plcr_machine.proofs.Freedom.{listed_kept, live_bound, removed_old}
-use Rattle.plcr_machine.proofs.Insiders.{count_below-same, count_below-more}
+use Rattle.plcr_machine.proofs.Insiders.{count_below-same, count_below-more, count_below-none}
 
 pub events-changes : (names : List (List ℕ)) (h : List Entry) → changes_in (events_of names h) ≡ changes_of names h
 events-changes names [] = refl
@@ -100,10 +100,6 @@ swapped true false c = refl
 swapped false true c = refl
 swapped false false c = refl
 
-none_waits : (n : ℕ) → count_below (λ k. false) n ≡ 0
-none_waits zero = refl
-none_waits (suc n) = omega (arith, none_waits n)
-
 module _ (nodes passes : ℕ) (names : List (List ℕ)) where
   -- a look may as well stand before the later entries
   look-waits : (later : List Entry) (n q stamp : ℕ) (past : List Entry) → waits passes later n (Look q stamp ∷ past) ≡ waits passes (Look q stamp ∷ later) n past
@@ -165,7 +161,7 @@ module _ (nodes passes : ℕ) (names : List (List ℕ)) where
 
   -- the unloads that are held back are as many as the nodes that wait
   held-waits : (later : List Entry) (h : List Entry) → IsLegal nodes passes h → held_in passes later (events_of names h) ≡ count_below (λ k. waits passes later (suc k) h) nodes
-  held-waits later [] l = sym (none_waits nodes)
+  held-waits later [] l = sym (count_below-none (λ k. false) nodes (λ k lt. refl))
   held-waits later (Announce p seen ∷ past) l = held-waits (Announce p seen ∷ later) past l.1
   held-waits later (Enter p ∷ past) l = held-waits (Enter p ∷ later) past l.1
   held-waits later (Leave p ∷ past) l = held-waits (Leave p ∷ later) past l.1

@@ -12,11 +12,7 @@ use Rattle.plcr_machine.proofs.Cases.{eqb_same, or-true, not_both}
 use Rattle.plcr_machine.proofs.Under.{all_under-from}
 use Rattle.plcr_machine.proofs.OnNodes.{IsApart}
 use Rattle.plcr_machine.proofs.Freedom.{busy_listed, live_apart, live_bound}
-use Rattle.plcr_machine.proofs.Insiders.{count_below-more, count_below-most}
-
-count_below-none : (n : ℕ) → count_below (λ k. false) n ≡ 0
-count_below-none zero = refl
-count_below-none (suc n) = omega (arith, count_below-none n)
+use Rattle.plcr_machine.proofs.Insiders.{count_below-more, count_below-none, count_below-most}
 
 count_below-all : (f : ℕ → Bool) (n : ℕ) → ((k : ℕ) → k < n → f k ≡ true) → count_below f n ≡ n
 count_below-all f zero all = refl
@@ -24,7 +20,7 @@ count_below-all f (suc n) all = let below = count_below-all f n (λ k h. all k (
 
 -- a list on nodes of their own is as long as it has nodes
 length-nodes : (nodes : ℕ) (xs : List Image) → IsApart xs → ((n : ℕ) → has n xs ≡ true → (0 < n) × (n ≤ nodes)) → length xs ≡ count_below (λ k. has (suc k) xs) nodes
-length-nodes nodes [] a within = sym (count_below-none nodes)
+length-nodes nodes [] a within = sym (count_below-none (λ k. false) nodes (λ k lt. refl))
 length-nodes nodes (x ∷ xs) a within =
     let self = or_left (eqb x.node x.node) (has x.node xs) (eqb_same x.node) in
     let here = within x.node self in

@@ -28,6 +28,10 @@ count_below-more f g p (suc n) h off on same =
     let below = count_below-more f g p n lt off on same in
     rw (same n e, below) (omega arith))
 
+pub count_below-none : (f : ℕ → Bool) (n : ℕ) → ((k : ℕ) → k < n → f k ≡ false) → count_below f n ≡ 0
+count_below-none f zero none = refl
+count_below-none f (suc n) none = let below = count_below-none f n (λ k lt. none k (omega arith)) in rw (none n (omega arith)) (omega (arith, below))
+
 pub count_below-positive : (f : ℕ → Bool) (p n : ℕ) → p < n → f p ≡ true → 0 < count_below f n
 count_below-positive f p zero h on = absurd (omega arith)
 count_below-positive f p (suc n) h on =

@@ -8,7 +8,8 @@ use Rattle.plcr_macho.specs.declared.spot.Spot.{Spot}
 use Rattle.plcr_macho.specs.Images.{Listed, listed_at}
 use Rattle.plcr_macho.specs.Loading.{image_at}
 use Rattle.plcr_macho.specs.Index.{Extent, extent_at, extents_from, index_of, least_over, located, ordered_from}
-use Rattle.plcr_macho.specs.Spots.{extents_of, index_in, IsSearchable, IsSettled, IsIndexOf, IsIndexed}
+use Rattle.plcr_macho.specs.Spots.{extents_of, index_in, IsSearchable, IsSettled, IsIndexOf}
+use Rattle.plcr_macho.specs.inner.Searching.{IsIndexed}
 use Rattle.plcr_macho.proofs.FirstOver.{drop_here, drop_past}
 use Rattle.plcr_macho.proofs.Least.{least_again}
 use Rattle.plcr_macho.proofs.Ordered.{ordered_as}

@@ -1,6 +1,6 @@
 -- The spots in which an index lies. They stand in the order of their starts, and `reach` is no less than the end of any
 -- spot up to it, so a search that goes down from an address may stop where `reach` is below it.
-use Rattle.std.specs.Prelude.{◌≡◌, ℕ, ◌+◌, ◌-◌, ◌^◌, ◌≤◌, ◌<◌, min, List, length, map, take, slice_index_or, Option, Some, None, ⊤}
+use Rattle.std.specs.Prelude.{◌≡◌, ℕ, ◌+◌, ◌-◌, ◌^◌, ◌≤◌, ◌<◌, min, List, length, map, take, slice_index_or, Option, Some, None}
 use Rattle.std.specs.List.Sorted.{IsNonDecreasingBy, IsPermutation}
 use Rattle.plcr_memory.specs.Regions.{Contents}
 use Rattle.plcr_regs.specs.declared.arch.Arch.{Arch}
@@ -47,8 +47,3 @@ pub record IsIndexOf (memory : Contents) (arch : Arch) (images : List Listed) (r
 -- what lay in the first spots, one image after the other, is an index there
 abbrev pub Settles : List Spot → List Spot → ℕ → Type 0
 Settles old new filled = (memory : Contents) (arch : Arch) (images : List Listed) → extents_of (take filled old) ≡ index_of memory arch images → IsIndexOf memory arch images new filled
-
--- what a list of so many images keeps of its room
-abbrev pub IsIndexed : ℕ → List Spot → Option ℕ → Type 0
-IsIndexed n room None = ⊤
-IsIndexed n room (Some filled) = IsSettled n room filled

@@ -54,7 +54,7 @@ pub struct ListImages<'a> {
 impl<'a> Model for ListImages<'a> {
     ghost use Rattle.std.specs.Prelude.{◌≤◌, length};
     ghost use Rattle.plcr_macho.specs.Plain.{PlainList, plain_list};
-    ghost use Rattle.plcr_macho.specs.Spots.{IsIndexed};
+    ghost use Rattle.plcr_macho.specs.inner.Searching.{IsIndexed};
 
     ghost Value = { PlainList };
 

@@ -22,7 +22,8 @@ use Rattle.plcr_run.specs.declared.writing.Writing.{Writing}
 use Rattle.plcr_run.specs.declared.writing.Writing.TheVariants.{Resting, Changing}
 use Rattle.plcr_run.specs.inner.Slots.{slot_at, IsPut}
 use Rattle.plcr_run.specs.inner.Tokens.{writer_of, with_writer, IsGoing, seen_in, IsKnown, IsPlaced, AreTokens, IsAll}
-use Rattle.plcr_run.proofs.Between.{own_between, went_same}
+use Rattle.plcr_machine.proofs.Between.{own_between}
+use Rattle.plcr_run.proofs.SameLength.{went_same}
 use Rattle.plcr_run.proofs.Still.{OneActs, pass_still}
 
 -- the writer went on, and knows no less of a pass

@@ -1,19 +1,19 @@
 -- Statements that keep no file, and what stays of the changes of a list that will be made.
-use Rattle.std.proofs.Common.{◌≡◌, ℕ, zero, suc, ◌+◌, Bool, true, false, List, [], ◌∷◌, Option, Some, None, Result, Ok, Err, eqb, ltb, refl, ap}
+use Rattle.std.proofs.Common.{◌≡◌, ℕ, Bool, true, false, List, [], ◌∷◌, Option, Some, None, Result, Ok, Err, refl}
 use Rattle.std.specs.Prelude.{if◌then◌else◌, OnOk}
 use Rattle.plcr_script.specs.Places.{in_behind}
-use Rattle.plcr_machine.specs.declared.change.Change.{Change}
-use Rattle.plcr_machine.specs.declared.entry.Entry.TheVariants.{Announce, Enter, Count}
+use Rattle.plcr_machine.specs.declared.entry.Entry.TheVariants.{Announce, Enter}
 use Rattle.plcr_machine.specs.Passes.{counts}
-use Rattle.plcr_machine.specs.Events.{Event, Changed, Noted, changes_in, noted_in}
+use Rattle.plcr_machine.specs.Events.{Noted, changes_in, noted_in}
 use Rattle.plcr_script.specs.declared.statements.Statement.{Statement}
 use Rattle.plcr_script.specs.declared.statements.Statement.TheVariants as statements
 use Rattle.plcr_script.specs.declared.outcomes.Outcome.{Outcome}
 use Rattle.plcr_script.specs.Meanings.{Meanings}
 use Rattle.plcr_script.specs.RunChanges.{Plan, planned_load, planned_unload}
-use Rattle.plcr_script.specs.RunStates.{Opened, stepped, steps, steps_left, is_full, searched, State, is_in, finished, entered, entered_if_out}
+use Rattle.plcr_script.specs.RunStates.{Opened, is_full, searched, State, is_in, entered, entered_if_out}
 use Rattle.plcr_script.specs.RunTurns.{Turn, comes_to, full, stepped_on, stepped_through, step_turn, with_opened, left_open, made_whole, unless_refused, without_opened, with_node, turn_of}
 use Rattle.plcr_script.specs.RunLaws.{Follows}
+use Rattle.plcr_script.proofs.PrefixRuns.{will_be_same}
 use Rattle.plcr_run.specs.inner.Stepping.{IsChange, IsMove, will_change}
 
 -- of two turns that keep nothing, either keeps nothing
@@ -64,30 +64,13 @@ move_kept process n p (statements.Step most) s i = absurd i
 move_kept process n p statements.End s i = absurd i
 move_kept process n p (statements.Report pass file) s i = absurd i
 
--- the changes that will be made are the same on top of the same changes
-stepped_same : (plan : Plan) (made : ℕ) (a b : List Event) → changes_in a ≡ changes_in b → changes_in (stepped plan made a) ≡ changes_in (stepped plan made b)
-stepped_same plan made a b same = of (eqb made plan.before) (ltb plan.before made)
-  where
-    of : (at past : Bool) → changes_in (if at then Changed plan.change ∷ a else if past then Noted Count ∷ a else a) ≡ changes_in (if at then Changed plan.change ∷ b else if past then Noted Count ∷ b else b)
-    of true past = ap (λ (cs : List Change). plan.change ∷ cs) same
-    of false true = same
-    of false false = same
-
-steps_same : (o : Opened) (n : ℕ) (a b : List Event) → changes_in a ≡ changes_in b → changes_in (steps o n a) ≡ changes_in (steps o n b)
-steps_same o zero a b same = same
-steps_same o (suc n) a b same = stepped_same o.plan (o.made + n) (steps o n a) (steps o n b) (steps_same o n a b same)
-
-finished_same : (opened : Option Opened) (a b : List Event) → changes_in a ≡ changes_in b → changes_in (finished opened a) ≡ changes_in (finished opened b)
-finished_same None a b same = same
-finished_same (Some o) a b same = steps_same o (steps_left o) a b same
-
 -- a pass that goes in changes nothing of the list
 pub entering_keeps : (pass : ℕ) (s : State) → will_change (entered_if_out pass s) ≡ will_change s
 entering_keeps pass s = of (is_in (s.places pass))
   where
     of : (b : Bool) → will_change (if b then s else entered pass s) ≡ will_change s
     of true = refl
-    of false = finished_same s.opened (entered pass s).events s.events refl
+    of false = will_be_same s.opened (entered pass s).events s.events refl
 
 pub entering_follows : (pass : ℕ) (s : State) → Follows s.events (entered_if_out pass s).events
 entering_follows pass s = of (is_in (s.places pass))

@@ -15,7 +15,7 @@ pub mod Owning
 pub mod Turned
 pub mod Ties
 pub mod Walked
-pub mod Between
+pub mod SameLength
 pub mod Still
 pub mod Steps
 pub mod Acting

@@ -29,7 +29,8 @@ use Rattle.plcr_run.specs.inner.Slots.{slot_at}
 use Rattle.plcr_run.specs.inner.Tokens.{writer_of, AreTokens, IsPlaced, IsAll, seen_in, opened_by, Goes}
 use Rattle.plcr_run.specs.inner.Changes.{IsSteppedThrough}
 use Rattle.plcr_run.specs.inner.Ending.{left_below, finished_state, HasMet, EndsIn}
-use Rattle.plcr_run.proofs.Between.{own_between, went_same}
+use Rattle.plcr_machine.proofs.Between.{own_between}
+use Rattle.plcr_run.proofs.SameLength.{went_same}
 use Rattle.plcr_run.proofs.Acting.{placed_seen}
 use Rattle.plcr_run.proofs.Stepped.{through_made, through_went}
 use Rattle.plcr_run.proofs.WriterTurned.{tokens_writer, alone_writer}

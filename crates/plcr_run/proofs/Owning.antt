@@ -36,7 +36,7 @@ use Rattle.plcr_script.specs.RunChanges.{Plan}
 use Rattle.plcr_nodes.specs.declared.view.Store.{Store}
 use Rattle.plcr_script.specs.RunStates.{is_full, stepped}
 use Rattle.plcr_run.specs.inner.Tokens.{opened_by, steps_before}
-use Rattle.plcr_run.proofs.Between.{went_same}
+use Rattle.plcr_run.proofs.SameLength.{went_same}
 use Rattle.plcr_run.proofs.Still.{OwnerActs, writer_still}
 
 -- the same writer, with more history and names

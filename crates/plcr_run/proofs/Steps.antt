@@ -10,7 +10,7 @@ use Rattle.plcr_nodes.specs.Seeing.{GoesOn}
 use Rattle.plcr_nodes.proofs.Seeing.{grows_again, own_of}
 use Rattle.plcr_imagelist.specs.Holds.{WalkerState, HoldState, IsPassed, IsHeld, IsReleased}
 use Rattle.plcr_imagelist.specs.Carrying.{OnlySees}
-use Rattle.plcr_run.proofs.Between.{went_same}
+use Rattle.plcr_run.proofs.SameLength.{went_same}
 use Rattle.plcr_run.proofs.Still.{OneActs, pass_still}
 
 -- an entry that only a pass of this number makes

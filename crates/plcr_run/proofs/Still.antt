@@ -6,7 +6,7 @@ use Rattle.plcr_machine.specs.Lists.{Grows}
 use Rattle.plcr_machine.specs.Histories.{IsLegal}
 use Rattle.plcr_machine.specs.Parts.{own_entries, owner_entries}
 use Rattle.plcr_machine.proofs.Makers.{nothing_else}
-use Rattle.plcr_run.proofs.Between.{own_between, owner_between}
+use Rattle.plcr_machine.proofs.Between.{own_between, owner_between}
 
 -- A later history has no entry more of the writer, nor of a pass but this one
 pub record OneActs (passes r : ℕ) (now top : List Entry) : Type 0 where

@@ -32,7 +32,7 @@ use Rattle.plcr_run.specs.declared.writing.Writing.{Writing}
 use Rattle.plcr_run.specs.declared.writing.Writing.TheVariants.{Resting, Changing}
 use Rattle.plcr_run.specs.inner.Slots.{IsPut}
 use Rattle.plcr_run.specs.inner.Tokens.{writer_of, with_writer, place_in, opened_in, StateIs}
-use Rattle.plcr_run.specs.inner.Walks.{Meeting, IsFurther, IsToEnd}
+use Rattle.plcr_run.specs.Walks.{Meeting, IsFurther, IsToEnd}
 use Rattle.plcr_run.proofs.Still.{OneActs}
 use Rattle.plcr_run.proofs.Steps.{saw_nothing}
 use Rattle.plcr_run.proofs.Walked.{met_more, met_end}

@@ -28,7 +28,7 @@ use Rattle.plcr_run.specs.declared.slots.Slot.TheVariants.{Out, In}
 use Rattle.plcr_run.specs.declared.writing.Writing.{Writing}
 use Rattle.plcr_run.specs.inner.Slots.{slot_at, IsPut}
 use Rattle.plcr_run.specs.inner.Tokens.{writer_of, with_writer, IsGoing, seen_in, IsKnown, IsPlaced, AreTokens, IsAll, place_in, StateIs, Goes, Turns, LeavesWith}
-use Rattle.plcr_run.specs.inner.Walks.{IsFurther, IsToEnd}
+use Rattle.plcr_run.specs.Walks.{IsFurther, IsToEnd}
 use Rattle.plcr_run.proofs.Still.{OneActs}
 use Rattle.plcr_run.proofs.Steps.{went_in, WentOut, went_out, only_saw}
 use Rattle.plcr_run.proofs.Acting.{IsActing, tokens_acting, ActsAlone, acting_alone, told_all}

@@ -46,7 +46,7 @@ use Rattle.plcr_run.specs.declared.writing.Writing.TheVariants.{Resting, Changin
 use Rattle.plcr_run.specs.inner.Slots.{slot_at}
 use Rattle.plcr_run.specs.inner.Tokens.{writer_of, IsGoing, seen_in, AreTokens, IsAll, opened_by, opened_in, StateIs}
 use Rattle.plcr_run.specs.inner.Changes.{WriterTurns, refused_load, said_by_load, refused_unload, said_by_unload}
-use Rattle.plcr_run.proofs.Between.{own_between}
+use Rattle.plcr_machine.proofs.Between.{own_between}
 use Rattle.plcr_run.proofs.Still.{OwnerActs}
 use Rattle.plcr_run.proofs.Acting.{placed_later, placed_seen}
 use Rattle.plcr_run.proofs.Owning.{WriterWent, stepped_store, stepped_change, stepped_count, counted_made, loaded_made, unloaded_made, LooksMade, looks_went, looks_made, full_none, full_free, counted_went, loaded_went, looked-announced}

@@ -1,3 +1,4 @@
 pub mod Runs
 pub mod Past
+pub mod Walks
 pub mod inner

@@ -12,6 +12,9 @@ use Rattle.plcr_script.specs.Meanings.{Meanings}
 use Rattle.plcr_script.specs.declared.statements.NumberedStatement.{NumberedStatement}
 use Rattle.plcr_script.specs.Run.{run_of, kept_by, MayHave, changes_after}
 use Rattle.plcr_script.specs.RunLaws.{Follows, state_behind}
+use Rattle.plcr_command.specs.declared.endings.Ending.{Ending}
+use Rattle.plcr_command.specs.declared.endings.Ending.TheVariants.{Done, Misused, Refused, Stopped}
+use Rattle.plcr_command.specs.declared.refusals.Refusal.TheVariants.{OutOfMemory}
 use Rattle.plcr_command.specs.Seen.{Seen}
 use Rattle.plcr_run.specs.Runs.{run_behind, IsDone, IsStopped}
 
@@ -62,3 +65,11 @@ pub record RanNot (old new : Seen) (past : Option WriterState) : Type 0 where
 abbrev pub RunIs : Meanings → ScriptValue → Seen → Seen → Option WriterState → ℕ → Type 0
 RunIs process script old new past status =
     ((status ≡ 0) × RanWhole process script old new past) ⊎ ((status ≡ 5) × RanPart process script old new past) ⊎ ((status ≡ 7) × RanNot old new past)
+
+-- how it ended: all was done, it stopped, or memory was wanting. No run is refused for another reason, or misused
+abbrev pub PlayIs : Meanings → ScriptValue → Seen → Seen → Option WriterState → Ending → Type 0
+PlayIs process script old new past Done = RanWhole process script old new past
+PlayIs process script old new past Stopped = RanPart process script old new past
+PlayIs process script old new past (Refused OutOfMemory) = RanNot old new past
+PlayIs process script old new past (Refused refusal) = ⊥
+PlayIs process script old new past Misused = ⊥

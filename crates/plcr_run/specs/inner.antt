@@ -7,4 +7,3 @@ pub mod Running
 pub mod Slots
 pub mod Stepping
 pub mod Tokens
-pub mod Walks

@@ -10,6 +10,8 @@ mod running;
 mod scripts;
 mod slots;
 mod stepping;
+#[cfg(test)]
+mod using_tests;
 mod walking;
 mod writing;
 

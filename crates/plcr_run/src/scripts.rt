@@ -5,8 +5,8 @@ ghost use Rattle.plcr_script.specs.Meanings.{meanings};
 ghost use Rattle.plcr_command.specs.Seen.{seen};
 ghost use Rattle.plcr_command.specs.Endings.{GoesOn};
 ghost use Rattle.plcr_run.specs.declared.slots.Slot.TheVariants.{Out};
-ghost use Rattle.plcr_run.specs.Past.{RunIs};
-ghost use Rattle.plcr_run.specs.inner.Opening.{IsOpened, PlayIs};
+ghost use Rattle.plcr_run.specs.Past.{RunIs, PlayIs};
+ghost use Rattle.plcr_run.specs.inner.Opening.{IsOpened};
 
 use crate::ending::end_script;
 use crate::running::run;

@@ -2,7 +2,7 @@
 ghost use Rattle.std.specs.Prelude.{◌≡◌, true};
 ghost use Rattle.plcr_imagelist.specs.Holds.{IsWalking};
 ghost use Rattle.plcr_imagelist.specs.Carrying.{OnlySees};
-ghost use Rattle.plcr_run.specs.inner.Walks.{IsFurther, IsToEnd};
+ghost use Rattle.plcr_run.specs.Walks.{IsFurther, IsToEnd};
 
 use plcr_imagelist::{Hold, ImageList};
 

@@ -31,7 +31,7 @@ steps_same o (suc n) a b same = stepped_same o.plan (o.made + n) (steps o n a) (
 abbrev pub will_be : Option Opened → List Event → List Change
 will_be opened events = changes_in (finished opened events)
 
-will_be_same : (opened : Option Opened) (a b : List Event) → changes_in a ≡ changes_in b → will_be opened a ≡ will_be opened b
+pub will_be_same : (opened : Option Opened) (a b : List Event) → changes_in a ≡ changes_in b → will_be opened a ≡ will_be opened b
 will_be_same None a b same = same
 will_be_same (Some o) a b same = steps_same o (steps_left o) a b same
 

@@ -6,6 +6,7 @@ use Rattle.std.specs.Borrow.{GName}
 use Rattle.std.specs.Io.KnownBytes.{append_known}
 use Rattle.plcr_base.specs.Told.{AppendsUpTo, AppendsProperFront}
 use Rattle.plcr_base.proofs.Appended.{append_twice, proper_first, up_to_end}
+use Rattle.plcr_wire.proofs.Writing.{wrote_twice}
 use Rattle.plcr_wire.specs.Pen.{Pen, sink_pen, Given, PenShows, Puts, PutsProperFront, Wrote, Ended, Lost}
 
 -- a front was put, and then a front of what was left
@@ -96,6 +97,14 @@ wrote_put old new bytes whole put = record {
   sink = put.sink;
   mark = put.mark;
 }
+
+-- two pieces more are held
+pub wrote_both : (name : GName) (told : Option (List ℕ)) (faults : ℕ) (mark held mid more xs ys : List ℕ) (failed : Bool)
+    → failed ≡ false → mid ≡ held ++ xs → more ≡ mid ++ ys → Wrote (sink_pen name told faults mark held failed) (sink_pen name told faults mark more failed) (xs ++ ys)
+wrote_both name told faults mark held mid more xs ys failed whole first second =
+    wrote_twice (sink_pen name told faults mark held failed) (sink_pen name told faults mark mid failed) (sink_pen name told faults mark more failed) xs ys
+    (wrote_put (sink_pen name told faults mark held failed) (sink_pen name told faults mark mid failed) xs whole (held_piece name told faults mark held mid xs failed first))
+    (wrote_put (sink_pen name told faults mark mid failed) (sink_pen name told faults mark more failed) ys whole (held_piece name told faults mark mid more ys failed second))
 
 -- the put of these bytes failed, and is remembered
 pub wrote_cut : (old : Pen) (name : GName) (told : Option (List ℕ)) (faults : ℕ) (mark held : List ℕ) (failed : Bool) (bytes : List ℕ)

@@ -2,10 +2,12 @@
 ghost use Rattle.std.specs.Prelude.{◌≡◌, ℕ, ◌+◌, ◌≤◌, ◌<◌, List, [], ◌∷◌, ◌++◌, length, drop, Option, Some, true, false, OnOk, OnErr, ◌⊎◌};
 ghost use Rattle.std.specs.Io.KnownBytes.{append_known};
 ghost use Rattle.plcr_base.specs.Causes.{Rose};
-ghost use Rattle.plcr_wire.specs.Pen.{sink_pen, Puts, PutsProperFront, HoldsNothing, Ended, Lost};
+ghost use Rattle.plcr_wire.specs.Pen.{sink_pen, Puts, PutsProperFront, HoldsNothing, Ended, Lost, Wrote};
+ghost use Rattle.plcr_wire.specs.Varint.{varint};
 
 use crate::held::{end_held, push_all, put_held};
 use crate::varint::{VARINT_BYTES, push_varint};
+use crate::wires::{Wire, tag_number};
 use crate::{Ink, Put, put_varint};
 use arrayvec::ArrayVec;
 use plcr_io::{PutFailed, Sink};
@@ -101,6 +103,21 @@ impl<'a, K: Sink, const ROOM: usize> Pieces<'a, K, ROOM> {
         push_all(&mut self.held, bytes);
     }
 
+    // Writes the shortest varints of two numbers. Both are held at once where there is room for any two.
+    #[inline(always)]
+    #[tactic(auto, using(crate::proofs::Gathered::wrote_both, crate::proofs::Writing::wrote_twice))]
+    fn two_varints(&mut self, first: u64, second: u64)
+        ensures { Wrote (⟦<Pieces<'a, K, ROOM> as Put>⟧.pen self.old) (⟦<Pieces<'a, K, ROOM> as Put>⟧.pen self.new) (varint first ++ varint second) }
+    {
+        if !self.failed && self.held.remaining_capacity() >= 2 * VARINT_BYTES {
+            push_varint(&mut self.held, first);
+            push_varint(&mut self.held, second);
+        } else {
+            self.varint(first);
+            self.varint(second);
+        }
+    }
+
     // Holds these bytes too. Whenever there is no room for the next byte, what is held goes to the sink first.
     fn gather(&mut self, bytes: &[u8]) -> Result<(), PutFailed>
         ensures ok { OnOk result (Puts (⟦<Pieces<'a, K, ROOM> as Put>⟧.pen self.old) (⟦<Pieces<'a, K, ROOM> as Put>⟧.pen self.new) bytes.now) }
@@ -160,5 +177,17 @@ impl<'a, K: Sink, const ROOM: usize> Ink for Pieces<'a, K, ROOM> {
         } else if put_varint(self, value).is_err() {
             self.failed = true;
         }
+    }
+
+    #[inline(always)]
+    #[tactic(auto, unfolding(crate::specs::Varint::tag, crate::specs::Message::field_spelling))]
+    fn number(&mut self, field: u32, value: u64) {
+        self.two_varints(tag_number(field, Wire::Number.number()), value);
+    }
+
+    #[inline(always)]
+    #[tactic(auto, unfolding(crate::specs::Varint::tag))]
+    fn head(&mut self, field: u32, len: u64) {
+        self.two_varints(tag_number(field, Wire::Bytes.number()), len);
     }
 }

@@ -8,7 +8,7 @@ use arrayvec::ArrayVec;
 use plcr_io::{PutFailed, Sink};
 
 /// From so many bytes on a copy of all is faster than one after the other.
-const COPIED: usize = 16;
+const COPIED: usize = 8;
 
 /// Removes the first bytes.
 fn take_front<const ROOM: usize>(held: &mut ArrayVec<u8, ROOM>, count: usize)

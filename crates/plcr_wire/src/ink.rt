@@ -51,14 +51,12 @@ pub trait Ink: Put {
     }
 
     /// Writes a field that is a text or a run of bytes.
-    #[tactic(auto, using(crate::proofs::Writing::wrote_twice), unfolding(crate::specs::Message::field_spelling))]
     fn text(&mut self, field: u32, bytes: &[u8])
         requires some { 0 < field }
         requires within { field < 2 ^ 29 }
         ensures { Wrote (Self.pen self.old) (Self.pen self.new) (field_spelling (bytes_field field bytes.now)) }
     {
-        self.tag(field, Wire::Bytes);
-        self.varint(bytes.len() as u64);
+        self.head(field, bytes.len() as u64);
         self.raw(bytes)
     }
 }

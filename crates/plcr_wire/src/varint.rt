@@ -27,9 +27,23 @@ pub fn varint_len(value: u64) -> u64
     value.ilog2() as u64 / GROUP_BITS + 1
 }
 
-/// Appends the shortest varint of a number.
-#[tactic(auto, using(crate::proofs::Varints::varint_short))]
+/// Appends the shortest varint of a number. Most have one byte.
+#[inline(always)]
+#[tactic(auto, using(crate::proofs::Varints::varint_small))]
 pub(crate) fn push_varint<const ROOM: usize>(held: &mut ArrayVec<u8, ROOM>, value: u64)
+    requires { array_vec_len held.old + VARINT_BYTES ≤ ROOM }
+    ensures { held.new.items ≡ held.old.items ++ varint value }
+{
+    if value >= BASE {
+        push_groups(held, value);
+    } else {
+        held.push(value as u8);
+    }
+}
+
+/// Appends the shortest varint of a number, group by group.
+#[tactic(auto, using(crate::proofs::Varints::varint_short))]
+fn push_groups<const ROOM: usize>(held: &mut ArrayVec<u8, ROOM>, value: u64)
     requires { array_vec_len held.old + VARINT_BYTES ≤ ROOM }
     ensures { held.new.items ≡ held.old.items ++ varint value }
 {

@@ -4,8 +4,8 @@ use Rattle.plcr_memory.specs.Regions.{Contents, bytes_at}
 use Rattle.plcr_regs.specs.declared.arch.Arch.{Arch}
 use Rattle.plcr_macho.specs.declared.image.Image.{Image}
 use Rattle.plcr_macho.specs.declared.image.ImageFault.{ImageFault}
+use Rattle.plcr_macho.specs.Containing.{first_over}
 use Rattle.plcr_macho.specs.Images.{Listed, listed_at}
-use Rattle.plcr_macho.specs.Index.{index_of, located}
 use Rattle.plcr_macho.specs.Loading.{image_at}
 use Rattle.plcr_symbols.specs.declared.limits.TheConstants.{SYMBOL_NAME_BYTES}
 use Rattle.plcr_symbols.specs.declared.symbol.SymbolAt.{SymbolAt}
@@ -13,13 +13,19 @@ use Rattle.plcr_symbols.specs.Symbols.{symbol_at}
 use Rattle.plcr_report.specs.declared.messages.Frame.{Frame}
 use Rattle.plcr_cursor.specs.declared.given.Given.{Given}
 use Rattle.plcr_cursor.specs.declared.limits.TheConstants.{MOST_FRAMES}
-use Rattle.plcr_cursor.specs.Frames.{reader_number}
+use Rattle.plcr_cursor.specs.declared.located.Located.{Located}
+use Rattle.plcr_cursor.specs.Frames.{located_at, reader_number}
 use Rattle.plcr_encode.specs.declared.frame_rows.FrameRow.{FrameRow}
 use Rattle.plcr_encode.specs.Frames.{lookup_in, pc_of, symbol_of}
 
--- the position of the image that has an address
+-- the position of an image that has a symbol table
+abbrev pub tabled : Option Located → Option ℕ
+tabled None = None
+tabled (Some located) = option_map (λ _. located.place) located.image.symtab
+
+-- that of the image that has an address
 abbrev pub position_of : Contents → Arch → List Listed → ℕ → Option ℕ
-position_of memory arch listed address = located (Some (index_of memory arch listed)) address
+position_of memory arch listed address = tabled (option_map located_at (first_over memory arch address 0 listed))
 
 -- what is kept of a frame as it is told, without its symbol
 abbrev pub row_of : Contents → Arch → List Listed → Given → FrameRow
@@ -45,7 +51,7 @@ symbol_by memory arch listed (Some i) address = symbol_within memory (image_at m
 abbrev pub IsPlaced : List Listed → FrameRow → Type 0
 IsPlaced listed row = IfSome row.position (λ i. i < length listed)
 
--- no image has the address of a row, and it has no symbol
+-- no image with a symbol table has the address of a row, and it has no symbol
 pub record IsBare (row : FrameRow) : Type 0 where
   pub nowhere : row.position ≡ None
   pub nameless : row.symbol ≡ None

@@ -7,8 +7,7 @@ use Rattle.plcr_command.specs.declared.endings.Ending.{Ending}
 use Rattle.plcr_command.specs.declared.endings.Ending.TheVariants.{Done, Stopped, Refused, Misused}
 use Rattle.plcr_command.specs.Seen.{Seen}
 use Rattle.plcr_command.specs.Process.{meanings_of}
-use Rattle.plcr_run.specs.Past.{LeavesWhole, LeavesPart}
-use Rattle.plcr_run.specs.inner.Opening.{PlayIs}
+use Rattle.plcr_run.specs.Past.{LeavesWhole, LeavesPart, PlayIs}
 use Rattle.plcr_command.specs.Jobs.{IsJob}
 use Rattle.plcr_command.specs.Endings.{HasRead}
 use Rattle.plcr_script.specs.Contexts.{context_of}

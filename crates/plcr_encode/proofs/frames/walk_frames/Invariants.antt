@@ -1,5 +1,5 @@
 use Rattle.std.proofs.Common.{◌≡◌, ◌++◌, length, map}
-use Rattle.plcr_cursor.specs.Walks.{IsIndex, arch_of, coming}
+use Rattle.plcr_cursor.specs.Walks.{IsIndex, arch_of, coming, located_last}
 use Rattle.plcr_encode.specs.inner.FrameRows.{row_of}
 use Rattle.plcr_encode.specs.inner.Groups.{walked}
 use Rattle.plcr_encode.proofs.frames.walk_frames.Given as goal
@@ -11,6 +11,7 @@ invariant-loop-pc g l =
     let row = row_of l.fn.known l.state.arch listed in
     record {
       kept : l.rows.items ++ map row (coming l.fn.known listed l.cursor) ≡ l.initial.rows.items ++ walked l.fn.known listed l.bits l.state;
+      over : l.over ≡ located_last l.fn.known listed l.cursor;
       index : IsIndex l.fn.known (arch_of l.cursor) (g.I.Images.images l.images) (g.I.Images.extents l.images);
       arch : arch_of l.cursor ≡ l.state.arch;
       same : g.I.Images.images l.images ≡ listed;

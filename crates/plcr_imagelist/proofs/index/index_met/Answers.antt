@@ -6,14 +6,14 @@ use Rattle.plcr_macho.specs.Loading.{image_at}
 use Rattle.plcr_macho.specs.Spots.{extents_of}
 use Rattle.plcr_macho.proofs.Indexing.{front_more, front_end}
 use Rattle.plcr_nodes.specs.Tokens.{PassState}
-use Rattle.plcr_imagelist.specs.inner.Indexing.{met_on, hold_on}
+use Rattle.plcr_imagelist.specs.inner.Indexing.{met_on, hold_of}
 use Rattle.plcr_imagelist.specs.SameWalk.{walk_itself, walk_again}
 use Rattle.plcr_imagelist.proofs.Meeting.{length-images_on}
 use Rattle.plcr_imagelist.proofs.Reread.{readable, length-named, holding_read, same_read, header_read}
 use Rattle.plcr_imagelist.proofs.index.index_met.Goals as goal
 
 pub loop-at-init : goal.loop-at-init
-loop-at-init c = record { front = refl; few = omega arith; held = λ ended low h. (h, walk_itself (hold_on c.args.pass.now c.args.met.now ended)); table = refl; nodes = refl }
+loop-at-init c = record { front = refl; few = omega arith; held = λ ended low h. (h, walk_itself (hold_of c.args.pass.now c.args.met.now ended)); table = refl; nodes = refl }
 
 pub payload-header-requires-clause-known : goal.payload-header-requires-clause-known
 payload-header-requires-clause-known c =
@@ -60,7 +60,7 @@ loop-at-preserved c =
       held = λ ended low h.
           let k = c.loop-at.invariant.held ended low h in (
             holding_read old node 0 found new met ended low read k.0,
-            walk_again (hold_on start met ended) (hold_on old met ended) (hold_on new met ended) k.1 (same_read old node 0 found new met ended low read k.0),
+            walk_again (hold_of start met ended) (hold_of old met ended) (hold_of new met ended) k.1 (same_read old node 0 found new met ended low read k.0),
           );
       table = ap (λ (s : PassState). s.table) read.now ∙ c.loop-at.invariant.table;
       nodes = ap (λ (s : PassState). s.nodes) read.now ∙ c.loop-at.invariant.nodes;

@@ -1,7 +1,7 @@
 use Rattle.std.proofs.Common.{◌≡◌}
 use Rattle.plcr_imagelist.specs.Holds.{IsWalking}
 use Rattle.plcr_imagelist.specs.Carrying.{OnlySees}
-use Rattle.plcr_run.specs.inner.Walks.{Meeting}
+use Rattle.plcr_run.specs.Walks.{Meeting}
 use Rattle.plcr_run.proofs.walking.walk.Given as goal
 
 abbrev pub invariant-loop-turn : goal.invariant-loop-turn

@@ -1,7 +1,7 @@
 use Rattle.std.proofs.Common.{◌≡◌, ℕ, ◌-◌, length}
 use Rattle.plcr_imagelist.specs.Holds.{IsWalking}
 use Rattle.plcr_imagelist.specs.Carrying.{OnlySees}
-use Rattle.plcr_run.specs.inner.Walks.{Meeting}
+use Rattle.plcr_run.specs.Walks.{Meeting}
 use Rattle.plcr_run.proofs.walking.walk_to_end.Given as goal
 
 abbrev pub invariant-loop : goal.invariant-loop

@@ -12,7 +12,7 @@ use Rattle.plcr_script.proofs.SameContexts.{same_writable}
 use Rattle.plcr_command.specs.Seen.{seen}
 use Rattle.plcr_command.specs.Process.{fault_at}
 use Rattle.plcr_command.proofs.Reported.{report_is, threads_writable}
-use Rattle.plcr_run.specs.inner.Opening.{PlayIs}
+use Rattle.plcr_run.specs.Past.{PlayIs}
 use Rattle.plcr_tool.specs.Laws.{IsHandedContext}
 use Rattle.plcr_tool.proofs.report.run_job.Goals as goal
 

@@ -2,12 +2,11 @@ use Rattle.std.proofs.Common.{◌∙◌, ◌++◌, ℕ, List, length, take, drop
 use Rattle.plcr_macho.specs.Index.{Extent, index_of}
 use Rattle.plcr_macho.specs.Spots.{IsIndexOf}
 use Rattle.plcr_imagelist.specs.Holds.{HoldState}
-use Rattle.plcr_imagelist.specs.inner.Indexing.{extents_in, met_on, StaysHeld}
+use Rattle.plcr_imagelist.specs.inner.Indexing.{extents_in, met_on, StaysHeld, hold_of}
 use Rattle.plcr_imagelist.specs.Walk.{images_of, IsSameWalk}
 use Rattle.plcr_imagelist.proofs.Indexed.{with, same_with, made, written_back}
 use Rattle.plcr_imagelist.proofs.Meeting.{length-images_on}
 use Rattle.plcr_imagelist.proofs.Reread.{length-named}
-use Rattle.plcr_imagelist.proofs.Walking.{hold_of}
 use Rattle.plcr_imagelist.proofs.hold.Hold.index.Goals as goal
 
 pub index_met-self-inside-requires-clause-room : goal.index_met-self-inside-requires-clause-room

@@ -3,9 +3,8 @@ use Rattle.plcr_nodes.specs.Tokens.{PassState}
 use Rattle.plcr_imagelist.specs.Holds.{HoldState, IsReleased}
 use Rattle.plcr_imagelist.specs.inner.Holding.{walker_state}
 use Rattle.plcr_imagelist.proofs.Passing.{may_retire, out_retired, released_left}
-use Rattle.plcr_imagelist.specs.inner.Indexing.{extents_in}
+use Rattle.plcr_imagelist.specs.inner.Indexing.{extents_in, hold_of}
 use Rattle.plcr_imagelist.proofs.Indexed.{released_with}
-use Rattle.plcr_imagelist.proofs.Walking.{hold_of}
 use Rattle.plcr_imagelist.proofs.hold.Hold.leave.Goals as goal
 
 pub retire-requires-clause-announced : goal.retire-requires-clause-announced

@@ -5,8 +5,7 @@ use Rattle.plcr_nodes.specs.Tokens.{PassState}
 use Rattle.plcr_imagelist.specs.Holds.{HoldState}
 use Rattle.plcr_imagelist.specs.Walk.{images_of, IsSameWalk}
 use Rattle.plcr_macho.specs.Index.{Extent}
-use Rattle.plcr_imagelist.proofs.Walking.{hold_of}
-use Rattle.plcr_imagelist.specs.inner.Indexing.{extents_in}
+use Rattle.plcr_imagelist.specs.inner.Indexing.{extents_in, hold_of}
 use Rattle.plcr_imagelist.proofs.Indexed.{with, same_with}
 use Rattle.plcr_imagelist.proofs.Reread.{readable, length-named, holding_read, same_read, length_read, bytes_read}
 use Rattle.plcr_imagelist.proofs.hold.Hold.name_len_at.Goals as goal

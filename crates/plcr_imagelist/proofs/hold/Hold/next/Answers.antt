@@ -7,9 +7,9 @@ use Rattle.plcr_imagelist.specs.Holds.{HoldState, IsNext, IsWalking}
 use Rattle.plcr_imagelist.specs.inner.Holding.{IsHolding, walker_state}
 use Rattle.plcr_imagelist.proofs.Meeting.{among_last, length-images_on}
 use Rattle.plcr_macho.specs.Index.{Extent}
-use Rattle.plcr_imagelist.specs.inner.Indexing.{extents_in}
+use Rattle.plcr_imagelist.specs.inner.Indexing.{extents_in, hold_of}
 use Rattle.plcr_imagelist.proofs.Indexed.{with, next_with, walking_with}
-use Rattle.plcr_imagelist.proofs.Walking.{hold_of, holding_ended, next_ended, holding_met, next_met}
+use Rattle.plcr_imagelist.proofs.Walking.{holding_ended, next_ended, holding_met, next_met}
 use Rattle.plcr_imagelist.specs.Carrying.{OnlySees}
 use Rattle.plcr_imagelist.proofs.Sees.{only_sees}
 use Rattle.plcr_imagelist.proofs.hold.Hold.next.Goals as goal

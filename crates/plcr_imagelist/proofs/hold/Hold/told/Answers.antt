@@ -3,8 +3,7 @@ use Rattle.plcr_nodes.specs.Tokens.{NoteState, PassState}
 use Rattle.plcr_imagelist.specs.Holds.{HoldState}
 use Rattle.plcr_imagelist.specs.Tellings.{IsHoldTold}
 use Rattle.plcr_macho.specs.Index.{Extent}
-use Rattle.plcr_imagelist.proofs.Walking.{hold_of}
-use Rattle.plcr_imagelist.specs.inner.Indexing.{extents_in}
+use Rattle.plcr_imagelist.specs.inner.Indexing.{extents_in, hold_of}
 use Rattle.plcr_imagelist.proofs.Indexed.{with, told_with, walking_with}
 use Rattle.plcr_imagelist.proofs.Told.{holding_told, hold_told}
 use Rattle.plcr_imagelist.specs.Carrying.{OnlySees}

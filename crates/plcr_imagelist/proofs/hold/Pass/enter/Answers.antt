@@ -3,7 +3,8 @@ use Rattle.plcr_nodes.specs.Tokens.{PassState}
 use Rattle.plcr_macho.proofs.Indexing.{settled_none}
 use Rattle.plcr_imagelist.specs.Holds.{WalkerState, IsHeld}
 use Rattle.plcr_imagelist.specs.inner.Holding.{IsHolding}
-use Rattle.plcr_imagelist.proofs.Walking.{holding_entered, hold_of}
+use Rattle.plcr_imagelist.specs.inner.Indexing.{hold_of}
+use Rattle.plcr_imagelist.proofs.Walking.{holding_entered}
 use Rattle.plcr_imagelist.proofs.Passing.{glanced_few, glanced_retired, glanced_outside, announced_made, may_enter, held_entered}
 use Rattle.plcr_imagelist.proofs.hold.Pass.enter.Goals as goal
 

@@ -1,6 +1,6 @@
 use Rattle.std.proofs.Common.{◌≡◌, ◌+◌, ◌≤◌, ◌++◌, length}
 use Rattle.plcr_wire.specs.Varint.{varint}
-use Rattle.plcr_wire.proofs.varint.push_varint.Given as goal
+use Rattle.plcr_wire.proofs.varint.push_groups.Given as goal
 
 -- what is held and what is left make up the whole, for which there is room
 abbrev pub invariant-loop-rest : goal.invariant-loop-rest

@@ -2,7 +2,7 @@
 use Rattle.std.proofs.Common.{rules, arith, ap, length}
 use Rattle.plcr_wire.proofs.Varints.{varint_large, varint_some}
 use Rattle.plcr_wire.proofs.Holding.{varint_held, varint_last}
-use Rattle.plcr_wire.proofs.varint.push_varint.Goals as goal
+use Rattle.plcr_wire.proofs.varint.push_groups.Goals as goal
 
 pub push-requires : goal.push-requires
 push-requires g c = (search rules, let some = varint_some c.loop-rest.rest in let room = c.loop-rest.invariant.room in omega (arith, some, room))
