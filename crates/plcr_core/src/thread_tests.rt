@@ -53,6 +53,9 @@ fn threads_are_the_first_accepted_groups(rt: HostRuntime) -> Result<(), Fail> {
     );
     let many = Err(CoreFault::TooManyThreads { count: 4097 });
     assert_eq!(rt; first_of(alloc, threads_file(alloc, 4097)?), many);
+    // All groups are counted, however many there are.
+    let more = Err(CoreFault::TooManyThreads { count: 65_536 });
+    assert_eq!(rt; first_of(alloc, threads_file(alloc, 65_536)?), more);
     Ok(())
 }
 
@@ -131,14 +134,23 @@ struct Unread<'a> {
     count: usize,
 }
 
-// The rip of a thread in a wrapped state, and cores whose states are those of another processor or
+// The registers of the first thread.
+fn values_of(alloc: Global, file: Vec<u8>) -> Result<Option<[Option<u64>; 34]>, CoreFault> {
+    let core = read_core(alloc, file)?;
+    Ok(core.threads.first().map(|thread| thread.value))
+}
+
+// A state in a wrapping state is that state, and cores whose states are those of another processor or
 // width.
 #[test]
 fn states_go_by_the_processor(rt: HostRuntime) -> Result<(), Fail> {
     let alloc = rt.alloc();
     let known = [(16, 7)];
     let wrapped = state_file(alloc, X86_64, 192, &[7, 44, 4, 42], 21, &known)?;
-    assert_eq!(rt; first_of(alloc, wrapped), Ok((1, Some(7))));
+    let plain = state_file(alloc, X86_64, 184, &[4, 42], 21, &known)?;
+    let (whole, values) = (values_of(alloc, wrapped), values_of(alloc, plain));
+    assert!(rt; whole.is_ok() && whole == values);
+    assert!(rt; whole.is_ok_and(|values| values.is_some_and(|value| value[16] == Some(7))));
     let none = [
         // A state of 32-bit registers, whose flavor is 1 on both.
         Unread {

@@ -68,15 +68,15 @@ pub fn walked<I: Images>(
     let mut keeping = Cursor::new(state, bits);
     let mut known = Known::new(memory);
     let mut located = Cursor::new(state, bits);
-    let mut over = located.locate(&mut known, images);
+    let over = located.locate(&mut known, images);
     let mut told = Vec::new(alloc);
     let mut same = cursor.lookup().is_none() && cursor.by().is_none() && over.is_none();
     for _ in 0..=MOST_FRAMES {
         let pc = cursor.next(memory, images);
         let kept = keeping.next_with(&mut known, images);
         same &= pc == kept && tell(&cursor, 0) == tell(&keeping, 0);
+        let over = located.locate(&mut known, images);
         same &= pc == located.next_over(&mut known, &over) && tell(&cursor, 0) == tell(&located, 0);
-        over = located.locate(&mut known, images);
         if let Some(pc) = pc {
             told.push(tell(&cursor, pc))?;
         }

@@ -197,8 +197,8 @@ fn a_common_information_entry_may_be_anywhere_in_the_section(rt: HostRuntime) ->
         // Before the section, and far before it.
         (23, Step::Bad(2)),
         (u32::MAX, Step::Bad(2)),
-        // Bytes that are no entry: the length 0x10000 is that of the code factor and what follows,
-        // and so the version is a part of an instruction.
+        // Bytes that are no entry: the version would be a byte of the start, and a part of an
+        // instruction.
         (1, Step::Bad(4)),
         (14, Step::Bad(4)),
     ];

@@ -1,9 +1,6 @@
 use crate::cases::{INSTRUCTION_FAULTS, ROWS};
 use crate::fixtures::*;
-use crate::{
-    CallFrameFault, find, instructions_are_spelled, rows_end_at_locations, step, step_from,
-};
-use plcr_dwarf_expr::ExprFault;
+use crate::{find, instructions_are_spelled, rows_end_at_locations, step, step_from};
 use plcr_macho::Part;
 use plcr_regs::{Arch, Frame, Step};
 use std::alloc::Global;
@@ -178,8 +175,12 @@ fn faults_of_instructions_have_their_numbers(rt: HostRuntime) -> Result<(), Fail
     // Sixteen rows are remembered.
     let found = by_instructions(rt.alloc(), &[0x0a; 16])?;
     assert!(rt; found == caller(0xb1, 0x7108, WORD + 0x7100));
-    let overflow = CallFrameFault::Expression(ExprFault::Overflow);
-    assert_eq!(rt; overflow.number(), 24);
+    // An expression of 65 numbers, one more than its room.
+    let mut pushes = [0x30; 67];
+    pushes[0] = 0x0f;
+    pushes[1] = 65;
+    let found = by_instructions(rt.alloc(), &pushes)?;
+    assert!(rt; found == Step::Bad(24));
     Ok(())
 }
 

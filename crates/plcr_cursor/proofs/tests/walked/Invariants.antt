@@ -5,6 +5,7 @@ use Rattle.plcr_cursor.proofs.tests.walked.Given as goal
 abbrev pub invariant-loop : goal.invariant-loop
 invariant-loop g l = record {
   index : IsIndex l.memory (arch_of l.cursor) (g.I.Images.images l.images) (g.I.Images.extents l.images);
-  arch : arch_of l.keeping ≡ arch_of l.cursor;
+  keeping : arch_of l.keeping ≡ arch_of l.cursor;
+  located : arch_of l.located ≡ arch_of l.cursor;
   known : l.known ≡ l.memory;
 }
