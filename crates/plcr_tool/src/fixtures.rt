@@ -40,6 +40,8 @@ pub enum Core {
     Overlapping,
     Wrapping,
     WithoutThread,
+    /// Its thread's state stands in a wrapping state.
+    WrappedState,
 }
 
 fn add_u32s(bytes: &mut Vec<u8>, numbers: &[u32]) -> Result<(), AllocError> {
@@ -95,6 +97,10 @@ fn add_image(bytes: &mut Vec<u8>, k: u32) -> Result<(), AllocError>
 
 fn add_thread(bytes: &mut Vec<u8>) -> Result<(), AllocError> {
     add_u32s(bytes, &[4, 184, 4, 42])?;
+    add_state(bytes)
+}
+
+fn add_state(bytes: &mut Vec<u8>) -> Result<(), AllocError> {
     for register in 0..21u32 {
         let value = match register {
             7 => 0x7000,
@@ -113,6 +119,7 @@ fn core_bytes(alloc: Global, core: Core) -> Result<Vec<u8>, AllocError> {
         Core::Overlapping | Core::Wrapping => (4, 3, 328),
         Core::WithoutThread => (4, 1, 72),
         Core::WithImages => return image_core(alloc, 8, 1),
+        Core::WrappedState => (4, 2, 264),
         _ => (4, 2, 256),
     };
     add_u32s(
@@ -127,6 +134,10 @@ fn core_bytes(alloc: Global, core: Core) -> Result<Vec<u8>, AllocError> {
     }
     match core {
         Core::WithoutThread => {}
+        Core::WrappedState => {
+            add_u32s(&mut bytes, &[4, 192, 7, 44, 4, 42])?;
+            add_state(&mut bytes)?
+        }
         _ => add_thread(&mut bytes)?,
     }
     if matches!(core, Core::Cut) {

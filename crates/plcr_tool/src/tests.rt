@@ -72,70 +72,99 @@ fn tells_the_forms(rt: HostRuntime) -> Result<(), Fail> {
     Ok(())
 }
 
+// A wrapping state is the state that it holds.
+#[test]
+fn a_wrapped_state_is_reported_alike(rt: HostRuntime) -> Result<(), Fail> {
+    let alloc = rt.alloc();
+    let mut desk = desk(
+        alloc,
+        Core::WrappedState,
+        b"report 0 a\n",
+        Vec::new(alloc),
+        Vec::new(alloc),
+    )?;
+    let mut lines = lines(alloc)?;
+    let status = report_command(alloc, "c", "s", &mut desk, &mut lines, &mut None);
+    assert_eq!(rt; status, 0);
+    assert_eq!(rt; lines.bytes(), b"1 report a 271 0 0 0\n".as_slice());
+    assert_eq!(rt; desk.file("a").ok_or("not kept")?, REPORT.as_slice());
+    Ok(())
+}
+
+// A run that ends with a line of its own.
+#[derive(Clone, Copy)]
+struct Ended {
+    core: Core,
+    script: &'static [u8],
+    // The number of the desk's call that fails, from 1; 0 where none does.
+    failing: u32,
+    status: u8,
+    said: &'static str,
+    // Whether the first output was kept, and the second begun.
+    kept: bool,
+}
+
+// The script takes one report.
+fn of_core(core: Core, status: u8, said: &'static str) -> Ended {
+    Ended {
+        core,
+        script: b"report 0 a\n",
+        failing: 0,
+        status,
+        said,
+        kept: false,
+    }
+}
+
+fn of_script(script: &'static [u8], said: &'static str) -> Ended {
+    Ended {
+        script,
+        ..of_core(Core::Whole, 4, said)
+    }
+}
+
+fn of_call(failing: u32, status: u8, said: &'static str) -> Ended {
+    Ended {
+        failing,
+        ..of_core(Core::Whole, status, said)
+    }
+}
+
 #[test]
 fn refuses_and_stops(rt: HostRuntime) -> Result<(), Fail> {
     let alloc = rt.alloc();
-    let plain = b"report 0 a\n".as_slice();
-    let cases: [(Core, &[u8], u32, u8, &str, bool); 13] = [
-        (Core::Cut, plain, 0, 3, "core truncated 100\n", false),
-        (
-            Core::Executable,
-            plain,
-            0,
-            3,
-            "core notcore 4277009103 2\n",
-            false,
-        ),
-        (Core::Overlapping, plain, 0, 3, "core overlap 0 1\n", false),
-        (Core::Wrapping, plain, 0, 3, "core wraps 1\n", false),
-        (Core::WithoutThread, plain, 0, 3, "core nothread\n", false),
-        (
-            Core::Whole,
-            b"# one\n\nreport 0 a\nreport 0x1 a",
-            0,
-            4,
-            "script 1 4 6\n",
-            false,
-        ),
-        (
-            Core::Whole,
-            b"report 0 a\r\n",
-            0,
-            4,
-            "script 1 1 1\n",
-            false,
-        ),
-        (Core::Whole, b"jump 1", 0, 4, "script 1 1 1\n", false),
-        (Core::Whole, plain, 1, 2, "cannot read c\n", false),
-        (Core::Whole, plain, 2, 2, "cannot read s\n", false),
-        (Core::Whole, plain, 3, 5, "cannot write a\n", false),
-        (Core::Whole, plain, 4, 5, "cannot write a\n", false),
-        (
-            Core::Whole,
-            b"report 0 a\nreport 15 b\n",
-            0,
-            5,
-            "1 report a 271 0 0 0\ncannot write b\n",
-            true,
-        ),
+    let two = Ended {
+        script: b"report 0 a\nreport 15 b\n",
+        kept: true,
+        ..of_core(Core::Whole, 5, "1 report a 271 0 0 0\ncannot write b\n")
+    };
+    let cases = [
+        of_core(Core::Cut, 3, "core truncated 100\n"),
+        of_core(Core::Executable, 3, "core notcore 4277009103 2\n"),
+        of_core(Core::Overlapping, 3, "core overlap 0 1\n"),
+        of_core(Core::Wrapping, 3, "core wraps 1\n"),
+        of_core(Core::WithoutThread, 3, "core nothread\n"),
+        of_script(b"# one\n\nreport 0 a\nreport 0x1 a", "script 1 4 6\n"),
+        of_script(b"report 0 a\r\n", "script 1 1 1\n"),
+        of_script(b"jump 1", "script 1 1 1\n"),
+        of_call(1, 2, "cannot read c\n"),
+        of_call(2, 2, "cannot read s\n"),
+        of_call(3, 5, "cannot write a\n"),
+        of_call(4, 5, "cannot write a\n"),
+        two,
     ];
-    for (core, script, failing, want, said, kept) in cases {
-        let mut desk = desk(
-            alloc,
-            core,
-            script,
-            vec![in alloc; failing]?,
-            vec![in alloc; 2]?,
-        )?;
+    for case in cases {
+        let failing = vec![in alloc; case.failing]?;
+        let mut desk = desk(alloc, case.core, case.script, failing, vec![in alloc; 2]?)?;
         let mut lines = lines(alloc)?;
         let status = report_command(alloc, "c", "s", &mut desk, &mut lines, &mut None);
-        assert_eq!(rt; status, want);
-        assert_eq!(rt; lines.bytes(), said.as_bytes());
-        assert_eq!(rt; desk.file("a").is_some(), kept);
+        assert_eq!(rt; status, case.status);
+        assert_eq!(rt; lines.bytes(), case.said.as_bytes());
+        assert_eq!(rt; desk.file("a").is_some(), case.kept);
         assert!(rt; desk.file("b").is_none());
         assert_eq!(rt;
             desk.dropped(0).map(|front| front.len()),
-            if kept { Some(100) } else { None }
+            if case.kept { Some(100) } else { None }
         );
     }
     Ok(())
