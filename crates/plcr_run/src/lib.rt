@@ -7,6 +7,8 @@ mod ending;
 mod passes;
 mod reporting;
 mod running;
+#[cfg(test)]
+mod script_tests;
 mod scripts;
 mod slots;
 mod stepping;
