@@ -19,8 +19,8 @@ use plcr_memory::Memory;
 use plcr_regs::{Frame, Outcome};
 use std::marker::Model;
 
-/// The indexes of so many images are kept: as many as a list of images can have.
-pub const KNOWN_INDEXES: usize = 4096;
+/// The indexes of so many images are kept.
+pub const KNOWN_INDEXES: usize = 1024;
 
 /// So many pages are kept.
 pub const KNOWN_PAGES: usize = 1024;

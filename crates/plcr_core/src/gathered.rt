@@ -32,13 +32,13 @@ impl Gathered {
         }
     }
 
-    fn add(&mut self, gain: Gain) -> Result<(), AllocError>
+    fn add(&mut self, gain: &Gain) -> Result<(), AllocError>
         requires few { self.old.count + 1 < 2 ^ 32 }
         requires kept { length self.old.threads.items ≤ MOST_THREADS }
-        ensures { OnOk result (gains self.new ≡ with_gain (gains self.old) gain) }
+        ensures { OnOk result (gains self.new ≡ with_gain (gains self.old) gain.now) }
     {
         add_region(&mut self.regions, gain.region)?;
-        add_thread(&mut self.threads, gain.thread)?;
+        add_thread(&mut self.threads, &gain.thread)?;
         self.count += u32::from(gain.thread.is_some());
         Ok(())
     }
@@ -54,9 +54,9 @@ fn add_region(regions: &mut Vec<Region>, region: Option<Region>) -> Result<(), A
 }
 
 // Appends the thread where fewer than the most are kept.
-fn add_thread(threads: &mut Vec<Registers>, thread: Option<Registers>) -> Result<(), AllocError>
+fn add_thread(threads: &mut Vec<Registers>, thread: &Option<Registers>) -> Result<(), AllocError>
     requires { length threads.old.items ≤ MOST_THREADS }
-    ensures { OnOk result (threads.new.items ≡ take MOST_THREADS (threads.old.items ++ option_to_list thread)) }
+    ensures { OnOk result (threads.new.items ≡ take MOST_THREADS (threads.old.items ++ option_to_list thread.now)) }
 {
     let Some(thread) = thread else {
         return Ok(());
@@ -64,7 +64,7 @@ fn add_thread(threads: &mut Vec<Registers>, thread: Option<Registers>) -> Result
     if threads.len() >= MOST_THREADS {
         return Ok(());
     }
-    threads.push(thread)?;
+    threads.push(*thread)?;
     Ok(())
 }
 
@@ -83,13 +83,14 @@ pub fn gather(alloc: Global, file: &[u8], header: &Header) -> Result<Gathered, C
     ensures backed { IfOk result (λ found. All (IsBacked file.now) found.regions.items) }
 {
     let mut found = Gathered::new(alloc);
+    let mut gain = Gain::none();
     let mut at = mach_header_64::LENGTH as u64;
     for index in 0..header.commands {
-        let gain = match gain_at(header.arch, file, header.end, index, at) {
-            Ok(gain) => gain,
+        match gain_at(&mut gain, header.arch, file, header.end, index, at) {
+            Ok(()) => {}
             Err(trouble) => return Err(fault_from(trouble, file.len())),
-        };
-        found.add(gain)?;
+        }
+        found.add(&gain)?;
         at += gain.size;
     }
     Ok(found)

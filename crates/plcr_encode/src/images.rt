@@ -12,7 +12,9 @@ ghost use Rattle.plcr_encode.specs.inner.Rows.{message_fields};
 use crate::fields::{
     Message, message_len, number_len, put_message, put_number, put_text, text_len,
 };
-use crate::names::name_of;
+use crate::names::read_name;
+use arrayvec::ArrayVec;
+use plcr_base::IMAGE_NAME_BYTES;
 use plcr_macho::{ImageFault, Images, parse};
 use plcr_memory::Memory;
 use plcr_regs::Arch;
@@ -127,9 +129,10 @@ impl Message for ImagePart<'_> {
 }
 
 /// Writes the image at an index of the list, and gives the length of what was written. The image is
-/// parsed once and its name is read once.
+/// parsed once and its name is read once, into the room for it.
 fn put_image<I: Images, W: Ink>(
     ink: &mut W,
+    name: &mut ArrayVec<u8, IMAGE_NAME_BYTES>,
     images: &mut I,
     memory: &Memory,
     arch: Arch,
@@ -144,7 +147,7 @@ fn put_image<I: Images, W: Ink>(
     ensures follows { I.follows images.old images.new }
 {
     let header = images.header(i);
-    let name = name_of(images, i);
+    read_name(name, images, i);
     let found = parse(memory, arch, header);
     let part = ImagePart {
         header,
@@ -168,9 +171,10 @@ pub(crate) fn put_images<I: Images, W: Ink>(
     ensures same { I.images images.new ≡ I.images images.old }
     ensures follows { I.follows images.old images.new }
 {
+    let mut name = ArrayVec::new();
     let mut length = 0;
     for i in 0..images.count() {
-        length += put_image(ink, images, memory, arch, i);
+        length += put_image(ink, &mut name, images, memory, arch, i);
     }
     length
 }

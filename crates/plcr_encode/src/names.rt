@@ -23,19 +23,22 @@ fn push_front(name: &mut ArrayVec<u8, IMAGE_NAME_BYTES>, word: u64, count: usize
     }
 }
 
-/// The name of the image at an index.
-pub(crate) fn name_of<I: Images>(images: &mut I, i: usize) -> ArrayVec<u8, IMAGE_NAME_BYTES>
+/// Reads the name of the image at an index, in place of what stood in the room.
+pub(crate) fn read_name<I: Images>(
+    name: &mut ArrayVec<u8, IMAGE_NAME_BYTES>,
+    images: &mut I,
+    i: usize,
+)
     requires inside { i < length (I.images images.old) }
     requires short { IsNamable (listed_at (I.images images.old) i) }
-    ensures name { result.items ≡ (listed_at (I.images images.old) i).name }
+    ensures name { name.new.items ≡ (listed_at (I.images images.old) i).name }
     ensures same { I.images images.new ≡ I.images images.old }
     ensures follows { I.follows images.old images.new }
 {
+    name.clear();
     let len = images.name_len(i);
-    let mut name = ArrayVec::new();
     for j in 0..len.div_ceil(8) {
         let word = images.name_word(i, j);
-        push_front(&mut name, word, (len - 8 * j).min(8));
+        push_front(name, word, (len - 8 * j).min(8));
     }
-    name
 }

@@ -1,5 +1,5 @@
 //! Lines of text, gathered in a buffer of fixed size.
-ghost use Rattle.std.specs.Prelude.{◌≡◌, ◌↔◌, ◌+◌, ◌<◌, ◌≤◌, ◌++◌, length, decimal, IfSome, IsNone, OnOk, OnErr};
+ghost use Rattle.std.specs.Prelude.{◌≡◌, ◌↔◌, ◌+◌, ◌<◌, ◌≤◌, ◌++◌, length, decimal, [], OnSome, IsNone, OnOk, OnErr};
 ghost use Rattle.std.specs.Io.KnownBytes.{append_known};
 ghost use Rattle.plcr_base.specs.Causes.{Rose};
 ghost use Rattle.plcr_base.specs.Told.{AppendsProperFront};
@@ -50,22 +50,23 @@ pub fn put_parts<K: Sink>(
     ensures later { K.faults sink.old ≤ K.faults sink.new }
     ensures mark { K.mark sink.new ≡ K.mark sink.old }
 {
-    match line_of(head, middle, tail) {
-        Some(line) => put_all(sink, line.as_slice()),
+    let mut line = ArrayVec::new();
+    match join(&mut line, head, middle, tail) {
+        Some(()) => put_all(sink, line.as_slice()),
         None => put_each(sink, head, middle, tail),
     }
 }
 
-/// The line of three parts, where there is room for it.
-fn line_of(head: &[u8], middle: &[u8], tail: &[u8]) -> Option<ArrayVec<u8, LINE_ROOM>>
-    ensures whole { IfSome result (λ line. line.items ≡ head.now ++ middle.now ++ tail.now) }
+/// Makes the line of three parts in an empty one, where there is room for it.
+fn join(line: &mut ArrayVec<u8, LINE_ROOM>, head: &[u8], middle: &[u8], tail: &[u8]) -> Option<()>
+    requires { line.old.items ≡ [] }
+    ensures whole { OnSome result (line.new.items ≡ head.now ++ middle.now ++ tail.now) }
     ensures long { IsNone result ↔ (LINE_ROOM < length head.now + length middle.now + length tail.now) }
 {
-    let mut line = ArrayVec::new();
     line.try_extend_from_slice(head).ok()?;
     line.try_extend_from_slice(middle).ok()?;
     line.try_extend_from_slice(tail).ok()?;
-    Some(line)
+    Some(())
 }
 
 /// Writes the three parts of a line, one after the other.

@@ -8,7 +8,7 @@ ghost use Rattle.plcr_script.specs.declared.outcomes.TheConstants.{WORD_BYTES, E
 ghost use Rattle.plcr_script.specs.Log.{log_line, numbers, place_text, outcome_text, walk_end};
 
 use arrayvec::ArrayVec;
-use plcr_io::{PutFailed, Sink, add_bytes, add_decimal, put_parts};
+use plcr_io::{PutFailed, Sink, add_bytes, add_decimal, put_all, put_parts};
 
 /// The most bytes of an outcome's word, with the spaces around it.
 const WORD_BYTES: usize = 16;
@@ -19,10 +19,9 @@ const END_BYTES: usize = 8;
 /// The most numbers of an outcome.
 const NUMBERS: usize = 4;
 
-/// Room for what stands before a file, and for what stands behind it: the numbers of a script and a
-/// line with a word, and the numbers of an outcome with a last word and a newline, where each
-/// number has 20 digits at most.
-const PART_ROOM: usize = 96;
+/// Room for a line without a file: the numbers of a script and a line with a word, and the numbers
+/// of an outcome with a last word and a newline, where each number has 20 digits at most.
+const PART_ROOM: usize = 160;
 
 /// What a statement came to.
 #[derive(Clone, Copy)]
@@ -120,11 +119,24 @@ pub fn write_outcome<K: Sink>(
     let mut head = ArrayVec::new();
     add_place(&mut head, script, line);
     add_bytes(&mut head, words.word);
+    if words.file.is_empty() {
+        add_end(&mut head, &words);
+        return put_all(sink, head.as_slice());
+    }
     let mut tail = ArrayVec::new();
-    add_numbers(&mut tail, words.numbers.as_slice());
-    add_bytes(&mut tail, words.end);
-    add_bytes(&mut tail, b"\n");
+    add_end(&mut tail, &words);
     put_parts(sink, head.as_slice(), words.file, tail.as_slice())
+}
+
+/// Adds what stands behind a file: numbers, a last word and a newline.
+fn add_end(text: &mut ArrayVec<u8, PART_ROOM>, words: &OutcomeWords)
+    requires room { array_vec_len text.old + 21 * NUMBERS + END_BYTES + 1 ≤ PART_ROOM }
+    requires short { length words.now.end.now ≤ END_BYTES }
+    ensures { text.new.items ≡ text.old.items ++ numbers words.now.numbers.items ++ words.now.end.now ++ codes "\n" }
+{
+    add_numbers(text, words.numbers.as_slice());
+    add_bytes(text, words.end);
+    add_bytes(text, b"\n");
 }
 
 /// What stands behind the place of a line: the word of its outcome, a file, numbers, and a last

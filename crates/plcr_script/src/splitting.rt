@@ -4,6 +4,8 @@ ghost use Rattle.std.specs.Option.{option_copied};
 ghost use Rattle.plcr_script.specs.Splits as splits;
 ghost use Rattle.plcr_script.specs.Splits.{parts, parts_after, lines, cut_in};
 
+use memchr::memchr;
+
 /// What stands before the first separator, and what stands after it, where there is one.
 pub(crate) fn cut(separator: u8, bytes: &[u8]) -> (&[u8], Option<&[u8]>)
     ensures front { result.0.now ≡ (cut_in separator bytes.now).front }
@@ -22,7 +24,7 @@ pub(crate) fn cut(separator: u8, bytes: &[u8]) -> (&[u8], Option<&[u8]>)
 fn first_place(separator: u8, bytes: &[u8]) -> Option<usize>
     ensures { result ≡ position (λ b. b == separator) bytes.now }
 {
-    bytes.iter().position(|b| *b == separator)
+    memchr(separator, bytes)
 }
 
 /// The first word of a text, and what stands after the space behind it, where there is one.

@@ -9,8 +9,8 @@ returns-in_default c = rw c.in_default.is (kept_same MOST_THREADS c.args.threads
 
 pub returns-then-len-ge-MOST_THREADS : goal.returns-then-len-ge-MOST_THREADS
 returns-then-len-ge-MOST_THREADS c =
-    kept_full MOST_THREADS c.args.threads.now.items (option_to_list c.args.thread) c.requires (omega arith)
+    kept_full MOST_THREADS c.args.threads.now.items (option_to_list c.args.thread.now) c.requires (omega arith)
 
 pub returns : goal.returns
 returns c =
-    rw c.in-Some.is (c.in_ok-push.ensures.items ∙ kept_more MOST_THREADS c.args.threads.now.items c.in-Some.thread (omega arith))
+    rw c.in-Some.is (c.in_ok-push.ensures.items ∙ kept_more MOST_THREADS c.args.threads.now.items c.in-Some.thread.now (omega arith))

@@ -1,6 +1,6 @@
 use Rattle.std.proofs.Common.{◌≡◌, ◌*◌, take}
 use Rattle.plcr_macho.specs.Images.{listed_at}
-use Rattle.plcr_encode.proofs.names.name_of.Given as goal
+use Rattle.plcr_encode.proofs.names.read_name.Given as goal
 
 -- the words before j are read
 abbrev pub invariant-loop-j : goal.invariant-loop-j

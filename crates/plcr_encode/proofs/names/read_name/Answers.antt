@@ -1,7 +1,7 @@
 use Rattle.std.proofs.Common.{◌*◌, ◌<◌, length, ◌∙◌, arith}
 use Rattle.plcr_macho.specs.Images.{listed_at}
 use Rattle.plcr_encode.proofs.Words.{word_more}
-use Rattle.plcr_encode.proofs.names.name_of.Goals as goal
+use Rattle.plcr_encode.proofs.names.read_name.Goals as goal
 
 pub loop-j-preserved : goal.loop-j-preserved
 loop-j-preserved g c =
