@@ -1,5 +1,5 @@
 //! What is made, in memory.
-ghost use Rattle.std.specs.Prelude.{◌≡◌, ◌≤◌, Ok, IfSome};
+ghost use Rattle.std.specs.Prelude.{◌≡◌, ◌≤◌, ℕ, Ok, IfSome};
 ghost use Rattle.plcr_report.specs.declared.messages.Report.{Report};
 ghost use Rattle.plcr_decode.specs.Reads.{reads};
 ghost use Rattle.plcr_core.specs.Cores.{AreThreads};
@@ -39,10 +39,10 @@ pub(crate) fn make(alloc: Global, images: u32) -> Option<Made>
     requires { (1 ≤ images) × (images ≤ MOST_IMAGES) }
     ensures { IfSome result (IsMade images) }
 {
-    let ran = ran_of(alloc, images)?;
-    let counts = counts_in(alloc, &ran.report)?;
     let core = core_in(alloc, images)?;
     let script = script_in(alloc, images)?;
+    let ran = ran_of(alloc, &core, &script)?;
+    let counts = counts_in(alloc, &ran.report)?;
     let Ran { report, writer } = ran;
     Some(Made {
         core,
@@ -86,41 +86,39 @@ fn counts_in(alloc: Global, bytes: &[u8]) -> Option<Counts>
     }
 }
 
-/// The run of the made script on the made core.
-fn ran_of(alloc: Global, images: u32) -> Option<Ran>
-    requires { (1 ≤ images) × (images ≤ MOST_IMAGES) }
-    ensures { IfSome result (λ ran.
-        (core : Core) × IsCore (core_of images) core × IsRun core (made_script images) ran) }
+/// The run of a made script on a made core.
+fn ran_of(alloc: Global, core: &[u8], script: &[u8]) -> Option<Ran>
+    ensures { IfSome result (λ ran. (images : ℕ) → images ≤ MOST_IMAGES → script.now ≡ script_of images →
+        (value : Core) × IsCore core.now value × IsRun value (made_script images) ran) }
 {
-    let core = made_core(alloc, images)?;
-    let script = made_script(alloc, images)?;
+    let core = made_core(alloc, core)?;
+    let script = made_script(alloc, script)?;
     run_made(alloc, &core, &script)
 }
 
-/// The core that is made.
-fn made_core(alloc: Global, images: u32) -> Option<Core>
-    requires { (1 ≤ images) × (images ≤ MOST_IMAGES) }
-    ensures core { IfSome result (IsCore (core_of images)) }
+/// The core of these bytes, which are copied.
+fn made_core(alloc: Global, bytes: &[u8]) -> Option<Core>
+    ensures core { IfSome result (IsCore bytes.now) }
     ensures threads { IfSome result (λ core. AreThreads core.arch core.threads) }
 {
-    let bytes = core_in(alloc, images)?;
+    let Ok(bytes) = Vec::from_slice(alloc, bytes) else {
+        return None;
+    };
     match read_core(alloc, bytes) {
         Ok(core) => Some(core),
         Err(_) => None,
     }
 }
 
-/// The script that is made.
-fn made_script(alloc: Global, images: u32) -> Option<Script>
-    requires { images ≤ MOST_IMAGES }
-    ensures is { IfSome result (λ script. script ≡ scripts.made_script images) }
+/// The script of these bytes.
+fn made_script(alloc: Global, bytes: &[u8]) -> Option<Script>
+    ensures is { IfSome result (λ script. (images : ℕ) → images ≤ MOST_IMAGES → bytes.now ≡ script_of images → script ≡ scripts.made_script images) }
     ensures lawful { IfSome result IsLawful }
 {
-    let bytes = script_in(alloc, images)?;
     if bytes.len() as u64 > SCRIPT_LIMIT {
         return None;
     }
-    match read_script(alloc, &bytes, Mode::Single, &[]) {
+    match read_script(alloc, bytes, Mode::Single, &[]) {
         Ok(script) => Some(script),
         Err(_) => None,
     }
