@@ -1,3 +1,4 @@
+use Rattle.std.proofs.Common.{◌∙◌}
 use Rattle.plcr_maker.proofs.Whole.{kept_whole}
 use Rattle.plcr_maker.proofs.making.make.Goals as goal
 
