@@ -58,7 +58,10 @@ fn core_in(alloc: Global, images: u32) -> Option<Vec<u8>>
     requires { (1 ≤ images) × (images ≤ MOST_IMAGES) }
     ensures { IfSome result (λ bytes. bytes.items ≡ core_of images) }
 {
-    core_bytes(alloc, images).ok()
+    match core_bytes(alloc, images) {
+        Ok(bytes) => Some(bytes),
+        Err(_) => None,
+    }
 }
 
 /// The bytes of the script.
@@ -66,7 +69,10 @@ fn script_in(alloc: Global, images: u32) -> Option<Vec<u8>>
     requires { images ≤ MOST_IMAGES }
     ensures { IfSome result (λ bytes. bytes.items ≡ script_of images) }
 {
-    script_bytes(alloc, images).ok()
+    match script_bytes(alloc, images) {
+        Ok(bytes) => Some(bytes),
+        Err(_) => None,
+    }
 }
 
 /// The counts of the report that these bytes spell; none where they spell none.
@@ -82,7 +88,7 @@ fn counts_in(alloc: Global, bytes: &[u8]) -> Option<Counts>
 
 /// The run of a made script on a made core.
 fn ran_of(alloc: Global, core: &[u8], script: &[u8]) -> Option<Ran>
-    ensures { (images : ℕ) → images ≤ MOST_IMAGES → script.now ≡ script_of images → IfSome result (λ ran.
+    ensures { IfSome result (λ ran. (images : ℕ) → images ≤ MOST_IMAGES → script.now ≡ script_of images →
         (value : Core) × IsCore core.now value × IsRun value (made_script images) ran) }
 {
     let core = made_core(alloc, core)?;
@@ -95,17 +101,25 @@ fn made_core(alloc: Global, bytes: &[u8]) -> Option<Core>
     ensures core { IfSome result (IsCore bytes.now) }
     ensures threads { IfSome result (λ core. AreThreads core.arch core.threads) }
 {
-    let bytes = Vec::from_slice(alloc, bytes).ok()?;
-    read_core(alloc, bytes).ok()
+    let Ok(bytes) = Vec::from_slice(alloc, bytes) else {
+        return None;
+    };
+    match read_core(alloc, bytes) {
+        Ok(core) => Some(core),
+        Err(_) => None,
+    }
 }
 
 /// The script of these bytes.
 fn made_script(alloc: Global, bytes: &[u8]) -> Option<Script>
-    ensures is { (images : ℕ) → images ≤ MOST_IMAGES → bytes.now ≡ script_of images → IfSome result (λ script. script ≡ scripts.made_script images) }
+    ensures is { IfSome result (λ script. (images : ℕ) → images ≤ MOST_IMAGES → bytes.now ≡ script_of images → script ≡ scripts.made_script images) }
     ensures lawful { IfSome result IsLawful }
 {
     if bytes.len() as u64 > SCRIPT_LIMIT {
         return None;
     }
-    read_script(alloc, bytes, Mode::Single, &[]).ok()
+    match read_script(alloc, bytes, Mode::Single, &[]) {
+        Ok(script) => Some(script),
+        Err(_) => None,
+    }
 }

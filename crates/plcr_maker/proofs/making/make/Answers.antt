@@ -1,18 +1,21 @@
+use Rattle.std.proofs.Common.{◌∙◌}
 use Rattle.plcr_maker.proofs.Whole.{kept_whole}
 use Rattle.plcr_maker.proofs.making.make.Goals as goal
 
 pub returns : goal.returns
 returns c =
-    let ran = c.in_ok-ran.ensures in
+    let images = c.args.images in
+    let spelled = c.deref-2.ensures.value ∙ c.in_ok-script.ensures in
+    let ran = c.in_ok-ran.ensures images c.requires.1 spelled in
     let counts = c.in_ok-counts.ensures in
     record {
       value = ran.0;
       core = c.in_ok-core.ensures;
-      is_core = ran.1;
+      is_core = rw (c.deref.ensures.value, c.in_ok-core.ensures) at ran.1;
       script = c.in_ok-script.ensures;
-      kept = kept_whole ran.0 c.args.images c.in_ok-ran.ran.report.items ran.2.report;
+      kept = kept_whole ran.0 images c.in_ok-ran.ran.report.items ran.2.report;
       report = counts.0;
-      read = rw c.deref.ensures.value at counts.1;
+      read = rw c.deref-3.ensures.value at counts.1;
       counts = counts.2;
       left = ran.2.left;
     }
