@@ -16,6 +16,7 @@ use std::alloc::AllocError;
 
 /// Room for a header, and for the command of a segment.
 const HEADER_ROOM: usize = mach_header_64::LENGTH;
+
 const SEGMENT_ROOM: usize = segment_command_64::LENGTH;
 
 /// A segment without sections: its name, where it stands in memory and in the file, and what its memory may be used
