@@ -9,6 +9,16 @@ use Rattle.plcr_imagelist.proofs.Meeting.{length-images_on}
 use Rattle.plcr_imagelist.proofs.Reread.{length-named}
 use Rattle.plcr_imagelist.proofs.hold.Hold.index.Goals as goal
 
+pub lengthen-requires : goal.lengthen-requires
+lengthen-requires c =
+    let h = c.self.inside in
+    let met = length-images_on h.met.items h.pass.history in
+    let few = c.self.invariant.0.walking.few in
+    let spots = c.self.invariant.2 in
+    let count = c.len-count.ensures in
+    let whole = h.met.ok.0 in
+    omega arith
+
 pub index_met-self-inside-requires-clause-room : goal.index_met-self-inside-requires-clause-room
 index_met-self-inside-requires-clause-room c =
     let h = c.self.inside in
