@@ -6,7 +6,7 @@ use std::marker::Model;
 
 /// The room has so many bytes: enough for few writes, and little where many outputs are open at
 /// once.
-pub(crate) const ROOM: usize = 4096;
+pub(crate) const ROOM: usize = 16384;
 
 /// Bytes that wait, in the order in which they came.
 #[derive(Drop)]
