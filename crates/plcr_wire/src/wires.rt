@@ -9,8 +9,11 @@ pub const WIRE_TYPES: u64 = 8;
 
 // The numbers of the wire types in use.
 const NUMBER: u64 = 0;
+
 const FIXED64: u64 = 1;
+
 const BYTES: u64 = 2;
+
 const FIXED32: u64 = 5;
 
 /// A wire type in use.
