@@ -7,13 +7,16 @@ ghost use Rattle.plcr_wire.specs.declared.wires.TheConstants.{WIRE_TYPES};
 /// The lowest bits of a tag tell the wire type, as one of so many numbers.
 pub const WIRE_TYPES: u64 = 8;
 
-// The numbers of the wire types in use.
+// The number of the wire type of varints.
 const NUMBER: u64 = 0;
 
+// That of eight bytes.
 const FIXED64: u64 = 1;
 
+// That of a length and so many bytes.
 const BYTES: u64 = 2;
 
+// That of four bytes.
 const FIXED32: u64 = 5;
 
 /// A wire type in use.
