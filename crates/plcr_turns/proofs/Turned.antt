@@ -1,7 +1,9 @@
 -- The parts of a turn agree after the writer is told and after a line is applied.
 use Rattle.std.proofs.Common.{◌≡◌, ◌≢◌, ℕ, zero, suc, ◌+◌, ◌-◌, ◌^◌, ◌<◌, ◌≤◌, Bool, true, false, cond, eqb, eqb-true, List, [], ◌∷◌, ◌++◌, length, set, sum, sum_by, filter, count_by, slice_get, get_or, Option, Some, None, refl, sym, ap, ◌∙◌, subst, append_assoc, unwrap_or, length-append, append-nil, add-one, arith}
 use Rattle.std.proofs.lemmas.List.Sums.{sum_by-append, sum_by-cons}
-use Rattle.std.proofs.lemmas.List.Elements.{filter-append}
+use Rattle.std.specs.Prelude.{All}
+use Rattle.std.proofs.lemmas.Option.{slice_get_within}
+use Rattle.std.proofs.lemmas.List.Elements.{filter-append, All-nil, All-push}
 use Rattle.plcr_machine.proofs.Cases.{at_or_else, by_cases, eqb_same, not_both}
 use Rattle.plcr_machine.specs.Lists.{changes}
 use Rattle.plcr_machine.specs.declared.entry.Entry.{Entry}
@@ -149,6 +151,7 @@ told_turn old note new turn told rest =
       applied = subst (λ (s : WriterState). Applied (opened_writer s.table s.nodes s.passes) old.journal new.writer) (sym told.writer.now)
           (applied_more (opened_writer old.writer.table old.writer.nodes old.writer.passes) old.journal old.writer new.writer turn.applied sees);
       progress = turn.progress;
+      alone = turn.alone;
     })
 
 -- the line of the script stands last, and its part says so
@@ -227,6 +230,18 @@ same_sizes (asked.Unload header) name old (Unloaded load) new s = same_unloaded 
 
 -- ---- a line is applied
 
+as_many : (script : ℕ) (parts : List Part) → length (one_more script parts) ≡ length parts
+as_many script [] = refl
+as_many zero (part ∷ parts) = refl
+as_many (suc script) (part ∷ parts) = ap suc (as_many script parts)
+
+-- the line is of one of the scripts
+alone_more : (journal : List ChangeLine) (parts : List Part) (script : ℕ) (line : ChangeLine) → line.script ≡ script → script < length parts → All (λ (l : ChangeLine). l.script < length parts) journal
+    → All (λ (l : ChangeLine). l.script < length (one_more script parts)) (journal ++ line ∷ [])
+alone_more journal parts script line is few all =
+    subst (λ n. All (λ (l : ChangeLine). l.script < n) (journal ++ line ∷ [])) (sym (as_many script parts))
+    (All-push (λ (l : ChangeLine). l.script < length parts) journal line all (subst (λ n. n < length parts) (sym is) few))
+
 pub applied_turn : (old : TurnState) (script line : ℕ) (a : Asked) (name : List ℕ) (said : Said) (writer : WriterState) → IsTurn old → HasLeft old.parts script → HasCome a name old.writer said writer
     → IsTurn (turn_state writer (old.journal ++ line_of script line a said ∷ []) (one_more script old.parts))
 applied_turn old script line a name said writer turn left come =
@@ -239,6 +254,7 @@ applied_turn old script line a name said writer turn left come =
       applied = subst (λ (s : WriterState). Applied s (old.journal ++ l ∷ []) writer) (λ i. opened_writer (sym come.table i) (sym same.0 i) (sym same.1 i))
           (applied_line (opened_writer old.writer.table old.writer.nodes old.writer.passes) old.journal old.writer writer l name turn.applied (record { was = turn.rest; does = come.does; rest = come.rest }));
       progress = progress_more old.journal old.parts script left.0 l refl left.1 left.2 turn.progress;
+      alone = alone_more old.journal old.parts script l refl (slice_get_within old.parts script left.0 left.1) turn.alone;
     }
 
 -- a part as the code writes it
@@ -265,6 +281,7 @@ opened_is_turn writer totals parts journal new rest empty are small =
       counted = ap (λ (s : WriterState). changes s.history) new;
       applied = subst (λ (s : WriterState). SeesOthers (opened_writer s.table s.nodes s.passes) s) (sym new) (sees_itself (opened_writer writer.table writer.nodes writer.passes));
       progress = untouched_at totals small;
+      alone = All-nil (λ (l : ChangeLine). l.script < length (untouched totals));
     })
 
 pub room_of_all : (totals : List ℕ) → room_wanted (untouched totals) ≡ sum totals

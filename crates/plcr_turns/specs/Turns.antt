@@ -1,5 +1,5 @@
 -- The turn, and what each line of its journal did to the list.
-use Rattle.std.specs.Prelude.{◌≡◌, ℕ, zero, suc, ◌+◌, ◌-◌, ◌^◌, ◌<◌, ◌≤◌, true, List, [], ◌∷◌, ◌++◌, map, length, Option, Some, None, slice_get}
+use Rattle.std.specs.Prelude.{◌≡◌, ℕ, zero, suc, ◌+◌, ◌-◌, ◌^◌, ◌<◌, ◌≤◌, true, List, [], ◌∷◌, ◌++◌, map, length, Option, Some, None, slice_get, All}
 use Rattle.plcr_base.specs.declared.limits.TheConstants.{IMAGE_NAME_BYTES}
 use Rattle.plcr_base.specs.Limits.{IsImageName}
 use Rattle.plcr_machine.specs.declared.limits.TheConstants.{MOST_CHANGES}
@@ -105,6 +105,8 @@ pub record IsTurn (t : TurnState) : Type 0 where
   pub counted : changes t.writer.history ≡ accepted t.journal
   pub applied : Applied (opened_writer t.writer.table t.writer.nodes t.writer.passes) t.journal t.writer
   pub progress : (script : ℕ) (part : Part) → slice_get t.parts script ≡ Some part → IsPart script part t.journal
+  -- no line is of another script than these
+  pub alone : All (λ (l : ChangeLine). l.script < length t.parts) t.journal
 
 -- how many lines are left of all scripts
 abbrev pub room_wanted : List Part → ℕ

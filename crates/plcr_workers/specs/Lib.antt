@@ -6,3 +6,4 @@ pub mod Log
 pub mod Threads
 pub mod Stopped
 pub mod Known
+pub mod inner

@@ -2,10 +2,13 @@
 //! writer goes from worker to worker. `docs/threads-and-queue.md` has the picture.
 #![tactic(auto)]
 
+mod acting;
+mod drafts;
 mod gate;
 mod laws;
 mod lines;
 mod log;
+mod places;
 
 pub use gate::{Gate, NoGate};
 pub use laws::known_journals_run;

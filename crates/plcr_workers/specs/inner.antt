@@ -1,0 +1,2 @@
+-- Definitions that only private functions' contracts cite.
+pub mod Places
