@@ -18,9 +18,10 @@ pub enum Progress {
     Failed,
 }
 
-/// The output of a report: the place of its statement in its script, from 0.
+/// The output of a report: the number of its script, and the place of its statement there, both from 0.
 #[derive(Drop)]
 pub struct Draft<K> {
+    pub script: u32,
     pub at: usize,
     pub out: K,
     pub progress: Progress,

@@ -1,0 +1,83 @@
+//! A worker, which runs one script.
+ghost use Rattle.std.specs.Prelude.{◌≡◌, ◌≤◌, ◌<◌, length, map, None, IfSome};
+ghost use Rattle.crossbeam_queue.specs.Passes.{view, IsSamePass, IsPassOf, ruled_capacity};
+ghost use Rattle.plcr_turns.specs.Working.{IsWorking};
+ghost use Rattle.plcr_workers.specs.inner.Hired.{IsReady, HasRun};
+
+use crate::acting::{Took, take_statement};
+use crate::drafts::Draft;
+use crate::gate::Gate;
+use crate::lines::{PassLine, PassSaid};
+use crate::places::{Place, come_out};
+use plcr_command::MOST_SCRIPTS;
+use plcr_encode::Context;
+use plcr_imagelist::{ImageList, Pass};
+use plcr_io::Sink;
+use plcr_script::{Process, Script};
+use plcr_turns::{TurnPass, TurnQueue};
+use std::sync::Wait;
+
+/// A worker: the number of its script, from 0, its passes of the queue and of the list, the outputs of its reports, and the
+/// lines of its script that don't stand in the journal.
+#[derive(Drop)]
+pub struct Worker<K> {
+    pub(crate) script: u32,
+    pub(crate) turns: TurnPass,
+    pub(crate) image: Option<Pass>,
+    pub(crate) drafts: Vec<Draft<K>>,
+    pub(crate) lines: Vec<PassLine>,
+}
+
+impl<K: Sink> Worker<K> {
+    /// Runs the script, up to its end or to the first output that fails. The pass comes out at the end.
+    pub(crate) fn run<R: Wait, P: Process, G: Gate>(
+        &mut self,
+        rt: &R,
+        queue: &TurnQueue,
+        list: &ImageList,
+        script: &Script,
+        process: &P,
+        context: &Context,
+        gate: &G,
+    )
+        requires context { P.accepts process.now context.now }
+        requires queue { ruled_capacity queue.now ≡ 1 }
+        requires ready { IsReady queue.now list.now script.now self.old }
+        ensures run { HasRun queue.now list.now script.now self.old self.new }
+    {
+        let Some(pass) = self.image.take() else {
+            return;
+        };
+        let mut place = Place::Out(pass);
+        let mut next = 0;
+        for at in 0..script.len() {
+            let (moved, took) = take_statement(
+                rt,
+                queue,
+                list,
+                process,
+                context,
+                gate,
+                self.script,
+                script.line(at),
+                script.statement(at),
+                &mut self.turns,
+                place,
+                self.drafts.as_mut_slice(),
+                next,
+            );
+            place = moved;
+            match took {
+                Took::Silent => {}
+                Took::Said(said) => {
+                    if let PassSaid::Reported { .. } = said {
+                        next += 1;
+                    }
+                    self.lines.push_reserved(PassLine { at, said });
+                }
+                Took::Unwritten => break,
+            }
+        }
+        self.image = Some(come_out(list, place));
+    }
+}
