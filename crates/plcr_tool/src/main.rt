@@ -19,6 +19,7 @@ mod top;
 
 use plcr_command::{Ending, Refusal, status};
 use plcr_io::{HostDesk, HostOut};
+use plcr_workers::NoGate;
 use std::process::ExitCode;
 use std::{env, io};
 
@@ -35,10 +36,12 @@ fn main(rt: HostRuntime) -> ExitCode {
     };
     let mut past = None;
     ExitCode::from(top::top(
+        &rt,
         rt.alloc(),
         words.as_slice(),
         &mut desk,
         &mut lines,
+        &NoGate,
         &mut past,
     ))
 }
