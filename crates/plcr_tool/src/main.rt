@@ -15,6 +15,8 @@ mod show;
 mod show_tests;
 #[cfg(test)]
 mod tests;
+#[cfg(test)]
+mod threads_tests;
 mod top;
 
 use plcr_command::{Ending, Refusal, status};

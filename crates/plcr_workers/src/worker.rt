@@ -1,15 +1,14 @@
 //! A worker, which runs one script.
-ghost use Rattle.std.specs.Prelude.{◌≡◌, ◌≤◌, ◌<◌, length, map, None, IfSome};
-ghost use Rattle.crossbeam_queue.specs.Passes.{view, IsSamePass, IsPassOf, ruled_capacity};
-ghost use Rattle.plcr_turns.specs.Working.{IsWorking};
-ghost use Rattle.plcr_workers.specs.inner.Hired.{IsReady, HasRun};
+ghost use Rattle.std.specs.Prelude.{◌≡◌};
+ghost use Rattle.crossbeam_queue.specs.Passes.{ruled_capacity};
+ghost use Rattle.plcr_workers.specs.inner.Places.{IsAt};
+ghost use Rattle.plcr_workers.specs.inner.Hired.{IsReady, HasRun, Begins, Goes};
 
 use crate::acting::{Took, take_statement};
 use crate::drafts::Draft;
 use crate::gate::Gate;
 use crate::lines::{PassLine, PassSaid};
 use crate::places::{Place, come_out};
-use plcr_command::MOST_SCRIPTS;
 use plcr_encode::Context;
 use plcr_imagelist::{ImageList, Pass};
 use plcr_io::Sink;
@@ -42,13 +41,37 @@ impl<K: Sink> Worker<K> {
     )
         requires context { P.accepts process.now context.now }
         requires queue { ruled_capacity queue.now ≡ 1 }
-        requires ready { IsReady queue.now list.now script.now self.old }
-        ensures run { HasRun queue.now list.now script.now self.old self.new }
+        requires ready { IsReady queue.now.table.shared.table_id list.now script.now self.old }
+        ensures run { HasRun queue.entry.now.table.shared.table_id list.entry.now script.entry.now self.old self.new }
     {
         let Some(pass) = self.image.take() else {
             return;
         };
-        let mut place = Place::Out(pass);
+        let place = Place::Out(pass);
+        let place = self.take_statements(rt, queue, list, script, process, context, gate, place);
+        self.image = Some(come_out(list, place));
+    }
+
+    /// Takes the statements of the script, up to the first whose output fails.
+    fn take_statements<R: Wait, P: Process, G: Gate>(
+        &mut self,
+        rt: &R,
+        queue: &TurnQueue,
+        list: &ImageList,
+        script: &Script,
+        process: &P,
+        context: &Context,
+        gate: &G,
+        place: Place,
+    ) -> Place
+        requires context { P.accepts process.now context.now }
+        requires queue { ruled_capacity queue.now ≡ 1 }
+        requires begins { Begins queue.now.table.shared.table_id list.now script.now self.old }
+        requires place { IsAt list.now place }
+        ensures goes { Goes queue.entry.now.table.shared.table_id list.entry.now script.entry.now self.old self.new }
+        ensures place { IsAt list.entry.now result }
+    {
+        let mut place = place;
         let mut next = 0;
         for at in 0..script.len() {
             let (moved, took) = take_statement(
@@ -75,9 +98,9 @@ impl<K: Sink> Worker<K> {
                     }
                     self.lines.push_reserved(PassLine { at, said });
                 }
-                Took::Unwritten => break,
+                Took::Unwritten => return place,
             }
         }
-        self.image = Some(come_out(list, place));
+        place
     }
 }
