@@ -1,18 +1,20 @@
 -- How far a worker's script has come, as its statements are taken.
 use Rattle.std.proofs.Common.{◌≡◌, ℕ, zero, suc, ◌+◌, ◌<◌, ◌≤◌, List, [], ◌∷◌, ◌++◌, length, map, take, drop, get_or, slice_get, Option, Some, None, refl, sym, ap, ◌∙◌, subst, length-append, append-nil, arith, absurd}
-use Rattle.std.specs.Prelude.{filter_map, option_map}
-use Rattle.std.proofs.lemmas.List.{take_more, length-map}
+use Rattle.std.specs.Prelude.{filter_map, option_map, IfSome}
+use Rattle.std.proofs.lemmas.List.{take_more, length-map, take-append-drop}
 use Rattle.std.proofs.lemmas.List.Elements.{filter_map-append}
 use Rattle.std.proofs.lemmas.Option.{slice_get_within, get_or_from_slice_get}
 use Rattle.atomic_table.specs.Seated.{TableId}
 use Rattle.plcr_script.specs.declared.statements.Statement.{Statement}
 use Rattle.plcr_script.specs.declared.statements.NumberedStatement.{NumberedStatement}
+use Rattle.plcr_machine.specs.declared.entry.Entry.{Entry}
+use Rattle.plcr_turns.specs.declared.lines.Request.{Request}
 use Rattle.plcr_turns.specs.declared.lines.Asked.{Asked}
 use Rattle.plcr_turns.specs.declared.lines.Wanted.{Wanted}
 use Rattle.plcr_turns.specs.declared.lines.ChangeLine.{ChangeLine}
 use Rattle.plcr_turns.specs.declared.view.View.{View}
-use Rattle.plcr_turns.specs.Lines.{lines_of, wanted_by}
-use Rattle.plcr_turns.specs.Working.{IsWorking, HasNext}
+use Rattle.plcr_turns.specs.Lines.{asked_by, lines_of, wanted_by}
+use Rattle.plcr_turns.specs.Working.{IsWorking, HasNext, AppliesLine}
 use Rattle.plcr_workers.specs.Asking.{asked_in, change_lines}
 use Rattle.plcr_workers.specs.inner.Places.{total_of, Advances}
 use Rattle.plcr_workers.specs.inner.Hired.{SoFar}
@@ -70,3 +72,27 @@ has_next script list statements at line statement asked v s e is =
     let more = ap length (lines_next statements at line statement e ∙ ap (λ (a : Option Asked). change_lines (take at statements) ++ own_lines line a) is) ∙ length-append (change_lines (take at statements)) (record { line = line; asked = asked } ∷ []) in
     let most = few_lines (at + 1) statements in
     (record { script = script; part = s.working.part }, s.working.shares, omega arith)
+
+-- a line that was applied brings the script one further
+pub advanced : (script line : ℕ) (request : Request) (statement : Statement) (v w : View) (seen known : List Entry) (names : List (List ℕ)) → AppliesLine (record { script = script; line = line; request = request }) v seen w known names
+    → asked_in statement ≡ Some (asked_by request) → Advances script line (asked_in statement) v w
+advanced script line request statement v w seen known names a e =
+    subst (λ (asked : Option Asked). Advances script line asked v w) (sym e) (a.wanted, ap total_of a.is ∙ sym (ap total_of a.was))
+
+-- a statement that asks for no change leaves it where it was
+pub stayed : (script line : ℕ) (statement : Statement) (v : View) → asked_in statement ≡ None → Advances script line (asked_in statement) v v
+stayed script line statement v e = subst (λ (asked : Option Asked). Advances script line asked v v) (sym e) refl
+
+-- where a statement asks for a change, the script has a line left
+pub left_if_asked : (script : ℕ) (list : TableId) (statements : List NumberedStatement) (at line : ℕ) (statement : Statement) (v : View) → SoFar script list statements at v
+    → slice_get statements at ≡ Some (record { line = line; statement = statement }) → IfSome (asked_in statement) (λ asked. HasNext v)
+left_if_asked script list statements at line statement v s e = of (asked_in statement) refl
+  where
+    of : (asked : Option Asked) → asked_in statement ≡ asked → IfSome asked (λ a. HasNext v)
+    of None is = tt
+    of (Some asked) is = has_next script list statements at line statement asked v s e is
+
+-- what was known of a statement that asks
+pub next_of : (asked : Option Asked) (a : Asked) (v : View) → asked ≡ Some a → IfSome asked (λ x. HasNext v) → HasNext v
+next_of None a v e h = absurd cc
+next_of (Some b) a v e h = h
