@@ -1,3 +1,4 @@
 pub mod Outcomes
 pub mod Printed
 mod Going
+mod Opened

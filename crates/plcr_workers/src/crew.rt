@@ -1,6 +1,12 @@
 //! The workers of all scripts: hired, run on threads, and taken in again.
-ghost use Rattle.std.specs.Prelude.{◌≡◌};
+ghost use Rattle.std.specs.Prelude.{◌≡◌, ◌≤◌, All, length, IfOk, OnOk, None, Some};
 ghost use Rattle.crossbeam_queue.specs.Passes.{view, IsSamePass, IsPassOf, ruled_capacity};
+ghost use Rattle.plcr_imagelist.specs.Holds.{WalkerState};
+ghost use Rattle.plcr_turns.specs.Gathering.{HasHanded};
+ghost use Rattle.plcr_turns.specs.declared.view.Role.TheVariants.{Chief};
+ghost use Rattle.plcr_workers.specs.Asking.{asked_in, change_lines};
+ghost use Rattle.plcr_workers.specs.declared.worker.Worker.{Worker as W};
+ghost use Rattle.plcr_workers.specs.inner.Hired.{IsHired, IsGone, totals_in, asks_one};
 
 use crate::drafts::Draft;
 use crate::gate::Gate;
@@ -27,7 +33,9 @@ pub(crate) struct Left<K> {
 }
 
 /// How many loads and unloads each script has.
-pub(crate) fn totals_of(alloc: Global, scripts: &[Script]) -> Result<Vec<u32>, AllocError> {
+pub(crate) fn totals_of(alloc: Global, scripts: &[Script]) -> Result<Vec<u32>, AllocError>
+    ensures { IfOk result (λ totals. totals.items ≡ totals_in scripts.now) }
+{
     let mut totals = Vec::with_capacity(alloc, scripts.len())?;
     for script in scripts {
         totals.push_reserved(changes_of(script)?);
@@ -36,23 +44,26 @@ pub(crate) fn totals_of(alloc: Global, scripts: &[Script]) -> Result<Vec<u32>, A
 }
 
 /// How many loads and unloads a script has.
-fn changes_of(script: &Script) -> Result<u32, AllocError> {
+fn changes_of(script: &Script) -> Result<u32, AllocError>
+    ensures { IfOk result (λ count. count ≡ length (change_lines script.now.statements)) }
+{
     let mut count = 0u32;
     for at in 0..script.len() {
-        if is_change(script.statement(at)) {
-            count = match count.checked_add(1) {
-                Some(more) => more,
-                None => return Err(AllocError),
-            };
-        }
+        count = match count.checked_add(asks(script.statement(at))) {
+            Some(more) => more,
+            None => return Err(AllocError),
+        };
     }
     Ok(count)
 }
 
-fn is_change(statement: &Statement) -> bool {
+/// How many changes a statement asks for: one or none.
+fn asks(statement: &Statement) -> u32
+    ensures { result ≡ asks_one (asked_in statement.now) }
+{
     match statement {
-        Statement::Load { .. } | Statement::Unload { .. } => true,
-        _ => false,
+        Statement::Load { .. } | Statement::Unload { .. } => 1,
+        _ => 0,
     }
 }
 
@@ -64,7 +75,15 @@ pub(crate) fn hire<K: Sink + Drop>(
     chief: &mut TurnPass,
     scripts: &[Script],
     images: Vec<Pass>,
-) -> Result<Vec<Worker<K>>, AllocError> {
+) -> Result<Vec<Worker<K>>, AllocError>
+    requires queue { IsPassOf queue.now chief.old }
+    requires handed { HasHanded 0 list.now (totals_in scripts.now) (view chief.old) }
+    requires few { length scripts.now ≤ MOST_SCRIPTS }
+    requires images { All (λ (i : WalkerState). i.table ≡ list.now) images.items }
+    ensures queue { OnOk result (IsSamePass chief.old chief.new) }
+    ensures chief { OnOk result (((view chief.new).role ≡ Chief) × ((view chief.new).turn ≡ None) × ((view chief.new).list ≡ Some list.now)) }
+    ensures hired { IfOk result (λ workers. All (λ (w : W K.row). IsHired queue.now.table.shared.table_id list.now scripts.now w) workers.items) }
+{
     let _ = list;
     let mut images = images;
     images.reverse();
@@ -102,12 +121,20 @@ pub(crate) fn run_all<
     context: &Context,
     gate: &G,
     workers: &mut [Worker<K>],
-) {
+)
+    requires context { P.accepts process.now context.now }
+    requires queue { ruled_capacity queue.now ≡ 1 }
+    requires hired { All (λ (w : W K.row). IsHired queue.now.table.shared.table_id list.now scripts.now w) workers.old }
+    ensures gone { All (λ (w : W K.row). IsGone queue.now.table.shared.table_id list.now scripts.now w) workers.new }
+{
     thread::for_each_mut(
         rt,
         workers,
         MOST_SCRIPTS,
-        &|_, worker: &mut Worker<K>| {
+        &|_, worker: &mut Worker<K>|
+            requires { P.accepts process.now context.now × (ruled_capacity queue.now ≡ 1) × IsHired queue.now.table.shared.table_id list.now scripts.now worker.old }
+            ensures { IsGone queue.entry.now.table.shared.table_id list.entry.now scripts.entry.now worker.new }
+        {
             let script = &scripts[worker.script as usize];
             worker.run(rt, queue, list, script, process, context, gate)
         },
@@ -136,7 +163,14 @@ pub(crate) fn gather<K: Sink + Drop>(
     chief: &mut TurnPass,
     workers: Vec<Worker<K>>,
     room: Left<K>,
-) -> Left<K> {
+) -> Left<K>
+    requires queue { IsPassOf queue.now chief.old }
+    requires chief { ((view chief.old).role ≡ Chief) × ((view chief.old).turn ≡ None) × ((view chief.old).list ≡ Some list.now) }
+    requires gone { All (λ (w : W K.row). IsGone queue.now.table.shared.table_id list.now scripts.now w) workers.items }
+    ensures queue { IsSamePass chief.old chief.new }
+    ensures chief { ((view chief.new).role ≡ Chief) × ((view chief.new).turn ≡ None) × ((view chief.new).list ≡ Some list.now) }
+    ensures images { All (λ (i : WalkerState). i.table ≡ list.now) result.images.items }
+{
     let _ = list;
     let mut left = room;
     let mut workers = workers;

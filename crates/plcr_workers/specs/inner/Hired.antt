@@ -1,11 +1,12 @@
 -- Workers that are about to run, and what they leave.
-use Rattle.std.specs.Prelude.{◌≡◌, ℕ, ◌+◌, ◌<◌, ◌≤◌, List, [], ◌∷◌, length, map, take, Option, Some, None, vec_len, vec_capacity, All, AllPairs}
+use Rattle.std.specs.Prelude.{◌≡◌, ℕ, ◌+◌, ◌<◌, ◌≤◌, List, [], ◌∷◌, length, map, take, Option, Some, None, vec_len, vec_capacity, slice_get, All}
 use Rattle.atomic_table.specs.Seated.{TableId}
 use Rattle.crossbeam_queue.specs.Passes.{view, IsSamePass, IsPassOf}
 use Rattle.plcr_imagelist.specs.Holds.{WalkerState}
 use Rattle.plcr_command.specs.declared.limits.TheConstants.{MOST_SCRIPTS}
 use Rattle.plcr_script.specs.declared.statements.NumberedStatement.{NumberedStatement}
 use Rattle.plcr_script.specs.Scripts.{ScriptValue}
+use Rattle.plcr_turns.specs.declared.lines.Asked.{Asked}
 use Rattle.plcr_turns.specs.declared.view.View.{View}
 use Rattle.plcr_turns.specs.Lines.{lines_of, wanted_by}
 use Rattle.plcr_turns.specs.Working.{IsWorking}
@@ -50,3 +51,28 @@ pub record IsReady {K : Type 0} (queue list : TableId) (script : ScriptValue) (w
 pub record HasRun {K : Type 0} (queue list : TableId) (script : ScriptValue) (old new : Worker K) : Type 0 where
   pub goes : Goes queue list script old new
   pub image : HasImage list new
+
+-- how many lines a statement gives the journal
+abbrev pub asks_one : Option Asked → ℕ
+asks_one None = 0
+asks_one (Some asked) = 1
+
+-- how many load and unload lines scripts have
+abbrev pub totals_in : List ScriptValue → List ℕ
+totals_in scripts = map (λ (script : ScriptValue). length (change_lines script.statements)) scripts
+
+-- a worker is ready to run the script of its number
+pub record IsHired {K : Type 0} (queue list : TableId) (scripts : List ScriptValue) (w : Worker K) : Type 0 where
+  pub script : ScriptValue
+  pub stands : slice_get scripts w.script ≡ Some script
+  pub ready : IsReady queue list script w
+
+-- a worker that has ended: of its script the first statements were taken, and its passes are those of the queue and the list
+pub record IsGone {K : Type 0} (queue list : TableId) (scripts : List ScriptValue) (w : Worker K) : Type 0 where
+  pub script : ScriptValue
+  pub stands : slice_get scripts w.script ≡ Some script
+  pub pass : (w.turns.table_id ≡ queue) × (w.turns.me.1 ≡ [])
+  pub count : ℕ
+  pub so_far : SoFar w.script list script.statements count (view w.turns)
+  pub image : HasImage list w
+  pub lines : All (λ (l : PassLine). l.at < length script.statements) w.lines.items
