@@ -128,7 +128,7 @@ where
     if made.is_ok() {
         run_workers(rt, job, &queue, &list, gate, workers.as_mut_slice());
     }
-    let left = gather(&queue, &list, &mut chief, workers, room);
+    let left = gather(&queue, &list, scripts, &mut chief, workers, room);
     let (writer, journal) = take_last(rt, &queue, &mut chief).end();
     let Left {
         images,

@@ -5,7 +5,6 @@ ghost use Rattle.plcr_imagelist.specs.Holds.{WalkerState};
 ghost use Rattle.plcr_turns.specs.Gathering.{HasHanded};
 ghost use Rattle.plcr_turns.specs.declared.view.Role.TheVariants.{Chief};
 ghost use Rattle.plcr_workers.specs.Asking.{asked_in, change_lines};
-ghost use Rattle.plcr_workers.specs.declared.worker.Worker.{Worker as W};
 ghost use Rattle.plcr_workers.specs.inner.Hired.{IsHired, IsGone, totals_in, asks_one};
 
 use crate::drafts::Draft;
@@ -82,7 +81,7 @@ pub(crate) fn hire<K: Sink + Drop>(
     requires images { All (λ (i : WalkerState). i.table ≡ list.now) images.items }
     ensures queue { OnOk result (IsSamePass chief.old chief.new) }
     ensures chief { OnOk result (((view chief.new).role ≡ Chief) × ((view chief.new).turn ≡ None) × ((view chief.new).list ≡ Some list.now)) }
-    ensures hired { IfOk result (λ workers. All (λ (w : W K.row). IsHired queue.now.table.shared.table_id list.now scripts.now w) workers.items) }
+    ensures hired { IfOk result (λ workers. All (λ w. IsHired queue.now.table.shared.table_id list.now scripts.now w) workers.items) }
 {
     let _ = list;
     let mut images = images;
@@ -124,8 +123,8 @@ pub(crate) fn run_all<
 )
     requires context { P.accepts process.now context.now }
     requires queue { ruled_capacity queue.now ≡ 1 }
-    requires hired { All (λ (w : W K.row). IsHired queue.now.table.shared.table_id list.now scripts.now w) workers.old }
-    ensures gone { All (λ (w : W K.row). IsGone queue.now.table.shared.table_id list.now scripts.now w) workers.new }
+    requires hired { All (λ w. IsHired queue.now.table.shared.table_id list.now scripts.now w) workers.old }
+    ensures gone { All (λ w. IsGone queue.now.table.shared.table_id list.now scripts.now w) workers.new }
 {
     thread::for_each_mut(
         rt,
@@ -160,18 +159,19 @@ pub(crate) fn room_for<K: Sink + Drop>(
 pub(crate) fn gather<K: Sink + Drop>(
     queue: &TurnQueue,
     list: &ImageList,
+    scripts: &[Script],
     chief: &mut TurnPass,
     workers: Vec<Worker<K>>,
     room: Left<K>,
 ) -> Left<K>
     requires queue { IsPassOf queue.now chief.old }
     requires chief { ((view chief.old).role ≡ Chief) × ((view chief.old).turn ≡ None) × ((view chief.old).list ≡ Some list.now) }
-    requires gone { All (λ (w : W K.row). IsGone queue.now.table.shared.table_id list.now scripts.now w) workers.items }
+    requires gone { All (λ w. IsGone queue.now.table.shared.table_id list.now scripts.now w) workers.items }
     ensures queue { IsSamePass chief.old chief.new }
     ensures chief { ((view chief.new).role ≡ Chief) × ((view chief.new).turn ≡ None) × ((view chief.new).list ≡ Some list.now) }
     ensures images { All (λ (i : WalkerState). i.table ≡ list.now) result.images.items }
 {
-    let _ = list;
+    let _ = (list, scripts);
     let mut left = room;
     let mut workers = workers;
     while let Some(worker) = workers.pop() {

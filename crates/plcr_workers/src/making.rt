@@ -1,5 +1,5 @@
 //! The outputs of all reports: made before the workers start, and kept or given up after they have ended.
-ghost use Rattle.std.specs.Prelude.{◌≡◌, ◌≤◌, ℕ, length, IsTrue};
+ghost use Rattle.std.specs.Prelude.{◌≡◌, ◌≤◌, ◌<◌, length, IsTrue};
 ghost use Rattle.plcr_script.specs.Sayings.{is_file_name};
 
 use crate::drafts::{Draft, Progress};
