@@ -103,7 +103,7 @@ fn add_thread(bytes: &mut Vec<u8>) -> Result<(), AllocError> {
     Ok(())
 }
 
-pub fn core_bytes(alloc: Global, core: Core) -> Result<Vec<u8>, AllocError> {
+fn core_bytes(alloc: Global, core: Core) -> Result<Vec<u8>, AllocError> {
     let mut bytes = Vec::new(alloc);
     let (filetype, commands, size) = match core {
         Core::Executable => (2, 2, 256),

@@ -2,11 +2,8 @@ use crate::fixtures::{Core, REPORT, desk, lines};
 use crate::report::report_command;
 use crate::top::top;
 use plcr_io::MemOut;
-use plcr_workers::NoGate;
 use std::alloc::Global;
-use std::sync::Wait;
 use std::test::Fail;
-use std::thread::Threads;
 
 #[test]
 fn reports_one_thread(rt: HostRuntime) -> Result<(), Fail> {
@@ -23,7 +20,7 @@ fn reports_one_thread(rt: HostRuntime) -> Result<(), Fail> {
     let core = String::from_str(alloc, "c")?;
     let script = String::from_str(alloc, "s")?;
     let words = vec![in alloc; report, core, script]?;
-    let status = top(&rt, alloc, words.as_slice(), &mut desk, &mut lines, &NoGate, &mut None);
+    let status = top(alloc, words.as_slice(), &mut desk, &mut lines, &mut None);
     assert_eq!(rt; status, 0);
     assert_eq!(rt; lines.bytes(), b"1 report a.plcrash 271 0 0 0\n".as_slice());
     assert_eq!(rt;
@@ -34,19 +31,14 @@ fn reports_one_thread(rt: HostRuntime) -> Result<(), Fail> {
 }
 
 /// What `top` answers and prints for the first of these words, on a desk with a core and a script.
-fn said<R: Threads + Wait + Sync>(
-    rt: &R,
-    alloc: Global,
-    script: &[u8],
-    words: &[&str],
-) -> Result<(u8, MemOut), Fail> {
+fn said(alloc: Global, script: &[u8], words: &[&str]) -> Result<(u8, MemOut), Fail> {
     let mut owned = Vec::new(alloc);
     for word in words {
         owned.push(String::from_str(alloc, word)?)?;
     }
     let mut desk = desk(alloc, Core::Whole, script, Vec::new(alloc), Vec::new(alloc))?;
     let mut lines = lines(alloc)?;
-    let status = top(rt, alloc, owned.as_slice(), &mut desk, &mut lines, &NoGate, &mut None);
+    let status = top(alloc, owned.as_slice(), &mut desk, &mut lines, &mut None);
     Ok((status, lines))
 }
 
@@ -76,7 +68,7 @@ fn tells_the_forms(rt: HostRuntime) -> Result<(), Fail> {
         ),
     ];
     for (script, words, want, line) in cases {
-        let (status, lines) = said(&rt, alloc, script, words)?;
+        let (status, lines) = said(alloc, script, words)?;
         assert_eq!(rt; status, want);
         assert_eq!(rt; lines.bytes(), line.as_bytes());
     }

@@ -2,3 +2,4 @@ pub mod Outcomes
 pub mod Printed
 mod Going
 mod Opened
+mod Hires

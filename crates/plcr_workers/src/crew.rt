@@ -1,5 +1,5 @@
 //! The workers of all scripts: hired, run on threads, and taken in again.
-ghost use Rattle.std.specs.Prelude.{◌≡◌, ◌≤◌, All, length, IfOk, OnOk, None, Some};
+ghost use Rattle.std.specs.Prelude.{◌≡◌, ◌+◌, ◌≤◌, All, length, vec_len, vec_capacity, IfOk, OnOk, None, Some};
 ghost use Rattle.crossbeam_queue.specs.Passes.{view, IsSamePass, IsPassOf, ruled_capacity};
 ghost use Rattle.plcr_imagelist.specs.Holds.{WalkerState};
 ghost use Rattle.plcr_turns.specs.Gathering.{HasHanded};
@@ -144,7 +144,11 @@ pub(crate) fn run_all<
 pub(crate) fn room_for<K: Sink + Drop>(
     alloc: Global,
     scripts: &[Script],
-) -> Result<Left<K>, AllocError> {
+) -> Result<Left<K>, AllocError>
+    ensures images { IfOk result (λ left. (vec_len left.images ≡ 0) × (length scripts.now ≤ vec_capacity left.images)) }
+    ensures drafts { IfOk result (λ left. (vec_len left.drafts ≡ 0) × (length scripts.now ≤ vec_capacity left.drafts)) }
+    ensures others { IfOk result (λ left. (vec_len left.others ≡ 0) × (length scripts.now ≤ vec_capacity left.others)) }
+{
     let images = Vec::with_capacity(alloc, scripts.len())?;
     let others = Vec::with_capacity(alloc, scripts.len())?;
     let drafts = Vec::with_capacity(alloc, scripts.len())?;
@@ -167,11 +171,16 @@ pub(crate) fn gather<K: Sink + Drop>(
     requires queue { IsPassOf queue.now chief.old }
     requires chief { ((view chief.old).role ≡ Chief) × ((view chief.old).turn ≡ None) × ((view chief.old).list ≡ Some list.now) }
     requires gone { All (λ w. IsGone queue.now.table.shared.table_id list.now scripts.now w) workers.items }
+    requires images_room { vec_len room.images + vec_len workers ≤ vec_capacity room.images }
+    requires drafts_room { vec_len room.drafts + vec_len workers ≤ vec_capacity room.drafts }
+    requires others_room { vec_len room.others + vec_len workers ≤ vec_capacity room.others }
+    requires none { vec_len room.images ≡ 0 }
     ensures queue { IsSamePass chief.old chief.new }
     ensures chief { ((view chief.new).role ≡ Chief) × ((view chief.new).turn ≡ None) × ((view chief.new).list ≡ Some list.now) }
     ensures images { All (λ (i : WalkerState). i.table ≡ list.now) result.images.items }
 {
-    let _ = (list, scripts);
+    let _ = list;
+    let _ = scripts;
     let mut left = room;
     let mut workers = workers;
     while let Some(worker) = workers.pop() {
