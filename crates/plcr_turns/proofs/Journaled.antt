@@ -67,7 +67,7 @@ pub journal_is : (t : TurnState) → IsTurn t → changes_of t.writer.names t.wr
 journal_is t turn = changes_through (opened_writer t.writer.table t.writer.nodes t.writer.passes) t.journal t.writer turn.applied ∙ append-nil (changes_made t.writer.names t.journal)
 
 -- the changes of lines are the same by later names
-made_later : (start : WriterState) (lines : List ChangeLine) (end : WriterState) (names : List (List ℕ)) → Applied start lines end → WentOn end.names names → changes_made end.names lines ≡ changes_made names lines
+pub made_later : (start : WriterState) (lines : List ChangeLine) (end : WriterState) (names : List (List ℕ)) → Applied start lines end → WentOn end.names names → changes_made end.names lines ≡ changes_made names lines
 made_later start [] end names a went = refl
 made_later start (line ∷ lines) end names a went =
     let mid = (grows_through a.1 lines end a.5).1 in

@@ -185,9 +185,13 @@ pub(crate) fn take_statement<R: Wait, P: Process, G: Gate, K: Sink>(
             }
             None => (place, Took::Silent),
         },
-        _ => match move_pass(list, gate, script, line, statement, place) {
-            (place, Some(said)) => (place, Took::Said(said)),
-            (place, None) => (place, Took::Silent),
-        },
+        _ => {
+            let (place, said) = move_pass(list, gate, script, line, statement, place);
+            let took = match said {
+                Some(said) => Took::Said(said),
+                None => Took::Silent,
+            };
+            (place, took)
+        }
     }
 }

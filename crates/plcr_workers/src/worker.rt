@@ -1,5 +1,6 @@
 //! A worker, which runs one script.
-ghost use Rattle.std.specs.Prelude.{◌≡◌};
+ghost use Rattle.std.specs.Prelude.{◌≡◌, ◌+◌, ◌^◌, ◌<◌, ◌≤◌, ℕ, All, vec_len, vec_capacity};
+ghost use Rattle.plcr_workers.specs.declared.lines.PassLine.{PassLine as Line};
 ghost use Rattle.crossbeam_queue.specs.Passes.{ruled_capacity};
 ghost use Rattle.plcr_workers.specs.inner.Places.{IsAt};
 ghost use Rattle.plcr_workers.specs.inner.Hired.{IsReady, HasRun, Begins, Goes};
@@ -90,17 +91,32 @@ impl<K: Sink> Worker<K> {
                 next,
             );
             place = moved;
-            match took {
-                Took::Silent => {}
-                Took::Said(said) => {
-                    if let PassSaid::Reported { .. } = said {
-                        next += 1;
-                    }
-                    self.lines.push_reserved(PassLine { at, said });
-                }
-                Took::Unwritten => return place,
+            if let Took::Unwritten = took {
+                return place;
             }
+            next = add_line(&mut self.lines, at, took, next);
         }
         place
+    }
+}
+
+/// Adds the line of a statement, if it has one here. Gives the number of the script's next output, behind this one.
+fn add_line(lines: &mut Vec<PassLine>, at: usize, took: Took, next: usize) -> usize
+    requires room { vec_len lines.old < vec_capacity lines.old }
+    requires small { next + 1 < 2 ^ 64 }
+    ensures lines { (n : ℕ) → at < n → All (λ (l : Line). l.at < n) lines.old.items → All (λ (l : Line). l.at < n) lines.new.items }
+    ensures len { vec_len lines.new ≤ vec_len lines.old + 1 }
+    ensures capacity { vec_capacity lines.new ≡ vec_capacity lines.old }
+    ensures next { result ≤ next + 1 }
+{
+    match took {
+        Took::Said(said) => {
+            lines.push_reserved(PassLine { at, said });
+            match said {
+                PassSaid::Reported { .. } => next + 1,
+                _ => next,
+            }
+        }
+        Took::Silent | Took::Unwritten => next,
     }
 }
