@@ -1,5 +1,3 @@
 pub mod Outcomes
 pub mod Printed
 mod Going
-mod Opened
-mod Hires

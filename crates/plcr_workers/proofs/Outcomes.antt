@@ -82,7 +82,7 @@ full_after w old new lives held seen was rest full adds sizes same =
     let most = waiting_most new.nodes new.passes new.history in
     let gone : unloads_in cs ≡ unloads new.history = ap unloads_in (sym adds) ∙ unloads_in-of new.names new.history in
     let listed : length (list_of cs) ≡ length (live new.history) =
-        ap (λ (l : List Change). length (list_of l)) (sym adds) ∙ ap (λ (l : List Named). length l) (lists_made new.nodes new.passes new.names new.history rest.known.legal rest.first) ∙ length-map (live new.history) (named new.names) in
+    ap (λ (l : List Change). length (list_of l)) (sym adds) ∙ ap (λ (l : List Named). length l) (lists_made new.nodes new.passes new.names new.history rest.known.legal rest.first) ∙ length-map (live new.history) (named new.names) in
     record {
       found = full.announced;
       few = subst (λ n. full.announced ≤ n) (sym sizes.1) full.few;
@@ -111,9 +111,10 @@ load_comes process w old new header name other (Worn number) fine fault long say
 load_comes process w old new header name other (Long len) fine fault long says was rest adds sizes same =
     ap outcomes.Long long.1
     ∙ sym (ap whole_outcome (ap (λ o. planned_load o (changes_of old.names old.history) header name) fine ∙ by_changes (λ cs. planned_load None cs header name) old (Err (outcomes.Long (length name))) (planned_long old header name was says.0 long.0)))
-load_comes process w old new header name other (Full lives held seen) fine fault long says was rest adds sizes same =
-    ((plan_of old header name, ap (λ o. planned_load o (changes_of old.names old.history) header name) fine ∙ by_changes (λ cs. planned_load None cs header name) old (Ok (plan_of old header name)) (planned_fine old header name was says.0 long)),
-    (old.history, new.history, ([], refl), full_after w old new lives held seen was rest says.2 adds sizes same, ([], refl)))
+load_comes process w old new header name other (Full lives held seen) fine fault long says was rest adds sizes same = (
+  (plan_of old header name, ap (λ o. planned_load o (changes_of old.names old.history) header name) fine ∙ by_changes (λ cs. planned_load None cs header name) old (Ok (plan_of old header name)) (planned_fine old header name was says.0 long)),
+  (old.history, new.history, ([], refl), full_after w old new lives held seen was rest says.2 adds sizes same, ([], refl)),
+)
 load_comes process w old new header name other NotLoaded fine fault long says was rest adds sizes same = absurd says
 load_comes process w old new header name other (Loaded load) fine fault long says was rest adds sizes same =
     ap outcomes.Loaded says.2.number_is
@@ -219,8 +220,7 @@ journal_runs process scripts w start before (line ∷ lines) end a grows went si
     let later : SameSizes old w = same_again old new w same (same_again new end w (sizes_through new lines end a.5) sizes) in
     let earlier : changes_of old.names old.history ≡ accepted_changes scripts before = a.3.changes ∙ cs in
     let to_new = grows_again start.history old.history new.history a.3.added.grows a.4.does.made.grows in
-    let made : changes_by line.wanted.asked a.2 line.said ≡ change_of scripts line = change_then line a.2 old new w.names a.4 (went_again new.names end.names w.names rest.1 went) ∙ change_known process scripts w.names line k in
-    (
+    let made : changes_by line.wanted.asked a.2 line.said ≡ change_of scripts line = change_then line a.2 old new w.names a.4 (went_again new.names end.names w.names rest.1 went) ∙ change_known process scripts w.names line k in (
       new.history,
       to_new,
       record {

@@ -1,4 +1,3 @@
 -- Definitions that only private functions' contracts cite.
 pub mod Places
 pub mod Hired
-pub mod Outputs

@@ -179,8 +179,7 @@ pub(crate) fn take_statement<R: Wait, P: Process, G: Gate, K: Sink>(
     match statement {
         Statement::Report { .. } => match drafts.get_mut(next) {
             Some(draft) => {
-                let (pass, took) =
-                    report(process, context, list, gate, script, line, place, draft);
+                let (pass, took) = report(process, context, list, gate, script, line, place, draft);
                 (Place::Out(pass), took)
             }
             None => (place, Took::Silent),

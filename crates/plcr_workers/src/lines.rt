@@ -6,10 +6,17 @@ pub enum PassSaid {
     /// The pass went in.
     Entered,
     /// Its walk has met so many images in this hold, and whether it has ended.
-    Walked { met: u32, ended: bool },
+    Walked {
+        met: u32,
+        ended: bool,
+    },
     /// The pass came out, having met so many images; and the numbers of counted changes before it went in and before it
     /// came out.
-    Left { met: u32, low: u32, high: u32 },
+    Left {
+        met: u32,
+        low: u32,
+        high: u32,
+    },
     /// A report: its length in bytes, the number of its images, and the numbers of counted changes as above.
     Reported {
         bytes: u64,

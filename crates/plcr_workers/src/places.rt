@@ -19,13 +19,7 @@ pub(crate) enum Place {
 }
 
 /// The pass goes in, at a line of a script. The script's number counts from 0.
-pub(crate) fn enter<G: Gate>(
-    list: &ImageList,
-    gate: &G,
-    script: u32,
-    line: u32,
-    pass: Pass,
-) -> Hold
+pub(crate) fn enter<G: Gate>(list: &ImageList, gate: &G, script: u32, line: u32, pass: Pass) -> Hold
     requires list { pass.table ≡ list.now }
     requires few { script < MOST_SCRIPTS }
     ensures list { result.walker.table ≡ list.now }

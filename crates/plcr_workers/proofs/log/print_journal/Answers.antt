@@ -18,5 +18,5 @@ returns-in_err-write_outcome-clause-err g c =
     let p = err_from_is_err_and c.from_residual.result c.from_residual.ensures.1 in
     rw (p.1)
     (printed_cut (λ (l : ChangeLine). log_line (Some (l.script + 1)) l.wanted.line (outcome_of l.said)) c.args.journal.now c.loop-line.line-index no_line (g.L.Sink.written c.args.lines.now) (g.L.Sink.written c.loop-line.lines)
-        (g.L.Sink.written c.write_outcome.new.sink) c.loop-line-test.true c.loop-line.invariant.0
-        (subst (λ (o : Outcome). AppendsProperFront (g.L.Sink.written c.loop-line.lines) (g.L.Sink.written c.write_outcome.new.sink) (log_line (Some ((get_or c.args.journal.now c.loop-line.line-index no_line).script + 1)) (get_or c.args.journal.now c.loop-line.line-index no_line).wanted.line o)) c.outcome_of-outcome.ensures c.in_err-write_outcome.ensures.err))
+    (g.L.Sink.written c.write_outcome.new.sink) c.loop-line-test.true c.loop-line.invariant.0
+    (subst (λ (o : Outcome). AppendsProperFront (g.L.Sink.written c.loop-line.lines) (g.L.Sink.written c.write_outcome.new.sink) (log_line (Some ((get_or c.args.journal.now c.loop-line.line-index no_line).script + 1)) (get_or c.args.journal.now c.loop-line.line-index no_line).wanted.line o)) c.outcome_of-outcome.ensures c.in_err-write_outcome.ensures.err))

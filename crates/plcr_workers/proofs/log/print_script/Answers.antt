@@ -22,22 +22,21 @@ returns-in_err-write_outcome-clause-err g c =
     let l = get_or c.args.told.now c.loop-line.line-index no_line in
     rw (p.1)
     (printed_cut (text_of c.args.number c.args.script.now.statements) c.args.told.now c.loop-line.line-index no_line (g.L.Sink.written c.args.lines.now) (g.L.Sink.written c.loop-line.lines) (g.L.Sink.written c.write_outcome.new.sink)
-        c.loop-line-test.true c.loop-line.invariant.0
-        (subst (AppendsProperFront (g.L.Sink.written c.loop-line.lines) (g.L.Sink.written c.write_outcome.new.sink))
-            (line_printed (slice_get c.args.script.now.statements l.at) c.line.result c.statement.result.now c.file_of-file.result.now c.outcome_of_pass-outcome.result l.said c.args.number
-            c.line.ensures c.statement.ensures c.file_of-file.ensures c.outcome_of_pass-outcome.ensures)
-            c.in_err-write_outcome.ensures.err))
+    c.loop-line-test.true c.loop-line.invariant.0
+    (subst (AppendsProperFront (g.L.Sink.written c.loop-line.lines) (g.L.Sink.written c.write_outcome.new.sink))
+    (line_printed (slice_get c.args.script.now.statements l.at) c.line.result c.statement.result.now c.file_of-file.result.now c.outcome_of_pass-outcome.result l.said c.args.number
+    c.line.ensures c.statement.ensures c.file_of-file.ensures c.outcome_of_pass-outcome.ensures)
+    c.in_err-write_outcome.ensures.err))
 
 pub loop-line-preserved : goal.loop-line-preserved
 loop-line-preserved g c =
-    let l = get_or c.args.told.now c.loop-line.line-index no_line in
-    (
+    let l = get_or c.args.told.now c.loop-line.line-index no_line in (
       printed_more (text_of c.args.number c.args.script.now.statements) c.args.told.now c.loop-line.line-index no_line (g.L.Sink.written c.args.lines.now) (g.L.Sink.written c.loop-line.lines) (g.L.Sink.written c.write_outcome.new.sink)
           c.loop-line-test.true c.loop-line.invariant.0
           (c.in_ok-write_outcome.ensures.ok
           ∙ ap (append_known (g.L.Sink.written c.loop-line.lines))
-              (line_printed (slice_get c.args.script.now.statements l.at) c.line.result c.statement.result.now c.file_of-file.result.now c.outcome_of_pass-outcome.result l.said c.args.number
-              c.line.ensures c.statement.ensures c.file_of-file.ensures c.outcome_of_pass-outcome.ensures)),
+          (line_printed (slice_get c.args.script.now.statements l.at) c.line.result c.statement.result.now c.file_of-file.result.now c.outcome_of_pass-outcome.result l.said c.args.number
+          c.line.ensures c.statement.ensures c.file_of-file.ensures c.outcome_of_pass-outcome.ensures)),
       (let more = c.write_outcome.ensures.later in let before = c.loop-line.invariant.1 in omega arith),
       c.write_outcome.ensures.mark ∙ c.loop-line.invariant.2,
     )
