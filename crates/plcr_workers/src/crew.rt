@@ -1,8 +1,7 @@
 //! The workers of all scripts, which run on threads.
-ghost use Rattle.std.specs.Prelude.{◌≡◌, All, length, IfOk};
+ghost use Rattle.std.specs.Prelude.{◌≡◌, All};
 ghost use Rattle.crossbeam_queue.specs.Passes.{ruled_capacity};
-ghost use Rattle.plcr_workers.specs.Asking.{asked_in, change_lines};
-ghost use Rattle.plcr_workers.specs.inner.Hired.{IsHired, IsGone, totals_in, asks_one};
+ghost use Rattle.plcr_workers.specs.inner.Hired.{IsHired, IsGone};
 
 use crate::gate::Gate;
 use crate::worker::Worker;
@@ -10,47 +9,11 @@ use plcr_command::MOST_SCRIPTS;
 use plcr_encode::Context;
 use plcr_imagelist::ImageList;
 use plcr_io::Sink;
-use plcr_script::{Process, Script, Statement};
+use plcr_script::{Process, Script};
 use plcr_turns::TurnQueue;
-use std::alloc::{AllocError, Global};
 use std::sync::Wait;
 use std::thread;
 use std::thread::Threads;
-
-/// How many loads and unloads each script has.
-pub(crate) fn totals_of(alloc: Global, scripts: &[Script]) -> Result<Vec<u32>, AllocError>
-    ensures { IfOk result (λ totals. totals.items ≡ totals_in scripts.now) }
-{
-    let mut totals = Vec::with_capacity(alloc, scripts.len())?;
-    for script in scripts {
-        totals.push_reserved(changes_of(script)?);
-    }
-    Ok(totals)
-}
-
-/// How many loads and unloads a script has.
-fn changes_of(script: &Script) -> Result<u32, AllocError>
-    ensures { IfOk result (λ count. count ≡ length (change_lines script.now.statements)) }
-{
-    let mut count = 0u32;
-    for at in 0..script.len() {
-        count = match count.checked_add(asks(script.statement(at))) {
-            Some(more) => more,
-            None => return Err(AllocError),
-        };
-    }
-    Ok(count)
-}
-
-/// How many changes a statement asks for: one or none.
-fn asks(statement: &Statement) -> u32
-    ensures { result ≡ asks_one (asked_in statement.now) }
-{
-    match statement {
-        Statement::Load { .. } | Statement::Unload { .. } => 1,
-        _ => 0,
-    }
-}
 
 /// All workers run, each on a thread of its own where one can be made.
 pub(crate) fn run_all<R: Threads + Wait + Sync, P: Process + Sync, G: Gate, K: Sink + Drop + Send>(
