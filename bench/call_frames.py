@@ -225,8 +225,8 @@ def compare(folder, arch, section, rows, name):
         sys.exit("%d threads of %d" % (len(found), len(rows)))
     for row, values, pcs in zip(rows, states, found):
         pc, kept = expected(arch, values, row, name)
-        wanted = [IMAGE + TEXT + row.address, pc] + ([kept] if kept > 4096 else [])
-        if pcs[:len(wanted)] != wanted:
+        wanted = [IMAGE + TEXT + row.address, pc, kept]  # none is an address at which a walk ends
+        if pcs[:3] != wanted:
             sys.exit("%s at %#x: %s of the row is %s, and the program has %s" % (
                 arch.name, row.address, name, " ".join(map(hex, wanted)), " ".join(map(hex, pcs[:3]))))
 

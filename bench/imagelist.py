@@ -4,7 +4,8 @@
 
 PROGRAM is the proved program, by default crates/plcr_race/out/plcr_race (`rt run` in crates/plcr_race leaves it), and
 EARLIER that of an earlier commit, to stand beside it: one that has no word for the nodes of a walk walks a list of 128
-nodes alone. The yardsticks are a Mutex round a Vec, and a Vec that each change
+nodes alone, and one that has none for a place unloads the oldest image alone. The last lines tell how many times the
+changes of the earlier the image list makes beside readers. The yardsticks are a Mutex round a Vec, and a Vec that each change
 copies, behind an `RwLock` round an `Arc`: plain Rust, compiled by `rustc -O` into a temporary folder, and skipped where
 rustc is missing. Each line tells the best of five runs of each program, which are run by turns, and in brackets the
 least of them.
@@ -18,10 +19,10 @@ import tempfile
 
 from measuring import HERE, measured
 
-NODES = [1, 100, 4096]
+PLACES = [(1, 1), (100, 1), (4096, 1), (4096, 2048), (4096, 4096)]
 WALK_NODES = [128, 4096]
 READERS = [1, 2, 4]
-CHANGE_ROUNDS = 200000
+CHANGE_ROUNDS = {1: 200000, 100: 200000, 4096: 20000}
 WALK_ROUNDS = 1000000
 TIMES = 5
 YARDSTICK = r"""
@@ -82,7 +83,7 @@ impl List for RwLock<Arc<Vec<Image>>> {
     }
 }
 
-fn changes<L: List>(nodes: u64, rounds: u64) {
+fn changes<L: List>(nodes: u64, place: u64, rounds: u64) {
     let list = L::open(nodes as usize);
     let start = Instant::now();
     for header in 1..nodes { list.load(header); }
@@ -91,7 +92,7 @@ fn changes<L: List>(nodes: u64, rounds: u64) {
     let mut made = 0;
     for round in 0..rounds {
         list.load(round + nodes);
-        made += 1 + list.unload(round + 1) as u64;
+        made += 1 + list.unload(round + place) as u64;
     }
     println!("{} changes {} ns", made, start.elapsed().as_nanos());
 }
@@ -137,16 +138,13 @@ fn walks<L: List>(nodes: u64, readers: u64, rounds: u64) {
 
 fn run<L: List>(words: &[String]) {
     let numbers: Vec<u64> = words[1..].iter().map(|word| word.parse().unwrap()).collect();
-    match numbers[..] {
-        [nodes, rounds] => changes::<L>(nodes, rounds),
-        [nodes, readers, rounds] => walks::<L>(nodes, readers, rounds),
-        _ => panic!("two or three numbers"),
-    }
+    let [nodes, second, rounds] = numbers[..] else { panic!("three numbers") };
+    if words[0] == "changes" { changes::<L>(nodes, second, rounds) } else { walks::<L>(nodes, second, rounds) }
 }
 
 fn main() {
     let words: Vec<String> = std::env::args().skip(1).collect();
-    if words.len() == 1 { return println!("walks NODES READERS ROUNDS"); }
+    if words.len() == 1 { return println!("changes NODES PLACE ROUNDS\nwalks NODES READERS ROUNDS"); }
     if words[0] == "locked" { run::<Mutex<Vec<Image>>>(&words[1..]) } else { run::<RwLock<Arc<Vec<Image>>>>(&words[1..]) }
 }
 """
@@ -176,19 +174,32 @@ def a_second(count, nanoseconds):
     return count * 1e9 / nanoseconds
 
 
-def changes(program, folder, nodes):
-    """Loads a second while the list fills, and loads and unloads a second in a list with room for one more."""
-    loads, filling, made, changing = run(program + ["changes", str(nodes), str(CHANGE_ROUNDS)], folder)
-    if (loads, made) != (nodes - 1, 2 * CHANGE_ROUNDS):
-        sys.exit("%s: %d of %d changes were made" % (program, made, 2 * CHANGE_ROUNDS))
-    return [a_second(made, changing), a_second(loads, filling)]
+def has_word(program, folder, word):
+    _, _, _, said = measured(program, folder, keeps=True)
+    return word in said
+
+
+def changes(program, folder, counts):
+    """Loads and unloads a second in a list with room for one more, loads a second while it fills, and nanoseconds of a
+    load and an unload; or None where the program has no word for the place."""
+    nodes, place = counts
+    rounds = CHANGE_ROUNDS[nodes]
+    if has_word(program, folder, "changes NODES PLACE"):
+        words = ["changes", str(nodes), str(place), str(rounds)]
+    elif place == 1:
+        words = ["changes", str(nodes), str(rounds)]
+    else:
+        return None
+    loads, filling, made, changing = run(program + words, folder)
+    if (loads, made) != (nodes - 1, 2 * rounds):
+        sys.exit("%s: %d of %d changes were made" % (program, made, 2 * rounds))
+    return [a_second(made, changing), a_second(loads, filling), 2 * changing / made]
 
 
 def walks_of(program, folder, nodes, readers):
     """The program's words for so many readers of a list of so many nodes, or None where it has none."""
     rounds = str(WALK_ROUNDS // readers)
-    _, _, _, said = measured(program, folder, keeps=True)
-    if "walks NODES" in said:
+    if has_word(program, folder, "walks NODES"):
         return ["walks", str(nodes), str(readers), rounds]
     return ["walks", str(readers), rounds] if nodes == 128 else None
 
@@ -213,9 +224,9 @@ def runs(measure, programs, folder, count):
     return [max(found) + [min(found)[0]] if all(found) else None for found in zip(*rows)]
 
 
-def tell_changes(nodes, name, made, loads, least):
-    print("%4d nodes    %-11s  %9.0f (%9.0f) loads and unloads a second%s" % (
-        nodes, name, made, least, ", %9.0f loads a second while it fills" % loads if loads else ""))
+def tell_changes(counts, name, made, loads, both, least):
+    print("%4d nodes, image %4d  %-11s  %9.0f (%9.0f) loads and unloads a second, %6.0f ns for both%s" % (
+        *counts, name, made, least, both, ", %9.0f loads a second while it fills" % loads if loads else ""))
 
 
 def tell_walks(counts, name, made, changed, least):
@@ -233,11 +244,19 @@ def main():
         names, programs = zip(*rows)
         print("%d cores, load %.1f" % (os.cpu_count(), os.getloadavg()[0]))
         both = [(nodes, readers) for nodes in WALK_NODES for readers in READERS]
-        for measure, tell, counts in [(changes, tell_changes, NODES), (walks, tell_walks, both)]:
+        beside = {}
+        for measure, tell, counts in [(changes, tell_changes, PLACES), (walks, tell_walks, both)]:
             for count in counts:
                 for name, row in zip(names, runs(measure, programs, folder, count)):
                     if row:
                         tell(count, name, *row)
+                        if measure is walks:
+                            beside[count, name] = row
+        for (count, name), row in beside.items():
+            earlier = beside.get((count, "the earlier"))
+            if name == "image list" and earlier:
+                print("%4d nodes, %d readers: %.0f times the changes of the earlier, %.1f times its walks" % (
+                    *count, row[1] / max(earlier[1], 1), row[0] / earlier[0]))
         print("load %.1f at the end" % os.getloadavg()[0])
 
 

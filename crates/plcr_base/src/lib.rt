@@ -1,5 +1,6 @@
-//! Definitions and small readers that the crates of the workspace share: what it is for a count of failures to
-//! rise, what is said of lists that are told or not told, and little-endian numbers in bytes.
+//! Definitions and small readers that the crates of the workspace share: what it is for a count of
+//! failures to rise, what is said of lists that are told or not told, and little-endian numbers in
+//! bytes.
 #![tactic(auto)]
 
 mod limits;

@@ -11,8 +11,7 @@ use Rattle.plcr_io.specs.Desk.{Told}
 use Rattle.plcr_command.specs.Seen.{Seen, seen}
 use Rattle.plcr_command.specs.Taking.{MadeNothing}
 use Rattle.plcr_command.specs.Saving.{DropsFront}
-use Rattle.plcr_command.specs.Endings.{HasKept, CannotWrite, CannotPrint, kept_names}
-use Rattle.plcr_command.specs.inner.Endings.{GoesOn}
+use Rattle.plcr_command.specs.Endings.{GoesOn, HasKept, CannotWrite, CannotPrint, kept_names}
 use Rattle.plcr_command.specs.Lines.{cannot_write}
 
 -- nothing was done

@@ -11,7 +11,7 @@ use Rattle.plcr_command.specs.Seen.{Seen}
 use Rattle.plcr_command.specs.Files.{File}
 use Rattle.plcr_command.specs.Taking.{MadeNothing}
 use Rattle.plcr_command.specs.Refusals.{IsRead, Refuses}
-use Rattle.plcr_command.specs.Saving.{DropsFront}
+use Rattle.plcr_command.specs.Saving.{DropsFront, TookNothing}
 use Rattle.plcr_command.specs.Lines.{refusal_line, cannot_write}
 
 -- the status of each ending
@@ -36,6 +36,11 @@ pub record HasKept (files : List (List ℕ × List ℕ)) (text : List ℕ) (old 
   pub kept : Gains old.desk.kept new.desk.kept files
   pub dropped : Gains old.desk.dropped new.desk.dropped []
   pub lines : new.lines ≡ append_known old.lines text
+
+-- between the statements of a run no file is taken, and the count of faults of the lines doesn't fall
+pub record GoesOn (old new : Seen) : Type 0 where
+  pub desk : TookNothing old.desk new.desk
+  pub line_faults : old.line_faults ≤ new.line_faults
 
 -- these files were kept and this text was printed, and then this file wasn't kept; a line says so behind the text
 pub record CannotWrite (files : List (List ℕ × List ℕ)) (text name bytes : List ℕ) (old new : Seen) : Type 0 where

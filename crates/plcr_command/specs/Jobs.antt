@@ -1,6 +1,7 @@
 -- Cores and the scripts that are run on them: what a command reads before its run.
 use Rattle.std.specs.Prelude.{◌≡◌, ◌≢◌, ◌+◌, ℕ, List, [], ◌∷◌, ◌++◌, Result, Ok, Err, All, length, map}
 use denote.Ref.{Bor}
+use Rattle.plcr_base.specs.Bytes.{IsBytes}
 use Rattle.plcr_base.specs.Chains.{◌>>=◌}
 use Rattle.plcr_core.specs.declared.fault.CoreFault.{CoreFault}
 use Rattle.plcr_core.specs.declared.fault.CoreFault.TheVariants as cores
@@ -83,7 +84,8 @@ abbrev pub HasNoScript : Modes → List (List ℕ) → Type 0
 HasNoScript modes [] = ⊥
 HasNoScript modes (core_bytes ∷ contents) = (core : Core) × IsCore core_bytes core × ((refused : RefusedScript) × (scripts_in modes contents ≡ Err refused))
 
--- the threads of the core can be written, and its scripts are within their limits
+-- the threads of the core can be written, its memory is over bytes, and its scripts are within their limits
 pub record IsLawfulJob (job : Job) : Type 0 where
   pub threads : AreThreads job.core.arch job.core.threads
+  pub bytes : IsBytes job.core.memory.file
   pub scripts : All IsLawful job.scripts

@@ -1,5 +1,4 @@
 -- Definitions that only private functions' contracts cite.
-pub mod Endings
 pub mod Jobs
 pub mod Saving
 pub mod Taking

@@ -13,7 +13,7 @@ pub struct FileWord<'a> {
 }
 
 /// The core of this name.
-pub fn core_file(name: &str) -> FileWord<'_>
+pub(crate) fn core_file(name: &str) -> FileWord<'_>
     ensures { named result ≡ spec.core_file name.now }
 {
     let limit = CORE_LIMIT;
@@ -21,7 +21,7 @@ pub fn core_file(name: &str) -> FileWord<'_>
 }
 
 /// The script of this name.
-pub fn script_file(name: &str) -> FileWord<'_>
+pub(crate) fn script_file(name: &str) -> FileWord<'_>
     ensures { named result ≡ spec.script_file name.now }
 {
     let limit = SCRIPT_LIMIT;

@@ -1,5 +1,6 @@
 //! A core and the scripts that are run on it, taken and read.
 ghost use Rattle.std.specs.Prelude.{◌≡◌, ◌+◌, ◌<◌, ◌≤◌, ◌^◌, ◌∷◌, All, List, ℕ, length, map, MatchResult, IfOk, Ok, vec_len};
+ghost use Rattle.plcr_base.specs.Bytes.{IsBytes};
 ghost use Rattle.plcr_core.specs.Cores.{AreThreads};
 ghost use Rattle.plcr_script.specs.Lawful.{IsLawful};
 ghost use Rattle.plcr_script.specs.Reading.{script_in};
@@ -40,8 +41,8 @@ struct JobFiles {
     scripts: Vec<Bytes>,
 }
 
-/// Takes and reads a core and scripts: first all are taken, in this order, then the core is read, and then
-/// the scripts, each behind those before it.
+/// Takes and reads a core and scripts: first all are taken, in this order, then the core is read,
+/// and then the scripts, each behind those before it.
 ///
 /// # Errors
 ///
@@ -125,8 +126,10 @@ fn job_of<'a>(alloc: Global, modes: Modes, files: JobFiles) -> Result<Job, Refus
 fn core_of<'a>(alloc: Global, bytes: Bytes) -> Result<Core, Refusal<'a>>
     ensures read { MatchResult result (IsCore bytes) (CoreMisread bytes) }
     ensures threads { IfOk result (λ core. AreThreads core.arch core.threads) }
+    ensures bytes { IfOk result (λ core. IsBytes core.memory.file) }
 {
-    match read_core(alloc, bytes.into_vec()) {
+    let bytes = bytes.into_vec();
+    match read_core(alloc, bytes) {
         Ok(core) => Ok(core),
         Err(CoreFault::Memory) => Err(Refusal::OutOfMemory),
         Err(fault) => Err(Refusal::CoreRefused { fault }),

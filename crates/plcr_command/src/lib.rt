@@ -1,5 +1,5 @@
-//! What every command shares: taking and reading the files that its words name, what it is refused for, the
-//! process that a core holds, outputs that are saved, its lines, and how it ends.
+//! What every command shares: taking and reading the files that its words name, what it is refused
+//! for, the process that a core holds, outputs that are saved, its lines, and how it ends.
 #![tactic(auto)]
 
 mod endings;
@@ -15,7 +15,7 @@ mod taking;
 mod tests;
 
 pub use endings::{Ending, status};
-pub use files::{FileWord, core_file, report_file, script_file};
+pub use files::{FileWord, report_file};
 pub use jobs::{Job, Modes, read_job};
 pub use limits::{CORE_LIMIT, MOST_SCRIPTS, REPORT_LIMIT, SCRIPT_LIMIT};
 pub use lines::{print_line, print_unwritten, refuse};

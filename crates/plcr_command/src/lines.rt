@@ -32,8 +32,8 @@ pub fn print_unwritten<L: Sink>(lines: &mut L, name: &[u8])
     print_line(lines, b"cannot write ", name, b"\n");
 }
 
-/// Prints the line of a refusal, and gives the refusal; want of memory for the line of a core's or a report's
-/// fault is one of its own. The lines of the others take no memory.
+/// Prints the line of a refusal, and gives the refusal; want of memory for the line of a core's or
+/// a report's fault is one of its own. The lines of the others take no memory.
 pub fn refuse<'a, L: Sink>(alloc: Global, refusal: Refusal<'a>, lines: &mut L) -> Refusal<'a>
     ensures refusal { IsToldAs refusal.entry result }
     ensures printed { Prints (L.written lines.old) (L.written lines.new) (refusal_line result) (L.faults lines.old) (L.faults lines.new) }

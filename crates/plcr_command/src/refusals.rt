@@ -15,8 +15,8 @@ pub enum Refusal<'a> {
     TooLong { word: FileWord<'a> },
     /// The core has this fault.
     CoreRefused { fault: CoreFault },
-    /// The number of the first refused script, from 1, its first refused line, from 1, and the number of
-    /// that line's kind.
+    /// The number of the first refused script, from 1, its first refused line, from 1, and the
+    /// number of that line's kind.
     ScriptRefused { script: u32, line: u32, kind: u8 },
     /// The report has this fault.
     ReportRefused { fault: DecodeFault },

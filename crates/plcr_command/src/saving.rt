@@ -18,8 +18,8 @@ pub struct Unsaved;
 ///
 /// # Errors
 ///
-/// `Unsaved` where the output wasn't made, not written whole, or not kept: the desk's count of faults of
-/// outputs rose.
+/// `Unsaved` where the output wasn't made, not written whole, or not kept: the desk's count of
+/// faults of outputs rose.
 pub fn save_report<P: Process, I: Images, D: Desk>(
     name: &str,
     process: &P,

@@ -1,6 +1,7 @@
+use crate::files::{core_file, script_file};
 use crate::{
-    CORE_LIMIT, MOST_SCRIPTS, Modes, REPORT_LIMIT, Refusal, SCRIPT_LIMIT, Unsaved, core_file,
-    read_job, refuse, report_file, save_bytes, script_file,
+    CORE_LIMIT, MOST_SCRIPTS, Modes, REPORT_LIMIT, Refusal, SCRIPT_LIMIT, Unsaved, read_job,
+    refuse, report_file, save_bytes,
 };
 use plcr_io::{MemDesk, MemFile, MemOut};
 use plcr_script::Mode;

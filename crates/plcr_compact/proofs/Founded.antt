@@ -1,10 +1,12 @@
 -- How a section is searched, step by step.
 use Rattle.std.proofs.Common.{◌≡◌, ◌≤◌, ◌<◌, ℕ, ◌-◌, true, false, List, length, take, Option, Some, None, Ok, Err, refl, sym, ap, subst, ◌∙◌, arith}
 use Rattle.std.specs.Prelude.{◌≢◌, ◌==◌, slice_get, nat_lt, IsOk}
-use Rattle.std.proofs.lemmas.Bool.Decides.{nat_tests}
+use Rattle.std.proofs.lemmas.Bool.{lt-ltb, le-ltb}
 use Rattle.std.proofs.lemmas.List.{take_all}
 use Rattle.std.proofs.lemmas.Option.{slice_get_past}
 use Rattle.plcr_base.specs.Chains.{◌>>=◌, result_map}
+use Rattle.plcr_base.proofs.Chained.{map_ok, map_err}
+use Rattle.plcr_base.proofs.Plain.{not_equal}
 use Rattle.plcr_leb128.specs.Cells.{Source}
 use Rattle.plcr_compact.specs.declared.entry_kind.EntryKind.{EntryKind}
 use Rattle.plcr_compact.specs.declared.entry_kind.EntryKind.TheVariants as kinds
@@ -29,28 +31,19 @@ unfolding page_entries entries_in entry_by size_by
 page_table section first (pages.Regular entries) = refl
 page_table section first (pages.Compressed entries encodings) = refl
 
--- what is told of a chain by what is told of its parts
-map_ok : {A B : Type 0} (r : Answer A) (f : A → B) (b : B) → result_map f r ≡ Ok b → (a : A) × (r ≡ Ok a) × (f a ≡ b)
-map_ok (Ok a) f b h = (a, refl, cc)
-map_ok (Err n) f b h = let e = h in cc
-
-map_err : {A B : Type 0} (r : Answer A) (f : A → B) (n : ℕ) → result_map f r ≡ Err n → r ≡ Err n
-map_err (Ok a) f n h = let e = h in cc
-map_err (Err m) f n h = let same : m ≡ n = cc in ap Err same
-
 -- the index
 pub index_checked : (section : Source) (header : SectionHeader) → header_in section ≡ Ok header → result_map (λ _. tt {0}) (lawful_in section kinds.Index header.index) ≡ Ok (tt {0})
     → index_header section ≡ Ok header
 unfolding index_in index_header
 index_checked section header read check =
-    let m = map_ok (lawful_in section kinds.Index header.index) (λ _. tt {0}) (tt {0}) check in
+    let m = map_ok (λ _. tt {0}) (lawful_in section kinds.Index header.index) (tt {0}) check in
     rw (read, ← index_table section header, m.1) refl
 
 pub index_unchecked : (section : Source) (header : SectionHeader) (bad : ℕ) → header_in section ≡ Ok header → result_map (λ _. tt {0}) (lawful_in section kinds.Index header.index) ≡ Err bad
     → index_header section ≡ Err bad
 unfolding index_in index_header
 index_unchecked section header bad read check =
-    let m = map_err (lawful_in section kinds.Index header.index) (λ _. tt {0}) bad check in
+    let m = map_err (λ _. tt {0}) (lawful_in section kinds.Index header.index) bad check in
     rw (read, ← index_table section header, m) refl
 
 pub index_unread : (section : Source) (bad : ℕ) → header_in section ≡ Err bad → index_header section ≡ Err bad
@@ -79,7 +72,7 @@ pub record Opened (section : Source) (header : SectionHeader) : Type 0 where
 pub index_opened : (section : Source) (header : SectionHeader) → index_header section ≡ Ok header → Opened section header
 unfolding index_in index_header
 index_opened section header h =
-    let m = map_ok (index_in section) (λ (i : Index). i.header) header h in
+    let m = map_ok (λ (i : Index). i.header) (index_in section) header h in
     let rest : lawful_in section kinds.Index m.0.header.index ≡ Ok m.0.entries =
     index_table section m.0.header ∙ index_parts (header_in section) (λ (s : SectionHeader). index_entries section s >>= lawful) m.0 m.1 in
     let there : lawful_in section kinds.Index header.index ≡ Ok m.0.entries = subst (λ (s : SectionHeader). lawful_in section kinds.Index s.index ≡ Ok m.0.entries) m.2 rest in
@@ -100,50 +93,41 @@ unfolding page_at
 page_whole section header offset o = rw o.whole refl
 
 -- the choice in the index
-less : (a b : ℕ) → a < b → nat_lt a b ≡ true
-less a b h = grind (arith, nat_tests)
-
-not_less : (a b : ℕ) → b ≤ a → nat_lt a b ≡ false
-not_less a b h = grind (arith, nat_tests)
-
-not_zero : (a : ℕ) → a ≢ 0 → (a == 0) ≡ false
-not_zero a h = grind (arith, nat_tests)
-
 pub page_past : (offset : ℕ) (es : List Entry) → sentinel es ≡ None → page_of offset es ≡ Err NO_ENTRY
 unfolding page_of
 page_past offset es h = rw h refl
 
 pub page_low : (offset : ℕ) (es : List Entry) (s : Entry) → sentinel es ≡ Some s → s.function ≤ offset → page_of offset es ≡ Err NO_ENTRY
 unfolding page_of
-page_low offset es s h le = rw (h, not_less offset s.function le) refl
+page_low offset es s h le = rw (h, le-ltb offset s.function le) refl
 
 pub page_none : (offset : ℕ) (es : List Entry) (s : Entry) → sentinel es ≡ Some s → offset < s.function → chosen offset (before_sentinel es) ≡ None → page_of offset es ≡ Err NO_ENTRY
 unfolding page_of
-page_none offset es s h lt none = rw (h, less offset s.function lt, none) refl
+page_none offset es s h lt none = rw (h, lt-ltb offset s.function lt, none) refl
 
 pub page_zero : (offset : ℕ) (es : List Entry) (s e : Entry) → sentinel es ≡ Some s → offset < s.function → chosen offset (before_sentinel es) ≡ Some e → e.value ≡ 0
     → page_of offset es ≡ Err NO_ENTRY
 unfolding page_of
-page_zero offset es s e h lt some none = rw (h, less offset s.function lt, some, none) refl
+page_zero offset es s e h lt some none = rw (h, lt-ltb offset s.function lt, some, none) refl
 
 pub page_some : (offset : ℕ) (es : List Entry) (s e : Entry) → sentinel es ≡ Some s → offset < s.function → chosen offset (before_sentinel es) ≡ Some e → e.value ≢ 0
     → page_of offset es ≡ Ok e
 unfolding page_of
-page_some offset es s e h lt some leads = rw (h, less offset s.function lt, some, not_zero e.value leads) refl
+page_some offset es s e h lt some leads = rw (h, lt-ltb offset s.function lt, some, not_equal e.value 0 leads) refl
 
 -- a page
 pub page_checked : (section : Source) (entry : Entry) (header : PageHeader) → page_header_in section entry.value ≡ Ok header
     → result_map (λ _. tt {0}) (lawful_in section (kind_in entry.function header) (table_in header)) ≡ Ok (tt {0}) → page_header section entry ≡ Ok header
 unfolding page_in page_header
 page_checked section entry header read check =
-    let m = map_ok (lawful_in section (kind_in entry.function header) (table_in header)) (λ _. tt {0}) (tt {0}) check in
+    let m = map_ok (λ _. tt {0}) (lawful_in section (kind_in entry.function header) (table_in header)) (tt {0}) check in
     rw (read, ← page_table section entry.function header, m.1) refl
 
 pub page_unchecked : (section : Source) (entry : Entry) (header : PageHeader) (bad : ℕ) → page_header_in section entry.value ≡ Ok header
     → result_map (λ _. tt {0}) (lawful_in section (kind_in entry.function header) (table_in header)) ≡ Err bad → page_header section entry ≡ Err bad
 unfolding page_in page_header
 page_unchecked section entry header bad read check =
-    let m = map_err (lawful_in section (kind_in entry.function header) (table_in header)) (λ _. tt {0}) bad check in
+    let m = map_err (λ _. tt {0}) (lawful_in section (kind_in entry.function header) (table_in header)) bad check in
     rw (read, ← page_table section entry.function header, m) refl
 
 pub page_unread : (section : Source) (entry : Entry) (bad : ℕ) → page_header_in section entry.value ≡ Err bad → page_header section entry ≡ Err bad
@@ -171,7 +155,7 @@ pub record OpenedPage (section : Source) (entry : Entry) (header : PageHeader) :
 pub page_opened : (section : Source) (entry : Entry) (header : PageHeader) → page_header section entry ≡ Ok header → OpenedPage section entry header
 unfolding page_in page_header
 page_opened section entry header h =
-    let m = map_ok (page_in section entry) (λ (p : Page). p.header) header h in
+    let m = map_ok (λ (p : Page). p.header) (page_in section entry) header h in
     let rest : lawful_in section (kind_in entry.function m.0.header) (table_in m.0.header) ≡ Ok m.0.entries =
     page_table section entry.function m.0.header ∙ page_parts (page_header_in section entry.value) (λ (s : PageHeader). page_entries section entry.function s >>= lawful) m.0 m.1 in
     let there : lawful_in section (kind_in entry.function header) (table_in header) ≡ Ok m.0.entries =
@@ -210,7 +194,7 @@ found_some section common entry header offset o e encoding some is_encoding = le
 -- the whole search
 pub search_unread : (section : Source) (offset bad : ℕ) → index_header section ≡ Err bad → found_in section offset ≡ Err bad
 unfolding found_in index_header
-search_unread section offset bad h = let m = map_err (index_in section) (λ (i : Index). i.header) bad h in rw m refl
+search_unread section offset bad h = let m = map_err (λ (i : Index). i.header) (index_in section) bad h in rw m refl
 
 pub search_no_page : (section : Source) (offset : ℕ) (header : SectionHeader) (bad : ℕ) → index_header section ≡ Ok header → page_at section offset ≡ Err bad → found_in section offset ≡ Err bad
 unfolding found_in
@@ -225,7 +209,7 @@ unfolding found_in page_header
 search_bad_page section offset header entry bad h page read =
     let o = index_opened section header h in
     let is : page_of offset o.entries ≡ Ok entry = sym (page_whole section header offset o) ∙ page in
-    let m = map_err (page_in section entry) (λ (p : Page). p.header) bad read in
+    let m = map_err (λ (p : Page). p.header) (page_in section entry) bad read in
     rw (o.whole, is, m) refl
 
 pub search_found : (section : Source) (offset : ℕ) (header : SectionHeader) (entry : Entry) → index_header section ≡ Ok header → page_at section offset ≡ Ok entry

@@ -2,6 +2,7 @@
 use Rattle.std.proofs.Common.{◌≡◌, ◌≤◌, ◌<◌, ℕ, zero, suc, ◌+◌, ◌-◌, ◌*◌, Bool, true, false, ◌||◌, ◌&&◌, List, [], ◌∷◌, length, take, Option, Some, None, Ok, Err, refl, sym, ap, subst, ◌∙◌, arith}
 use Rattle.std.specs.Prelude.{slice_get, nat_lt, nat_le, IsOk, IfSome, if◌then◌else◌}
 use Rattle.std.proofs.Math.Nat.{mul-add, mul-suc}
+use Rattle.std.proofs.lemmas.Bool.{le-leb, lt-leb, or_parts}
 use Rattle.std.proofs.lemmas.Bool.Decides.{nat_tests}
 use Rattle.plcr_base.specs.Chains.{◌>>=◌, result_map}
 use Rattle.plcr_compact.specs.declared.bad.TheConstants.{FALLING_OFFSETS}
@@ -169,17 +170,6 @@ entry_missing section kind table index bad ok within read = by_answer (lawful_in
     by_answer (Ok es) h ok = entry_read section kind table index bad es h within read
     by_answer (Err b) h ok = cc
 
--- tests
-or_parts : (a b : Bool) → (a || b) ≡ false → (a ≡ false) × (b ≡ false)
-or_parts true b h = let e = h in cc
-or_parts false b h = (refl, h)
-
-below_test : (a b : ℕ) → a ≤ b → nat_le a b ≡ true
-below_test a b h = grind (arith, nat_tests)
-
-above_test : (a b : ℕ) → b < a → nat_le a b ≡ false
-above_test a b h = grind (arith, nat_tests)
-
 better_most : (offset : ℕ) (b : Option Entry) (x : Entry) (most : ℕ) → IfSome b (λ y. y.function ≤ most) → x.function ≤ most → IfSome (better offset b x) (λ y. y.function ≤ most)
 better_most offset None x most h le = by_test (nat_le x.function offset)
   where
@@ -193,8 +183,8 @@ better_most offset (Some b) x most h le = by_tests (nat_le x.function offset && 
     by_tests false = h
 
 better_above : (offset : ℕ) (b : Option Entry) (x : Entry) → offset < x.function → better offset b x ≡ b
-better_above offset None x h = rw (above_test x.function offset h) refl
-better_above offset (Some b) x h = rw (above_test x.function offset h) refl
+better_above offset None x h = rw (lt-leb x.function offset h) refl
+better_above offset (Some b) x h = rw (lt-leb x.function offset h) refl
 
 -- entries that don't fall rise
 from_first : (before : ℕ) (es : List Entry) (j : ℕ) (y : Entry) → falls_from before es ≡ false → slice_get es j ≡ Some y → before ≤ y.function
@@ -233,10 +223,10 @@ best_up : (offset : ℕ) (b : Option Entry) (es : List Entry) (m : ℕ) (e : Ent
 best_up offset b [] m e there below most each = let h = there in cc
 best_up offset None (x ∷ es) zero e there below most each =
     let same : x ≡ e = cc in
-    rw (same, below_test e.function offset below) refl
+    rw (same, le-leb e.function offset below) refl
 best_up offset (Some best) (x ∷ es) zero e there below most each =
     let same : x ≡ e = cc in
-    rw (same, below_test e.function offset below, below_test best.function e.function most) refl
+    rw (same, le-leb e.function offset below, le-leb best.function e.function most) refl
 best_up offset b (x ∷ es) (suc m) e there below most each =
     best_up offset (better offset b x) es m e there below (better_most offset b x e.function most (each 0 x (omega arith) refl)) (λ k y lt at. each (suc k) y (omega arith) at)
 

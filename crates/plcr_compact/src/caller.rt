@@ -1,5 +1,4 @@
 use arrayvec::ArrayVec;
-use plcr_regs::MOST_REGISTERS;
 
 /// How many bytes a word of the stack has.
 pub const WORD: u64 = 8;
@@ -18,11 +17,11 @@ pub const MOST_WORDS: usize = 12;
 /// The words that a function saved.
 pub type Words = ArrayVec<SavedWord, MOST_WORDS>;
 
-/// What is known of a caller before the stack is read: its registers, its stack pointer, counted
-/// without modulo, and the words that hold others.
-#[derive(Drop)]
+/// What is known of a caller before the stack is read, beside the registers that functions keep and
+/// the words that hold others: its pc, where a register has it, and its stack pointer, counted
+/// without modulo.
+#[derive(Clone, Copy)]
 pub struct Caller {
-    pub value: [Option<u64>; MOST_REGISTERS],
+    pub back: Option<u64>,
     pub stack: i128,
-    pub words: Words,
 }

@@ -1,7 +1,7 @@
 //! What an encoding says of the caller, before the stack is read.
-ghost use Rattle.std.specs.Prelude.{◌≡◌, ◌≤◌, ◌<◌, ◌+◌, ◌^◌, ◌++◌, ℤ, pos, ◌-ℤ◌, int_lt, length, slice_index_or, IsTrue};
+ghost use Rattle.std.specs.Prelude.{◌≡◌, ◌≤◌, ◌<◌, ◌+◌, ◌^◌, ◌++◌, ℤ, pos, ◌-ℤ◌, [], int_lt, length, slice_index_or, IsTrue};
 ghost use Rattle.plcr_base.specs.Chains.{result_map};
-ghost use Rattle.plcr_compact.specs.Callers.{caller_by, field_words, framed, frameless, frameless_by, kept_in, leaf, link, needed, pair_places, pair_words, register_words, saved_place, size_at};
+ghost use Rattle.plcr_compact.specs.Callers.{caller_by, field_words, framed, frameless, frameless_by, leaf, link, needed, pair_places, pair_words, register_words, saved_place, size_at};
 ghost use Rattle.plcr_compact.specs.inner.Carrying.{caller_of, field_word, pair_top, pair_word};
 ghost use Rattle.plcr_compact.specs.declared.caller.TheConstants.{MOST_WORDS};
 ghost use Rattle.plcr_compact.specs.declared.encoding.TheConstants.{PAIRS};
@@ -11,7 +11,6 @@ use crate::bad::{NO_REGISTERS, NOT_MAPPED, OUT_OF_RANGE};
 use crate::caller::{Caller, SavedWord, WORD, Words};
 use crate::encoding::{Encoding, FRAME_REGISTERS, PAIRS, Permutation, SavedRegister};
 use crate::permutation::saved_registers;
-use arrayvec::ArrayVec;
 use plcr_memory::Memory;
 use plcr_regs::{Frame, MOST_REGISTERS, fp_place, lr_place, pc_place, sp_place};
 
@@ -138,23 +137,14 @@ fn needed(frame: &Frame, place: usize) -> Result<u64, u8>
     frame.registers.value[place].ok_or(OUT_OF_RANGE)
 }
 
-// The registers that functions keep, as the frame has them.
-fn kept(frame: &Frame) -> [Option<u64>; MOST_REGISTERS]
-    ensures { result ≡ kept_in frame.now }
-{
-    let registers = frame.registers.kept();
-    registers.value
-}
-
-// The caller of a frame with a frame pointer, with these words besides.
+// The caller of a frame with a frame pointer, with the words that are there besides.
 #[tactic(auto, using(std::proofs::lemmas::List::append_assoc))]
-fn framed(frame: &Frame, pointer: u64, words: Words) -> Caller
-    requires { length words.items + 2 ≤ MOST_WORDS }
-    ensures { caller_of result ≡ framed frame.now pointer words.items }
+fn framed(frame: &Frame, pointer: u64, words: &mut Words) -> Caller
+    requires { length words.old.items + 2 ≤ MOST_WORDS }
+    ensures { caller_of frame.now words.new.items result ≡ framed frame.now pointer words.old.items }
 {
     let arch = frame.registers.arch;
     let at = i128::from(pointer);
-    let mut words = words;
     words.push(SavedWord {
         at,
         place: fp_place(arch),
@@ -163,42 +153,44 @@ fn framed(frame: &Frame, pointer: u64, words: Words) -> Caller
         at: at + SIGNED_WORD,
         place: pc_place(arch),
     });
-    let value = kept(frame);
     Caller {
-        value,
+        back: None,
         stack: at + 2 * SIGNED_WORD,
-        words,
     }
 }
 
 // The caller of a frame without one on x86-64.
-fn frameless(frame: &Frame, pointer: u64, size: u64, registers: &[SavedRegister]) -> Caller
-    requires { length registers.now < MOST_WORDS }
-    ensures { caller_of result ≡ frameless frame.now pointer size registers.now }
+fn frameless(
+    frame: &Frame,
+    pointer: u64,
+    size: u64,
+    registers: &[SavedRegister],
+    words: &mut Words,
+) -> Caller
+    requires room { length registers.now < MOST_WORDS }
+    requires none { words.old.items ≡ [] }
+    ensures { caller_of frame.now words.new.items result ≡ frameless frame.now pointer size registers.now }
 {
     let stack = i128::from(pointer) + i128::from(size);
-    let mut words = Words::new();
-    push_registers(
-        &mut words,
-        stack - SIGNED_WORD - SIGNED_WORD * registers.len() as i128,
-        registers,
-    );
+    let first = stack - SIGNED_WORD - SIGNED_WORD * registers.len() as i128;
+    push_registers(words, first, registers);
     words.push(SavedWord {
         at: stack - SIGNED_WORD,
         place: pc_place(frame.registers.arch),
     });
-    let value = kept(frame);
-    Caller {
-        value,
-        stack,
-        words,
-    }
+    Caller { back: None, stack }
 }
 
 // The same, where the stack has room for what was saved.
 #[tactic(auto, unfolding(crate::specs::Callers::frameless_by))]
-fn frameless_by(frame: &Frame, size: Option<u64>, saved: Permutation) -> Result<Caller, u8>
-    ensures { result_map caller_of result ≡ frameless_by frame.now size saved }
+fn frameless_by(
+    frame: &Frame,
+    size: Option<u64>,
+    saved: Permutation,
+    words: &mut Words,
+) -> Result<Caller, u8>
+    requires { words.old.items ≡ [] }
+    ensures { result_map (caller_of frame.now words.new.items) result ≡ frameless_by frame.now size saved }
 {
     let registers = saved_registers(saved).ok_or(NO_REGISTERS)?;
     let least = WORD + WORD * registers.len() as u64;
@@ -207,7 +199,7 @@ fn frameless_by(frame: &Frame, size: Option<u64>, saved: Permutation) -> Result<
     }
     let pointer = needed(frame, sp_place(frame.registers.arch))?;
     let size = size.ok_or(NOT_MAPPED)?;
-    Ok(frameless(frame, pointer, size, registers.as_slice()))
+    Ok(frameless(frame, pointer, size, registers.as_slice(), words))
 }
 
 // What lr has.
@@ -219,18 +211,22 @@ fn link(frame: &Frame) -> Option<u64>
 }
 
 // The caller of a frame without one on arm64.
-fn leaf(frame: &Frame, pointer: u64, back: u64, size: u32, pairs: &[bool; PAIRS]) -> Caller
-    ensures { caller_of result ≡ leaf frame.now pointer back size pairs.now }
+fn leaf(
+    frame: &Frame,
+    pointer: u64,
+    back: u64,
+    size: u32,
+    pairs: &[bool; PAIRS],
+    words: &mut Words,
+) -> Caller
+    requires { words.old.items ≡ [] }
+    ensures { caller_of frame.now words.new.items result ≡ leaf frame.now pointer back size pairs.now }
 {
     let stack = i128::from(pointer) + i128::from(size);
-    let mut words = Words::new();
-    push_pairs(&mut words, stack - SIGNED_WORD, pairs);
-    let mut value = kept(frame);
-    value[pc_place(frame.registers.arch)] = Some(back);
+    push_pairs(words, stack - SIGNED_WORD, pairs);
     Caller {
-        value,
+        back: Some(back),
         stack,
-        words,
     }
 }
 
@@ -242,44 +238,47 @@ fn size_at(memory: &Memory, start: u64, place: u32, adjust: u32) -> Option<u64>
     Some(u64::from(size) + u64::from(adjust))
 }
 
-/// The caller by an encoding of a function that starts at an address.
+/// The caller by an encoding of a function that starts at an address; its words are put into room
+/// that has none.
 #[tactic(auto, unfolding(crate::specs::Callers::caller_by))]
 pub fn caller_by(
     memory: &Memory,
     start: u64,
     frame: &Frame,
     encoding: &Encoding,
+    words: &mut Words,
 ) -> Result<Caller, u8>
-    ensures { result_map caller_of result ≡ caller_by memory.now start frame.now encoding.now }
+    requires { words.old.items ≡ [] }
+    ensures { result_map (caller_of frame.now words.new.items) result
+        ≡ caller_by memory.now start frame.now encoding.now }
 {
     let arch = frame.registers.arch;
-    let mut words = Words::new();
     match encoding {
         Encoding::RbpFrame { offset, registers } => {
             let pointer = needed(frame, fp_place(arch))?;
-            push_fields(
-                &mut words,
-                i128::from(pointer) - i128::from(*offset),
-                registers,
-            );
+            let first = i128::from(pointer) - i128::from(*offset);
+            push_fields(words, first, registers);
             Ok(framed(frame, pointer, words))
         }
         Encoding::StackImmediate { size, saved } => {
-            frameless_by(frame, Some(u64::from(*size)), *saved)
+            frameless_by(frame, Some(u64::from(*size)), *saved, words)
         }
         Encoding::StackIndirect {
             size_at: place,
             adjust,
             saved,
-        } => frameless_by(frame, size_at(memory, start, *place, *adjust), *saved),
+        } => {
+            let size = size_at(memory, start, *place, *adjust);
+            frameless_by(frame, size, *saved, words)
+        }
         Encoding::Frameless { size, pairs } => {
             let pointer = needed(frame, sp_place(arch))?;
             let back = link(frame).ok_or(OUT_OF_RANGE)?;
-            Ok(leaf(frame, pointer, back, *size, pairs))
+            Ok(leaf(frame, pointer, back, *size, pairs, words))
         }
         Encoding::Frame { pairs } => {
             let pointer = needed(frame, fp_place(arch))?;
-            push_pairs(&mut words, i128::from(pointer) - SIGNED_WORD, pairs);
+            push_pairs(words, i128::from(pointer) - SIGNED_WORD, pairs);
             Ok(framed(frame, pointer, words))
         }
     }

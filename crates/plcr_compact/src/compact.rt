@@ -1,10 +1,13 @@
 //! The reader of compact unwind information, and its two halves.
 ghost use Rattle.std.specs.Prelude.{◌≡◌, ◌≤◌, IfOk, IsSomeAnd};
+ghost use Rattle.plcr_base.specs.Chains.{result_map};
 ghost use Rattle.plcr_regs.specs.Frames.{IfFrame, IsOfThread, frame_lookup};
+ghost use Rattle.plcr_regs.specs.Outcomes.{step_in};
 ghost use Rattle.plcr_compact.specs.Callers.{answered, caller_from, compact_frame};
 ghost use Rattle.plcr_compact.specs.Sections.{found_at, section_of};
 
 use crate::bad::{NO_ENTRY, NO_UNWIND_INFO};
+use crate::caller::Words;
 use crate::calling::caller_by;
 use crate::carrying::read_caller;
 use crate::decoding::encoding;
@@ -14,7 +17,7 @@ use crate::section::Found;
 use plcr_leb128::{Piece, Stored};
 use plcr_macho::{Image, Part};
 use plcr_memory::Memory;
-use plcr_regs::{Frame, Step};
+use plcr_regs::{Frame, Outcome, Step};
 
 /// Where an image's section lies, with room for its header.
 #[tactic(auto, unfolding(crate::specs::Sections::section_of))]
@@ -43,16 +46,40 @@ pub fn find(memory: &Memory, image: &Image, offset: u64) -> Result<Found, u8>
     }
 }
 
-// The caller of a frame by what is said of its function.
+// Puts the caller of a frame into room by what is said of its function.
 #[tactic(auto, unfolding(crate::specs::Callers::caller_from))]
-fn caller_from(memory: &Memory, image: &Image, frame: &Frame, found: &Found) -> Result<Frame, u8>
-    ensures frame { result ≡ caller_from memory.now image.now frame.now found.now }
-    ensures thread { IfOk result (IsOfThread frame.now) }
+fn caller_from(
+    memory: &Memory,
+    image: &Image,
+    frame: &Frame,
+    found: &Found,
+    room: &mut Frame,
+) -> Result<(), u8>
+    ensures frame { result_map (λ _. room.new) result ≡ caller_from memory.now image.now frame.now found.now }
+    ensures thread { IfOk result (λ _. IsOfThread frame.now room.new) }
 {
     let encoding = encoding(frame.registers.arch, found.encoding)?;
     let start = image.header.wrapping_add(found.function);
-    let caller = caller_by(memory, start, frame, &encoding)?;
-    read_caller(memory, frame, &caller)
+    let mut words = Words::new();
+    let caller = caller_by(memory, start, frame, &encoding, &mut words)?;
+    read_caller(memory, frame, caller, words.as_slice(), room)
+}
+
+/// What `step_from` says, where the caller is put into room.
+pub fn step_from_into(
+    memory: &Memory,
+    image: &Image,
+    frame: &Frame,
+    found: &Found,
+    room: &mut Frame,
+) -> Outcome
+    ensures caller { step_in result room.new ≡ answered (caller_from memory.now image.now frame.now found.now) }
+    ensures thread { IfFrame (step_in result room.new) (IsOfThread frame.now) }
+{
+    match caller_from(memory, image, frame, found, room) {
+        Ok(()) => Outcome::Caller,
+        Err(bad) => Outcome::Bad(bad),
+    }
 }
 
 /// The caller of a frame by what `find` says of its function. It is never told that there is no
@@ -61,8 +88,9 @@ pub fn step_from(memory: &Memory, image: &Image, frame: &Frame, found: &Found) -
     ensures caller { result ≡ answered (caller_from memory.now image.now frame.now found.now) }
     ensures thread { IfFrame result (IsOfThread frame.now) }
 {
-    match caller_from(memory, image, frame, found) {
-        Ok(frame) => Step::Frame(frame),
+    let mut room = *frame;
+    match caller_from(memory, image, frame, found, &mut room) {
+        Ok(()) => Step::Frame(room),
         Err(bad) => Step::Bad(bad),
     }
 }

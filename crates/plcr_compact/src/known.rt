@@ -2,12 +2,13 @@
 //! once.
 ghost use Rattle.std.specs.Prelude.{◌≡◌, ◌≤◌, ◌<◌, ◌^◌, All, IfOk, IfSome, IsSomeAnd};
 ghost use Rattle.plcr_regs.specs.Frames.{IfFrame, IsOfThread, frame_lookup};
+ghost use Rattle.plcr_regs.specs.Outcomes.{step_in};
 ghost use Rattle.plcr_compact.specs.Callers.{compact_frame};
 ghost use Rattle.plcr_compact.specs.inner.Keeping.{IndexHolds, IndexIs, PageHolds, PageIs};
 ghost use Rattle.plcr_compact.specs.Sections.{found_at, found_in, section_at};
 
 use crate::bad::NO_ENTRY;
-use crate::compact::{section, step_from};
+use crate::compact::{section, step_from_into};
 use crate::finding::{entry_of, index, page, page_for};
 use crate::layout::MOST_OFFSET;
 use crate::section::{Entry, Found, PageHeader, SectionHeader};
@@ -15,7 +16,7 @@ use crate::zeros::SectionCells;
 use plcr_leb128::{Cells, Piece, Stored};
 use plcr_macho::{Image, Part};
 use plcr_memory::Memory;
-use plcr_regs::{Frame, Step};
+use plcr_regs::{Frame, Outcome};
 use std::marker::Model;
 
 /// The indexes of so many images are kept: as many as a list of images can have.
@@ -244,12 +245,19 @@ impl<'m> KnownSections<'m> {
         }
     }
 
-    /// What `step` says, where the image stands at this place of a list.
+    /// What `step` says, where the image stands at this place of a list and the caller is put into
+    /// room.
     #[tactic(auto, unfolding(crate::specs::Callers::compact_frame))]
-    pub fn step(&mut self, place: usize, image: &Image, frame: &Frame) -> Step
+    pub fn step_into(
+        &mut self,
+        place: usize,
+        image: &Image,
+        frame: &Frame,
+        room: &mut Frame,
+    ) -> Outcome
         requires { IsSomeAnd (frame_lookup frame.now) (λ address. image.now.header ≤ address) }
-        ensures caller { result ≡ compact_frame self.old image.now frame.now }
-        ensures thread { IfFrame result (IsOfThread frame.now) }
+        ensures caller { step_in result room.new ≡ compact_frame self.old image.now frame.now }
+        ensures thread { IfFrame (step_in result room.new) (IsOfThread frame.now) }
         ensures same { self.new ≡ self.old }
     {
         let Some(address) = frame.lookup() else {
@@ -257,8 +265,8 @@ impl<'m> KnownSections<'m> {
         };
         let memory = self.memory;
         match self.find(place, image, address - image.header) {
-            Ok(found) => step_from(memory, image, frame, &found),
-            Err(bad) => Step::Bad(bad),
+            Ok(found) => step_from_into(memory, image, frame, &found, room),
+            Err(bad) => Outcome::Bad(bad),
         }
     }
 }

@@ -25,7 +25,7 @@ pub use bad::{
     DWARF_MODE, FALLING_OFFSETS, MISSING_WORD, NO_ENCODING, NO_ENTRY, NO_REGISTERS, NO_UNWIND_INFO,
     NOT_MAPPED, OTHER_PAGE, OTHER_VERSION, OUT_OF_RANGE, UNKNOWN_MODE,
 };
-pub use compact::{find, step, step_from};
+pub use compact::{find, step, step_from, step_from_into};
 pub use encoding::{Encoding, Permutation, SavedRegister};
 pub use known::{KNOWN_INDEXES, KNOWN_PAGES, KnownSections};
 pub use laws::{entries_are_chosen, permutations_are_orders};

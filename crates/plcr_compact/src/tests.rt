@@ -2,7 +2,7 @@ use crate::fixtures::*;
 use crate::{KnownSections, entries_are_chosen, find, permutations_are_orders, step, step_from};
 use plcr_macho::Image;
 use plcr_memory::{Memory, MemoryFault};
-use plcr_regs::{Arch, Frame, Registers, Step, fp_place, sp_place};
+use plcr_regs::{Arch, Frame, Outcome, Registers, Step, fp_place, sp_place};
 use std::alloc::Global;
 use std::test::*;
 
@@ -414,7 +414,13 @@ fn whole_step(memory: &Memory, image: &Image, frame: &Frame) -> Option<(Step, St
     match frame.lookup() {
         Some(address) if address >= image.header => {
             let mut known = KnownSections::new(memory);
-            Some((step(memory, image, frame), known.step(7, image, frame)))
+            let mut room = *frame;
+            let kept = match known.step_into(7, image, frame, &mut room) {
+                Outcome::Caller => Step::Frame(room),
+                Outcome::End => Step::End,
+                Outcome::Bad(number) => Step::Bad(number),
+            };
+            Some((step(memory, image, frame), kept))
         }
         _ => None,
     }

@@ -3,7 +3,7 @@ use Rattle.std.proofs.Common.{◌≡◌, ℕ, zero, suc, ◌+◌, ◌*◌, ◌<�
 use Rattle.std.specs.Option.{option_or}
 use Rattle.std.proofs.lemmas.Bool.{lt-ltb, le-ltb, ltb-true, ltb-false}
 use Rattle.std.proofs.lemmas.List.{length-drop}
-use Rattle.plcr_loader.specs.declared.thread_group.TheConstants.{LENGTH, FLAVOR, COUNT}
+use Rattle.plcr_loader.specs.declared.thread_group.TheConstants.{LENGTH, FLAVOR, COUNT, WORD}
 use Rattle.plcr_loader.specs.Fields.{number}
 use Rattle.plcr_regs.specs.declared.arch.Arch.{Arch}
 use Rattle.plcr_regs.specs.declared.registers.Registers.{Registers}
@@ -53,10 +53,10 @@ accepted_none arch bytes h =
     let none : with_rest bytes (groups_in (drop (next_place bytes) bytes)) ≡ Some [] = rw e in
     ap (option_map (first_state arch)) (groups_step bytes ∙ none)
 
-pub accepted_past : (arch : Arch) (bytes : List ℕ) → LENGTH ≤ length bytes → length bytes < LENGTH + 4 * number COUNT bytes → accepted_in arch bytes ≡ None
+pub accepted_past : (arch : Arch) (bytes : List ℕ) → LENGTH ≤ length bytes → length bytes < LENGTH + WORD * number COUNT bytes → accepted_in arch bytes ≡ None
 accepted_past arch bytes long past =
     let e : nat_lt (length bytes) LENGTH ≡ false = le-ltb (length bytes) LENGTH long in
-    let f : nat_lt (length bytes) (LENGTH + 4 * number COUNT bytes) ≡ true = lt-ltb (length bytes) (LENGTH + 4 * number COUNT bytes) past in
+    let f : nat_lt (length bytes) (LENGTH + WORD * number COUNT bytes) ≡ true = lt-ltb (length bytes) (LENGTH + WORD * number COUNT bytes) past in
     let past : with_rest bytes (groups_in (drop (next_place bytes) bytes)) ≡ None = rw (e, f) in
     ap (option_map (first_state arch)) (groups_step bytes ∙ past)
 
@@ -65,13 +65,13 @@ first_after : (arch : Arch) (group : Group) (found : Option (List Group)) → op
 first_after arch group None = refl
 first_after arch group (Some groups) = refl
 
-pub accepted_step : (arch : Arch) (bytes : List ℕ) → LENGTH + 4 * number COUNT bytes ≤ length bytes → accepted_in arch bytes ≡ option_map (option_or (state_in arch (number FLAVOR bytes) (take (4 * number COUNT bytes) (drop LENGTH bytes)))) (accepted_in arch (drop (LENGTH + 4 * number COUNT bytes) bytes))
+pub accepted_step : (arch : Arch) (bytes : List ℕ) → LENGTH + WORD * number COUNT bytes ≤ length bytes → accepted_in arch bytes ≡ option_map (option_or (state_in arch (number FLAVOR bytes) (take (WORD * number COUNT bytes) (drop LENGTH bytes)))) (accepted_in arch (drop (LENGTH + WORD * number COUNT bytes) bytes))
 accepted_step arch bytes long =
     let e : nat_lt (length bytes) LENGTH ≡ false = le-ltb (length bytes) LENGTH (omega arith) in
-    let f : nat_lt (length bytes) (LENGTH + 4 * number COUNT bytes) ≡ false = le-ltb (length bytes) (LENGTH + 4 * number COUNT bytes) long in
+    let f : nat_lt (length bytes) (LENGTH + WORD * number COUNT bytes) ≡ false = le-ltb (length bytes) (LENGTH + WORD * number COUNT bytes) long in
     let more : with_rest bytes (groups_in (drop (next_place bytes) bytes)) ≡ option_map (λ groups. group_at_front bytes ∷ groups) (groups_in (drop (next_place bytes) bytes)) = rw (e, f) in
     ap (option_map (first_state arch)) (groups_step bytes ∙ more)
-    ∙ first_after arch (group_at_front bytes) (groups_in (drop (LENGTH + 4 * number COUNT bytes) bytes))
+    ∙ first_after arch (group_at_front bytes) (groups_in (drop (LENGTH + WORD * number COUNT bytes) bytes))
 
 -- a state found earlier stays the first
 pub or_again : (a b : Option Registers) (found : Option (Option Registers)) → option_map (option_or (option_or a b)) found ≡ option_map (option_or a) (option_map (option_or b) found)
@@ -82,9 +82,9 @@ or_again (Some x) b (Some c) = refl
 -- a turn of the loop: the group at the front is read, and its state counts where none was accepted before
 pub turn : (arch : Arch) (groups rest others : List ℕ) (before found after : Option Registers)
     → option_map (option_or before) (accepted_in arch rest) ≡ accepted_in arch groups
-    → LENGTH + 4 * number COUNT rest ≤ length rest
-    → found ≡ state_in arch (number FLAVOR rest) (take (4 * number COUNT rest) (drop LENGTH rest))
-    → others ≡ drop (LENGTH + 4 * number COUNT rest) rest
+    → LENGTH + WORD * number COUNT rest ≤ length rest
+    → found ≡ state_in arch (number FLAVOR rest) (take (WORD * number COUNT rest) (drop LENGTH rest))
+    → others ≡ drop (LENGTH + WORD * number COUNT rest) rest
     → after ≡ option_or before found
     → option_map (option_or after) (accepted_in arch others) ≡ accepted_in arch groups
 turn arch groups rest others before found after so_far long found_is others_is after_is =

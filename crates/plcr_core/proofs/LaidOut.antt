@@ -1,7 +1,7 @@
 -- A core is what its bytes lay out, and else the fault is the first one there.
 use Rattle.std.proofs.Common.{◌≡◌, ◌≤◌, ◌+◌, ◌==◌, ◌&&◌, ◌⊎◌, ℕ, nat_lt, Bool, true, false, cond, inl, inr, List, [], ◌∷◌, length, filter_map, All, Option, None, Some, Result, Ok, Err, refl, sym, ap, subst, ◌∙◌, arith}
 use Rattle.std.specs.Prelude.{◌≢◌, ok_or}
-use Rattle.std.proofs.lemmas.Bool.{ltb-true, ltb-false}
+use Rattle.std.proofs.lemmas.Bool.{le-ltb, ltb-true, ltb-false}
 use Rattle.std.proofs.lemmas.Bool.Decides.{nat_tests}
 use Rattle.plcr_base.proofs.Chained.{bind_ok, bind_err, if_ok}
 use Rattle.plcr_base.specs.Chains.{◌>>=◌}
@@ -151,11 +151,8 @@ parts_ok arch regions threads p h =
 not_zero : (n : ℕ) → 1 ≤ n → (n == 0) ≡ false
 not_zero n h = grind (arith, nat_tests)
 
-not_more : (most n : ℕ) → n ≤ most → nat_lt most n ≡ false
-not_more most n h = grind (arith, nat_tests)
-
 parts_again : (arch : Arch) (regions : List Region) (threads : List Registers) → AreSome threads → parts_by arch regions threads ≡ Ok (record { arch = arch; regions = regions; threads = threads })
-parts_again arch regions threads h = rw (not_zero (length threads) h.some, not_more MOST_THREADS (length threads) h.few) refl
+parts_again arch regions threads h = rw (not_zero (length threads) h.some, le-ltb MOST_THREADS (length threads) h.few) refl
 
 parts_fail : (arch : Arch) (regions : List Region) (threads : List Registers) (none many : Bool) (fault : CoreFault)
     → (length threads == 0) ≡ none → nat_lt MOST_THREADS (length threads) ≡ many

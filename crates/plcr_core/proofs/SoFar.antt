@@ -4,13 +4,13 @@ use Rattle.std.specs.Option.{option_to_list}
 use Rattle.std.proofs.lemmas.List.Elements.{All-nil, All-same}
 use Rattle.std.proofs.Math.Nat.{sub-zero}
 use Rattle.plcr_base.specs.Chains.{◌>>=◌, result_map}
+use Rattle.plcr_base.proofs.Chained.{map_ok, map_err}
 use Rattle.plcr_memory.specs.declared.region.Region.{Region}
 use Rattle.plcr_memory.specs.Regions.{IsBacked}
 use Rattle.plcr_loader.specs.Commands.{Command, command_at, commands_at, faulted}
 use Rattle.plcr_loader.specs.Sources.{file_bytes}
 use Rattle.plcr_loader.specs.declared.mach_header_64.TheConstants.{LENGTH}
 use Rattle.plcr_loader.specs.declared.trouble.Trouble.{Trouble}
-use Rattle.plcr_loader.proofs.Results.{map_ok, map_err}
 use Rattle.plcr_core.specs.declared.header.Header.{Header}
 use Rattle.plcr_core.specs.declared.gain.Gain.{Gain}
 use Rattle.plcr_core.specs.declared.fault.CoreFault.{CoreFault}
@@ -88,9 +88,9 @@ pub moves : (file : List ℕ) (header : Header) (index at : ℕ) (old new : Gain
     → IfSome gain.region (StandsIn (length file))
     → SoFar file header (index + 1) (at + gain.size) new
 moves file header index at old new gain h more found =
-    let read = map_ok (gain_of header.arch) (here file header index at) gain found in
+    let read = map_ok (gain_of header.arch) (here file header index at) gain (sym found) in
     subst (λ (g : Gain). new ≡ with_gain old g → IfSome g.region (StandsIn (length file)) → SoFar file header (index + 1) (at + g.size) new)
-    (sym read.2)
+    read.2
     (moves_by file header index at old new read.0 h more read.1)
 
 -- a command with a trouble ends the reading
@@ -104,7 +104,7 @@ breaks file header index at old trouble h more found =
     let read : after h.front (rest file header (suc (header.commands - (index + 1))) index at) ≡ rest file header header.commands 0 LENGTH = subst (λ (n : ℕ). after h.front (rest file header n index at) ≡ rest file header header.commands 0 LENGTH) left h.read in
     let all : rest file header header.commands 0 LENGTH ≡ Err trouble =
     stops (file_bytes file) (core_trouble (length file)) header.end (header.commands - (index + 1)) index at h.front trouble (rest file header header.commands 0 LENGTH)
-    (map_err (gain_of header.arch) (here file header index at) trouble found) read in
+    (map_err (gain_of header.arch) (here file header index at) trouble (sym found)) read in
     fails_at (length file) trouble (gains_in file header)
     (ap (λ (r : Result (List Command) Trouble). faulted (fault_of (length file)) r >>= λ (cs : List Command). let g : Result Gains CoreFault = Ok (gains_of header.arch cs) in g) all)
 

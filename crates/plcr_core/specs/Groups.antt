@@ -1,8 +1,8 @@
--- The states of a thread command, an LC_THREAD or LC_UNIXTHREAD (loader.h): groups of a flavor, a count and so many 4-byte words.
+-- The states of a thread command, an LC_THREAD or LC_UNIXTHREAD (loader.h): groups of a flavor, a count and so many words of 4 bytes.
 use Rattle.std.specs.Prelude.{◌≡◌, ◌<◌, ◌≤◌, ℕ, zero, suc, ◌+◌, ◌*◌, nat_lt, if◌then◌else◌, List, [], ◌∷◌, length, take, drop, Option, Some, None, is_none, option_map}
 use Rattle.std.specs.Option.{option_and_then, option_or}
 use Rattle.plcr_loader.specs.declared.load_command.TheConstants as load_command
-use Rattle.plcr_loader.specs.declared.thread_group.TheConstants.{LENGTH, FLAVOR, COUNT}
+use Rattle.plcr_loader.specs.declared.thread_group.TheConstants.{LENGTH, FLAVOR, COUNT, WORD}
 use Rattle.plcr_loader.specs.declared.trouble.Trouble.{Trouble}
 use Rattle.plcr_loader.specs.declared.trouble.Trouble.TheVariants.{Bad}
 use Rattle.plcr_loader.specs.Fields.{number}
@@ -17,7 +17,7 @@ pub record Group : Type 0 where
 
 -- the length of the state in the group at the front
 abbrev pub state_length : List ℕ → ℕ
-state_length bytes = 4 * number COUNT bytes
+state_length bytes = WORD * number COUNT bytes
 
 -- the group at the front
 abbrev pub group_at_front : List ℕ → Group

@@ -18,7 +18,8 @@ pub enum CoreFault {
     NoThread,
     /// More than [`MOST_THREADS`](crate::MOST_THREADS) threads.
     TooManyThreads { count: u32 },
-    /// `second` is the first region that shares an address with an earlier one, `first` the first such earlier one.
+    /// `second` is the first region that shares an address with an earlier one, `first` the first
+    /// such earlier one.
     Overlap { first: usize, second: usize },
     /// The first region that passes the last 64-bit address.
     Wraps { index: usize },

@@ -59,7 +59,8 @@ fn gain_from(
     }
 }
 
-/// What the command at place `at` gives, which has the index `index` in a list that ends at place `end`.
+/// What the command at place `at` gives, which has the index `index` in a list that ends at place
+/// `end`.
 pub fn gain_at(arch: Arch, file: &[u8], end: u64, index: u32, at: u64) -> Result<Gain, Trouble>
     ensures gain { result ≡ result_map (gain_of arch) (command_at (file_bytes file.now) (core_trouble (length file.now)) end index at) }
     ensures within { IfOk result (λ gain. at + gain.size ≤ length file.now) }

@@ -12,7 +12,8 @@ use plcr_memory::Region;
 use plcr_regs::Registers;
 use std::alloc::{AllocError, Global};
 
-/// What the load commands of a core give: its regions, its first threads, and how many threads there are.
+/// What the load commands of a core give: its regions, its first threads, and how many threads
+/// there are.
 #[derive(Drop)]
 pub struct Gathered {
     pub regions: Vec<Region>,

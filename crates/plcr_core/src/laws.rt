@@ -7,7 +7,8 @@ ghost use Rattle.plcr_core.specs.Groups.{AreGroups, Group, groups_in};
 ghost use Rattle.plcr_core.specs.Laws.{IsFirstFault, IsLaidOut};
 ghost use Rattle.plcr_core.specs.Reading.{IsAnswer};
 
-/// What a core is: its header, then the load commands that lie one after the other behind it, and what these give.
+/// What a core is: its header, then the load commands that lie one after the other behind it, and
+/// what these give.
 pub fn cores_lie()
     // A core that is answered lies so.
     ensures found { (file : List ℕ) (core : Core) → IsAnswer file (parts_in file) (Ok core) → IsLaidOut file core }
@@ -20,8 +21,8 @@ pub fn cores_lie()
         IsAnswer file (parts_in file) (Err fault) → IsFirstFault file fault }
 {}
 
-/// The groups that are found in a thread command are the ones that stand in it, one after the other, and no
-/// others.
+/// The groups that are found in a thread command are the ones that stand in it, one after the
+/// other, and no others.
 pub fn groups_lie()
     ensures found { (bytes : List ℕ) (groups : List Group) → groups_in bytes ≡ Some groups → AreGroups bytes groups }
     ensures only { (bytes : List ℕ) (groups : List Group) → AreGroups bytes groups → groups_in bytes ≡ Some groups }

@@ -19,4 +19,8 @@ pub use limits::MOST_THREADS;
 pub use read::{Core, read_core};
 
 #[cfg(test)]
+mod fixtures;
+#[cfg(test)]
 mod tests;
+#[cfg(test)]
+mod thread_tests;

@@ -61,8 +61,9 @@ fn found_in(alloc: Global, file: &[u8]) -> Result<Found, CoreFault>
     counted(header.arch, gathered)
 }
 
-/// The core that the bytes of a 64-bit little-endian Mach-O core file hold, or the first fault in it, in the
-/// order of [`CoreFault`]'s tests: the header, then each load command, then the threads, then the regions.
+/// The core that the bytes of a 64-bit little-endian Mach-O core file hold, or the first fault in
+/// it, in the order of [`CoreFault`]'s tests: the header, then each load command, then the threads,
+/// then the regions.
 pub fn read_core(alloc: Global, bytes: Vec<u8>) -> Result<Core, CoreFault>
     ensures exact { IsAnswer bytes.items (parts_in bytes.items) result }
     ensures threads { IfOk result (λ core. AreThreads core.arch core.threads) }

@@ -3,12 +3,12 @@ ghost use Rattle.plcr_base.specs.Chains.{passed};
 ghost use Rattle.plcr_loader.specs.declared.load_command.TheConstants as load_command;
 ghost use Rattle.plcr_core.specs.Groups.{first_state, groups_in, thread_in, thread_trouble};
 
-use plcr_loader::thread_group::{COUNT, FLAVOR, LENGTH};
+use plcr_loader::thread_group::{COUNT, FLAVOR, LENGTH, WORD};
 use plcr_loader::{Trouble, load_command};
 use plcr_regs::{Arch, Registers, read_state};
 
-/// The registers of the first accepted group. None where a group passes the end, Some(None) where no group
-/// is accepted.
+/// The registers of the first accepted group. None where a group passes the end, Some(None) where
+/// no group is accepted.
 fn accepted_state(arch: Arch, groups: &[u8]) -> Option<Option<Registers>>
     ensures { result ≡ option_map (first_state arch) (groups_in groups.now) }
 {
@@ -16,7 +16,7 @@ fn accepted_state(arch: Arch, groups: &[u8]) -> Option<Option<Registers>>
     let mut accepted = None;
     while rest.len() >= LENGTH {
         let flavor = FLAVOR.read_u32(rest);
-        let size = 4 * COUNT.read_u32(rest) as usize;
+        let size = WORD * COUNT.read_u32(rest) as usize;
         let (_, words) = rest.split_at(LENGTH);
         if words.len() < size {
             return None;

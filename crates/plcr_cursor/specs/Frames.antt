@@ -13,7 +13,6 @@ use Rattle.plcr_regs.specs.Frames.{frame_lookup, frame_pc}
 use Rattle.plcr_compact.specs.Callers.{compact_frame}
 use Rattle.plcr_dwarf_cfi.specs.Caller.{call_frame}
 use Rattle.plcr_frameptr.specs.Saved.{saved_frame}
-use Rattle.plcr_cursor.specs.declared.given.Answer.{Answer}
 use Rattle.plcr_cursor.specs.declared.given.Given.{Given}
 use Rattle.plcr_cursor.specs.declared.given.Reader.{Reader}
 use Rattle.plcr_cursor.specs.declared.given.Reader.TheVariants.{ThreadState, CompactUnwind, CallFrameInformation, FramePointer}
@@ -30,6 +29,11 @@ reader_number FramePointer = 3
 abbrev pub image_over : Contents → List Listed → Frame → Option Image
 image_over memory images frame =
     option_and_then (λ address. option_map (λ found. found.1) (first_over memory frame.registers.arch address 0 images)) (frame_lookup frame)
+
+-- what a reader answers, and which it is
+pub record Answer : Type 0 where
+  pub step : Step
+  pub by : Reader
 
 -- the answer of each reader
 abbrev pub compact_answer : Contents → Frame → Image → Answer

@@ -7,10 +7,10 @@ ghost use Rattle.plcr_cursor.specs.Frames.{frames_of, lookup_of, number_of};
 ghost use Rattle.plcr_cursor.specs.Walks.{Gives, IsIndex, arch_of, coming, given_last, start};
 
 use crate::asked::{Asked, Plain};
-use crate::given::{Given, Reader};
+use crate::given::Reader;
 use crate::known::Known;
 use crate::limits::MOST_FRAMES;
-use crate::readers::next_frame;
+use crate::turning::Turning;
 use plcr_macho::Images;
 use plcr_memory::Memory;
 use plcr_regs::{Frame, Registers};
@@ -20,7 +20,9 @@ use std::marker::Model;
 #[derive(Drop)]
 pub struct Cursor {
     // The frame given last; before the first the one that comes first.
-    last: Given,
+    last: Turning,
+    // What told it.
+    by: Reader,
     given: bool,
     // How many frames may still be given.
     left: usize,
@@ -30,16 +32,18 @@ impl Model for Cursor {
     ghost use Rattle.std.specs.Prelude.{IsSome};
     ghost use Rattle.plcr_regs.specs.Frames.{frame_pc};
     ghost use Rattle.plcr_cursor.specs.Walks.{Walk};
+    ghost use Rattle.plcr_cursor.specs.inner.Answering.{given_as};
 
     ghost Value = { Walk };
 
-    ghost view = { λ c. record { last = c.last; given = c.given; left = c.left } };
+    ghost view = { λ c. record { last = given_as c.last c.by; given = c.given; left = c.left } };
 
-    ghost invariant = { λ c. IsSome (frame_pc c.last.frame) };
+    ghost invariant = { λ c. IsSome (frame_pc c.last) };
 }
 
 impl Cursor {
-    /// A walk over the frames of a thread in this state, under which so many low bits of an address of code count.
+    /// A walk over the frames of a thread in this state, under which so many low bits of an address
+    /// of code count.
     #[tactic(auto, unfolding(crate::specs::Frames::frames_of))]
     pub fn new(state: &Registers, bits: u8) -> Cursor
         requires known { IsSome (register_at state.now (pc_place state.now.arch)) }
@@ -53,10 +57,8 @@ impl Cursor {
             bits,
         };
         Cursor {
-            last: Given {
-                frame,
-                by: Reader::ThreadState,
-            },
+            last: Turning::at(&frame),
+            by: Reader::ThreadState,
             given: false,
             left: MOST_FRAMES,
         }
@@ -79,19 +81,20 @@ impl Cursor {
         if !self.given {
             self.given = true;
             self.left -= 1;
-            return self.last.frame.pc();
+            return self.last.frame().pc();
         }
-        let Some(next) = next_frame(asked, images, &self.last.frame) else {
+        let Some(by) = self.last.turn(asked, images) else {
             self.left = 0;
             return None;
         };
-        self.last = next;
+        self.by = by;
         self.left -= 1;
-        self.last.frame.pc()
+        self.last.frame().pc()
     }
 
-    /// The pc of the next frame, without signature. None after the last, and from then on whatever it is called with. The
-    /// images have to be indexed for this memory and the thread's architecture.
+    /// The pc of the next frame, without signature. None after the last, and from then on whatever
+    /// it is called with. The images have to be indexed for this memory and the thread's
+    /// architecture.
     pub fn next<I: Images>(&mut self, memory: &Memory, images: &mut I) -> Option<u64>
         requires index { IsIndex memory.now (arch_of self.old) (I.images images.old) (I.extents images.old) }
         ensures gives { Gives (coming memory.now (I.images images.old) self.old) (coming memory.now (I.images images.old) self.new) (given_last self.old) (given_last self.new) result }
@@ -104,7 +107,8 @@ impl Cursor {
         self.advance(&mut Plain { memory }, images)
     }
 
-    /// What `next` says, of a memory of which something may be kept, and where more of it is kept then.
+    /// What `next` says, of a memory of which something may be kept, and where more of it is kept
+    /// then.
     pub fn next_with<I: Images>(&mut self, known: &mut Known, images: &mut I) -> Option<u64>
         requires index { IsIndex known.old (arch_of self.old) (I.images images.old) (I.extents images.old) }
         ensures gives { Gives (coming known.old (I.images images.old) self.old) (coming known.old (I.images images.old) self.new) (given_last self.old) (given_last self.new) result }
@@ -118,12 +122,13 @@ impl Cursor {
         self.advance(known, images)
     }
 
-    /// The address by which the function of the frame given last is looked up. None before the first.
+    /// The address by which the function of the frame given last is looked up. None before the
+    /// first.
     pub fn lookup(&self) -> Option<u64>
         ensures { result ≡ lookup_of (given_last self.now) }
     {
         if self.given {
-            self.last.frame.lookup()
+            self.last.frame().lookup()
         } else {
             None
         }
@@ -134,7 +139,7 @@ impl Cursor {
         ensures { result ≡ number_of (given_last self.now) }
     {
         if self.given {
-            Some(self.last.by.number())
+            Some(self.by.number())
         } else {
             None
         }

@@ -1,7 +1,9 @@
-ghost use Rattle.std.specs.Prelude.{◌≡◌};
+ghost use Rattle.std.specs.Prelude.{◌≡◌, option_map};
+ghost use Rattle.plcr_regs.specs.declared.frame.Frame.{Frame};
 ghost use Rattle.plcr_cursor.specs.Frames.{given_in, is_bad, reader_number};
+ghost use Rattle.plcr_cursor.specs.inner.Answering.{answer_in, given_as};
 
-use plcr_regs::{Frame, Step};
+use plcr_regs::{Frame, Outcome};
 
 /// What tells a frame.
 #[derive(Clone, Copy, Debug, PartialEq, Eq)]
@@ -37,28 +39,28 @@ pub struct Given {
     pub by: Reader,
 }
 
-/// What a reader answers.
+/// What a reader answers that puts the caller into room.
 #[derive(Clone, Copy)]
-pub struct Answer {
-    pub step: Step,
+pub struct Told {
+    pub outcome: Outcome,
     pub by: Reader,
 }
 
-impl Answer {
+impl Told {
     /// Whether the reader can't tell.
     pub fn is_bad(&self) -> bool
-        ensures { result ≡ is_bad self.now.step }
+        ensures { (room : Frame) → result ≡ is_bad (answer_in self.now room).step }
     {
-        matches!(self.step, Step::Bad(_))
+        matches!(self.outcome, Outcome::Bad(_))
     }
 
-    /// The frame that it gives.
-    pub fn given(&self) -> Option<Given>
-        ensures { result ≡ given_in self.now }
+    /// What told the frame that stands in the room, where one does.
+    pub fn giver(&self) -> Option<Reader>
+        ensures { (room : Frame) → option_map (given_as room) result ≡ given_in (answer_in self.now room) }
     {
-        match self.step {
-            Step::Frame(frame) => Some(Given { frame, by: self.by }),
-            Step::End | Step::Bad(_) => None,
+        match self.outcome {
+            Outcome::Caller => Some(self.by),
+            Outcome::End | Outcome::Bad(_) => None,
         }
     }
 }

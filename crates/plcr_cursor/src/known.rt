@@ -4,16 +4,16 @@ ghost use Rattle.std.specs.Result.{result_ok};
 ghost use Rattle.plcr_macho.specs.Loading.{image_at};
 ghost use Rattle.plcr_cursor.specs.inner.Keeping.{Holds, IsImage};
 
-use crate::asked::Asked;
+use crate::asked::{Asked, put};
 use plcr_compact::KnownSections;
 use plcr_dwarf_cfi::KnownDescriptions;
 use plcr_macho::{Image, parse};
 use plcr_memory::Memory;
-use plcr_regs::{Arch, Frame, Step};
+use plcr_regs::{Arch, Frame, Outcome};
 use std::marker::Model;
 
 /// So many images are kept.
-pub const KNOWN_IMAGES: usize = 256;
+pub const KNOWN_IMAGES: usize = 1024;
 
 /// What stands at a header.
 #[derive(Clone, Copy)]
@@ -62,7 +62,8 @@ fn no_images(memory: &Memory) -> [Option<KnownImage>; KNOWN_IMAGES]
     [None; KNOWN_IMAGES]
 }
 
-/// A memory, with what was found of its images and of their tables in room of fixed size. Contracts see the memory.
+/// A memory, with what was found of its images and of their tables in room of fixed size. Contracts
+/// see the memory.
 #[derive(Drop)]
 pub struct Known<'m> {
     memory: &'m Memory,
@@ -122,15 +123,15 @@ impl Asked for Known<'_> {
         self.image_at(place, arch, header)
     }
 
-    fn compact(&mut self, place: usize, image: &Image, frame: &Frame) -> Step {
-        self.sections.step(place, image, frame)
+    fn compact(&mut self, place: usize, image: &Image, frame: &Frame, room: &mut Frame) -> Outcome {
+        self.sections.step_into(place, image, frame, room)
     }
 
-    fn call_frame(&mut self, image: &Image, frame: &Frame) -> Step {
-        self.descriptions.step(image, frame)
+    fn call_frame(&mut self, image: &Image, frame: &Frame, room: &mut Frame) -> Outcome {
+        put(&self.descriptions.step(image, frame), room)
     }
 
-    fn saved(&mut self, frame: &Frame) -> Step {
-        plcr_frameptr::step(self.memory, frame)
+    fn saved(&mut self, frame: &Frame, room: &mut Frame) -> Outcome {
+        plcr_frameptr::step_into(self.memory, frame, room)
     }
 }

@@ -8,6 +8,7 @@ mod known;
 mod laws;
 mod limits;
 mod readers;
+mod turning;
 
 pub use cursor::Cursor;
 pub use given::{Given, Reader};
@@ -15,5 +16,9 @@ pub use known::{KNOWN_IMAGES, Known};
 pub use laws::frames_lead;
 pub use limits::{MOST_FRAMES, NULL_PAGE};
 
+#[cfg(test)]
+mod fixtures;
+#[cfg(test)]
+mod order_tests;
 #[cfg(test)]
 mod tests;

@@ -3,8 +3,9 @@ ghost use Rattle.plcr_regs.specs.Frames.{register_at};
 ghost use Rattle.plcr_regs.specs.Places.{pc_place};
 
 use super::*;
+use crate::fixtures::{bytes, memory_of};
 use plcr_macho::{Images, ListImages};
-use plcr_memory::{Memory, MemoryFault, Region, are_backed};
+use plcr_memory::{Memory, MemoryFault};
 use plcr_regs::{Arch, MOST_REGISTERS, Registers};
 use std::alloc::{AllocError, Global};
 use std::test::*;
@@ -16,45 +17,41 @@ fn memory_with(alloc: Global, start: u64, words: &[u64]) -> Result<Memory, Memor
         file.extend_from_slice(&word.to_le_bytes())?;
     }
     let len = file.len();
-    let mut regions = Vec::new(alloc);
-    regions.push(Region {
-        start,
-        size: len as u64,
-        from: 0,
-        len,
-    })?;
-    if are_backed(file.as_slice(), regions.as_slice()) {
-        Memory::new(alloc, file, regions)
-    } else {
-        Err(MemoryFault::Memory)
-    }
+    memory_of(alloc, file, &[bytes(start, 0, len)])
 }
 
-// A state of which pc and fp are known.
+/// A state of which pc, the stack pointer and fp are known.
 #[tactic(auto, unfolding(plcr_regs::specs::Places::pc_place))]
-fn state_with(arch: Arch, pc: u64, fp: u64) -> Registers
+pub fn state_with(arch: Arch, pc: u64, sp: u64, fp: u64) -> Registers
     ensures { IsSome (register_at result (pc_place result.arch)) }
 {
     let mut value = [None; MOST_REGISTERS];
     match arch {
         Arch::X86_64 => {
             value[6] = Some(fp);
+            value[7] = Some(sp);
             value[16] = Some(pc);
             Registers { arch, value }
         }
         Arch::Arm64 => {
             value[29] = Some(fp);
+            value[31] = Some(sp);
             value[32] = Some(pc);
             Registers { arch, value }
         }
     }
 }
 
-// A frame as the cursor tells it: pc, the address that is looked up, and what told it.
-type Told = (u64, Option<u64>, Option<u8>);
+/// A frame as the cursor tells it: pc, the address that is looked up, and what told it.
+pub type Told = (u64, Option<u64>, Option<u8>);
 
-// The frames of a thread, and whether none was told before the first and after the last.
-fn walked<I: Images>(
+fn tell(cursor: &Cursor, pc: u64) -> Told {
+    (pc, cursor.lookup(), cursor.by())
+}
+
+/// The frames of a thread, and whether none was told before the first and after the last, and the
+/// same frames where something is kept of the memory.
+pub fn walked<I: Images>(
     alloc: Global,
     memory: &Memory,
     images: &mut I,
@@ -67,21 +64,27 @@ fn walked<I: Images>(
     let bits = bits.clamp(32, 64);
     images.index(memory, state.arch);
     let mut cursor = Cursor::new(state, bits);
+    let mut keeping = Cursor::new(state, bits);
+    let mut known = Known::new(memory);
     let mut told = Vec::new(alloc);
-    let before = cursor.lookup().is_none() && cursor.by().is_none();
+    let mut same = cursor.lookup().is_none() && cursor.by().is_none();
     for _ in 0..=MOST_FRAMES {
-        if let Some(pc) = cursor.next(memory, images) {
-            told.push((pc, cursor.lookup(), cursor.by()))?;
+        let pc = cursor.next(memory, images);
+        let kept = keeping.next_with(&mut known, images);
+        same &= pc == kept && tell(&cursor, 0) == tell(&keeping, 0);
+        if let Some(pc) = pc {
+            told.push(tell(&cursor, pc))?;
         }
     }
-    let after = cursor.next(memory, images).is_none();
-    Ok((told, before && after))
+    let none = cursor.next(memory, images).is_none();
+    let none_kept = keeping.next_with(&mut known, images).is_none();
+    Ok((told, same && none && none_kept))
 }
 
 #[test]
 fn frames_are_told_until_the_null_page(rt: HostRuntime) -> Result<(), Fail> {
     let alloc = rt.alloc();
-    let state = state_with(Arch::Arm64, 0x1_0000_0f50, 0x7100);
+    let state = state_with(Arch::Arm64, 0x1_0000_0f50, 0, 0x7100);
     let memory = memory_with(alloc, 0x7100, &[0x7120, 0x2000, 0, 0, 0, 0x1000])?;
     frames_lead();
     let mut images = ListImages::new(&[], &mut []);
@@ -105,7 +108,8 @@ const PLAIN: u64 = 0x1_0000_4100;
 fn frames_end_where_they_must(rt: HostRuntime) -> Result<(), Fail> {
     let alloc = rt.alloc();
     let (arm64, x86_64) = (Arch::Arm64, Arch::X86_64);
-    // The architecture and the bits; the pc and the fp; the two words at 0x7100; the pcs that are told.
+    // The architecture and the bits; the pc and the fp; the two words at 0x7100; the pcs that are
+    // told.
     let cases = [
         (arm64, 64, 9, 0x7100, [0x7100, 0x2000], [9].as_slice()),
         (arm64, 64, 9, 0x7100, [0x70f0, 0x2000], [9].as_slice()),
@@ -166,7 +170,7 @@ fn frames_end_where_they_must(rt: HostRuntime) -> Result<(), Fail> {
         ),
     ];
     for (arch, bits, pc, fp, words, pcs) in cases {
-        let state = state_with(arch, pc, fp);
+        let state = state_with(arch, pc, 0, fp);
         let memory = memory_with(alloc, 0x7100, &words)?;
         let mut images = ListImages::new(&[], &mut []);
         let (told, ends) = walked(alloc, &memory, &mut images, &state, bits)?;
@@ -187,7 +191,7 @@ fn a_thread_has_a_most_of_frames(rt: HostRuntime) -> Result<(), Fail> {
         words.push(0x1_0000 + i)?;
     }
     let memory = memory_with(alloc, 0x7000, words.as_slice())?;
-    let state = state_with(Arch::X86_64, 0x1_0000_0f50, 0x7000);
+    let state = state_with(Arch::X86_64, 0x1_0000_0f50, 0, 0x7000);
     let mut images = ListImages::new(&[], &mut []);
     let (told, ends) = walked(alloc, &memory, &mut images, &state, 64)?;
     assert!(rt; ends);

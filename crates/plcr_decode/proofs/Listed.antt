@@ -1,7 +1,7 @@
 -- One field of a message at a time.
 use Rattle.std.proofs.Common.{◌≡◌, ◌≢◌, ℕ, zero, suc, ◌≤◌, ◌==◌, List, [], ◌∷◌, ◌++◌, length, Some, None, Result, Ok, Err, Bool, cond, true, false, refl, sym, ap, ◌∙◌, append-nil, arith}
-use Rattle.std.proofs.lemmas.Bool.Decides.{nat_tests}
 use Rattle.std.proofs.lemmas.Bool.{ne_eqb}
+use Rattle.plcr_base.proofs.Plain.{is_equal}
 use Rattle.plcr_wire.specs.Message.{Value, Field, value_bytes}
 use Rattle.plcr_wire.specs.Reading.{field_at, number_at}
 use Rattle.plcr_wire.specs.declared.fields.WireFault.{WireFault}
@@ -85,11 +85,8 @@ has_either false v n fs = refl
 pub has_step : (n : ℕ) (f : Field) (fs : List Field) → has n (f ∷ fs) ≡ cond (f.number == n) true (has n fs)
 has_step n f fs = has_either (f.number == n) f.value n fs
 
-pub same_number : (m n : ℕ) → m ≡ n → (m == n) ≡ true
-same_number m n h = grind (arith, nat_tests)
-
 pub has_here : (n : ℕ) (f : Field) (fs : List Field) → f.number ≡ n → has n (f ∷ fs) ≡ true
-has_here n f fs h = has_step n f fs ∙ ap (λ (b : Bool). cond b true (has n fs)) (same_number f.number n h)
+has_here n f fs h = has_step n f fs ∙ ap (λ (b : Bool). cond b true (has n fs)) (is_equal f.number n h)
 
 -- a field of another number holds no part of a message
 pub messages_step : (n : ℕ) (f : Field) (fs : List Field) → f.number ≢ n → joined n (f ∷ fs) ≡ joined n fs

@@ -4,14 +4,14 @@ use Rattle.std.proofs.lemmas.List.{nil_from_length, map-append, append_assoc}
 use Rattle.std.proofs.lemmas.Bool.{ne_eqb}
 use Rattle.plcr_wire.specs.Message.{Field, value_bytes}
 use Rattle.plcr_decode.specs.Fields.{fields_of, messages_in}
-use Rattle.plcr_decode.proofs.Listed.{same_number}
+use Rattle.plcr_base.proofs.Plain.{is_equal}
 
 chosen : {A : Type 0} (b c : Bool) (x y : A) → b ≡ c → cond b x y ≡ cond c x y
 chosen b c x y e = ap (λ (b : Bool). cond b x y) e
 
 -- a field of this number holds one
 pub row_here : (n : ℕ) (f : Field) → f.number ≡ n → messages_in n (f ∷ []) ≡ fields_of (value_bytes f.value) ∷ []
-row_here n f h = chosen (f.number == n) true (fields_of (value_bytes f.value) ∷ []) [] (same_number f.number n h)
+row_here n f h = chosen (f.number == n) true (fields_of (value_bytes f.value) ∷ []) [] (is_equal f.number n h)
 
 -- one of another number holds none
 pub row_other : (n : ℕ) (f : Field) → f.number ≢ n → messages_in n (f ∷ []) ≡ []

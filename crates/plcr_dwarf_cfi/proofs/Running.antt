@@ -1,17 +1,21 @@
 -- Runs of entries that are passed over, and searches that do so.
-use Rattle.std.proofs.Common.{◌≡◌, ◌≢◌, ◌≤◌, ◌<◌, ◌⊎◌, inl, inr, ℕ, suc, ◌+◌, ◌-◌, ◌==◌, Bool, true, false, cond, Some, None, Ok, Err, refl, sym, ap, ◌∙◌, arith}
+use Rattle.std.proofs.Common.{◌≡◌, ◌≢◌, ◌≤◌, ◌<◌, ◌⊎◌, inl, inr, ℕ, suc, ◌+◌, ◌-◌, ◌==◌, Bool, true, false, cond, Some, None, Ok, Err, refl, sym, ap, subst, ◌∙◌, arith}
 use Rattle.std.specs.Prelude.{◌^◌, ◌||◌, ◌&&◌, nat_lt, nat_le, min, max}
 use Rattle.std.proofs.lemmas.Bool.Decides.{nat_tests}
+use Rattle.plcr_dwarf_cfi.specs.declared.entries.CommonInformation.{CommonInformation}
 use Rattle.plcr_dwarf_cfi.specs.declared.entries.Entry.{Entry}
+use Rattle.plcr_dwarf_cfi.specs.declared.entries.Extent.{Extent}
 use Rattle.plcr_dwarf_cfi.specs.declared.entries.Entry.TheVariants.{Common, Description}
 use Rattle.plcr_dwarf_cfi.specs.declared.entries.FrameDescription.{FrameDescription}
 use Rattle.plcr_dwarf_cfi.specs.declared.fault.CallFrameFault.{CallFrameFault}
 use Rattle.plcr_dwarf_cfi.specs.declared.fault.CallFrameFault.TheVariants.{NotCovered, Truncated}
 use Rattle.plcr_dwarf_cfi.specs.declared.front.Run.{Run}
-use Rattle.plcr_dwarf_cfi.specs.Entries.{covers, description_for, description_over, entry_at, found_in}
+use Rattle.plcr_dwarf_cfi.specs.declared.passing.Code.{Code}
+use Rattle.plcr_dwarf_cfi.specs.declared.passing.Passed.{Passed}
+use Rattle.plcr_dwarf_cfi.specs.Entries.{common_before, covers, description_for, description_in, description_over, entry_at, found_in}
 use Rattle.plcr_dwarf_cfi.specs.Lists.{listed}
-use Rattle.plcr_dwarf_cfi.specs.Sections.{Section}
-use Rattle.plcr_dwarf_cfi.specs.inner.Fronts.{IsRun, found_from, is_outside, last_of, run_at, with_entry}
+use Rattle.plcr_dwarf_cfi.specs.Sections.{Section, within}
+use Rattle.plcr_dwarf_cfi.specs.inner.Fronts.{IsNamed, IsPassed, IsRun, described, found_from, is_outside, last_of, run_at, with_code, with_entry}
 use Rattle.plcr_dwarf_cfi.proofs.Searches.{search_start}
 
 -- step by step
@@ -59,7 +63,7 @@ other_by : (a b : ℕ) → (a == b) ≡ false → a ≢ b
 other_by a b h e = let t : (a == b) ≡ true = grind (arith, nat_tests, e) in let no = sym h ∙ t in cc
 
 apart_by : (run : Run) (d : FrameDescription) (a : ℕ) (b : Bool) → a < 2 ^ 64 → (d.address_range == 0) ≡ b
-    → (nat_lt a (cond b run.lowest (min run.lowest d.initial_location)) || nat_lt (cond b run.highest (max run.highest (last_of d))) a) ≡ true
+    → (nat_lt a (cond b run.lowest (min run.lowest d.initial_location)) || nat_lt (cond b run.highest (max run.highest (last_of d.initial_location d.address_range))) a) ≡ true
     → Apart run (Description d) a
 apart_by run d a true small empty h = record {
   outside = h;
@@ -67,7 +71,7 @@ apart_by run d a true small empty h = record {
 }
 apart_by run d a false small some h =
     let more : d.address_range ≢ 0 = other_by d.address_range 0 some in
-    elim (outside_or a (min run.lowest d.initial_location) (max run.highest (last_of d)) h) [
+    elim (outside_or a (min run.lowest d.initial_location) (max run.highest (last_of d.initial_location d.address_range)) h) [
       | inl below ↦
           let lower : a < run.lowest = omega (arith, below) in
           let start : a < d.initial_location = omega (arith, below) in
@@ -110,6 +114,13 @@ grown_passes s run place next entry is here step a left small out =
 pub run_grows : (s : Section) (run : Run) (place next : ℕ) (entry : Entry) → IsRun s run → run.to ≡ place → entry_at s place ≡ Ok (Some (entry, next)) → IsRun s (with_entry run entry next)
 run_grows s run place next entry is here step = record { passes = grown_passes s run place next entry is here step }
 
+pub run_grows_over : (s : Section) (run : Run) (place a : ℕ) (p : Passed) → IsRun s run → run.to ≡ place → IsPassed s place a p → IsRun s (with_code run p.start p.range p.next)
+run_grows_over s run place a p is here passed =
+    let d : FrameDescription = passed.description in
+    let longer : IsRun s (with_code run d.initial_location d.address_range p.next) = run_grows s run place p.next (Description d) is here passed.stands in
+    let located : IsRun s (with_code run p.start d.address_range p.next) = subst (λ (k : ℕ). IsRun s (with_code run k d.address_range p.next)) passed.location longer in
+    subst (λ (k : ℕ). IsRun s (with_code run p.start k p.next)) passed.range located
+
 pub run_empty : (s : Section) (place : ℕ) → IsRun s (run_at place)
 run_empty s place = record {
   passes = λ a left small out. let none : 0 + left ≡ left = omega arith in ap (λ k. found_from s a k place) none;
@@ -132,6 +143,10 @@ pub walk_goes : (s : Section) (a left place next : ℕ) (entry : Entry) → 0 < 
     → found_from s a left place ≡ found_from s a (left - 1) next
 walk_goes s a left place next entry more step over = ap (λ k. found_from s a k place) (left_one left more) ∙ found_more s a (left - 1) place next entry step over
 
+pub walk_passes_one : (s : Section) (a left place : ℕ) (p : Passed) → 0 < left → IsPassed s place a p → found_from s a left place ≡ found_from s a (left - 1) p.next
+walk_passes_one s a left place p more passed =
+    walk_goes s a left place p.next (Description passed.description) more passed.stands (not_over passed.description a passed.apart)
+
 pub walk_hits : (s : Section) (a left place next : ℕ) (entry : Entry) (d : FrameDescription) → 0 < left → entry_at s place ≡ Ok (Some (entry, next)) → description_over a entry ≡ Some d
     → found_from s a left place ≡ Ok d
 unfolding found_from
@@ -148,3 +163,22 @@ walk_fails s a left place fault more step = ap (λ k. found_in a (listed (entry_
 pub walk_out : (s : Section) (a left place : ℕ) → left ≡ 0 → found_from s a left place ≡ Err Truncated
 unfolding found_from
 walk_out s a left place none = ap (λ k. found_in a (listed (entry_at s) k place)) none ∙ refl
+
+-- what makes the entry at a place a description
+pub passed_stands : (s : Section) (place : ℕ) (e : Extent) (id : ℕ) (c : CommonInformation) (d : FrameDescription)
+    → IsNamed s place e id → common_before s e.start id ≡ Ok c → description_in (within s e) e c ≡ Ok d
+    → entry_at s place ≡ Ok (Some (Description d, e.end))
+unfolding entry_at
+passed_stands s place e id c d is before there = rw (is.inside, is.extent, is.some, is.named, is.other, before, there) refl
+
+pub passed_is : (s : Section) (place a : ℕ) (e : Extent) (id : ℕ) (c : CommonInformation) (code : Code)
+    → IsNamed s place e id → common_before s e.start id ≡ Ok c → Ok (described e c code) ≡ description_in (within s e) e c
+    → (nat_le code.start a && nat_lt (a - code.start) code.range) ≡ false
+    → IsPassed s place a (record { start = code.start; range = code.range; next = e.end })
+passed_is s place a e id c code named before there apart = record {
+  description = described e c code;
+  stands = passed_stands s place e id c (described e c code) named before (sym there);
+  location = refl;
+  range = refl;
+  apart = apart;
+}

@@ -15,7 +15,7 @@ use Rattle.plcr_dwarf_cfi.specs.declared.fault.CallFrameFault.TheVariants.{Trunc
 use Rattle.plcr_dwarf_cfi.specs.declared.instructions.Block.{Block}
 use Rattle.plcr_dwarf_cfi.specs.declared.instructions.Instruction.{Instruction}
 use Rattle.plcr_dwarf_cfi.specs.declared.opcodes.TheConstants.{DW_CFA_advance_loc, DW_CFA_offset, DW_CFA_restore}
-use Rattle.plcr_dwarf_cfi.specs.Instructions.{Reading, among_or, block, block_at, block_read, cfa_rows, creation_rows, decoded, extended_reading, instruction_at, more, number, number_block, number_signed, one, other_rows, plain, pointer, reading_of, rule_rows, signed_number, two_numbers, unknown}
+use Rattle.plcr_dwarf_cfi.specs.Instructions.{Reading, among_or, block, block_at, block_read, cfa_rows, creation_rows, decoded, expression_rows, extended_reading, instruction_at, more, number, number_block, number_signed, offset_rows, one, other_rows, plain, pointer, reading_of, register_rows, signed_number, two_numbers, unknown}
 use Rattle.plcr_dwarf_cfi.specs.Pointers.{held_pointer, number_of, pointer_at, told_address}
 use Rattle.plcr_dwarf_cfi.specs.Sections.{Section, byte, fixed, signed, sized, unsigned}
 use Rattle.plcr_dwarf_cfi.proofs.SpelledOut.{Forward, Inside, byte_ends, number_ends, signed_ends, unsigned_ends}
@@ -160,10 +160,12 @@ rows_read s opcode (r ∷ rows) other all rest = row_reads s opcode r rows other
 extended_reads : (s : Section) → Inside s → (opcode : ℕ) → Reads s (extended_reading opcode)
 extended_reads s inside opcode =
     let others : AllRead s other_rows = (plain_reads s _, (plain_reads s _, (plain_reads s _, (number_reads s inside _, tt)))) in
-    let rules : AllRead s rule_rows = (number_reads s inside _, (number_reads s inside _, (two_reads s inside _, (with_signed_reads s inside _, (two_reads s inside _, (with_signed_reads s inside _, (two_reads s inside _, (with_block_reads s inside _, (with_block_reads s inside _, (number_reads s inside _, tt)))))))))) in
+    let expressions : AllRead s expression_rows = (with_block_reads s inside _, (with_block_reads s inside _, tt)) in
+    let offsets : AllRead s offset_rows = (two_reads s inside _, (with_signed_reads s inside _, (two_reads s inside _, (with_signed_reads s inside _, tt)))) in
+    let registers : AllRead s register_rows = (number_reads s inside _, (number_reads s inside _, (two_reads s inside _, (number_reads s inside _, tt)))) in
     let cfas : AllRead s cfa_rows = (two_reads s inside _, (with_signed_reads s inside _, (number_reads s inside _, (number_reads s inside _, (signed_reads s inside _, (block_reads s inside _, tt)))))) in
     let creations : AllRead s creation_rows = (pointer_reads s inside _, (one_reads s inside _, (more_reads s inside 2 _, (more_reads s inside 4 _, tt)))) in
-    rows_read s opcode creation_rows _ creations (rows_read s opcode cfa_rows _ cfas (rows_read s opcode rule_rows _ rules (rows_read s opcode other_rows unknown others (unknown_reads s))))
+    rows_read s opcode creation_rows _ creations (rows_read s opcode cfa_rows _ cfas (rows_read s opcode register_rows _ registers (rows_read s opcode offset_rows _ offsets (rows_read s opcode expression_rows _ expressions (rows_read s opcode other_rows unknown others (unknown_reads s))))))
 
 restore_by : (s : Section) (opcode : ℕ) (b : Bool) (offset restore : Reading) → Reads s offset → Reads s restore → Reads s (cond b offset restore)
 restore_by s opcode true offset restore a c = a

@@ -1,8 +1,8 @@
 -- The list of instructions is the one that the bytes spell.
 use Rattle.std.proofs.Common.{◌≡◌, ◌≢◌, ◌≤◌, ◌<◌, inl, inr, ℕ, zero, suc, ◌+◌, ◌==◌, true, false, List, [], ◌∷◌, Option, Some, None, Ok, Err, Result, refl, ap, ◌∙◌, arith}
 use Rattle.std.proofs.lemmas.Bool.{cases_eq}
-use Rattle.std.proofs.lemmas.Bool.Decides.{nat_tests}
 use Rattle.plcr_base.specs.Chains.{◌>>=◌}
+use Rattle.plcr_base.proofs.Plain.{is_equal, not_equal}
 use Rattle.plcr_memory.specs.Regions.{Contents}
 use Rattle.plcr_dwarf_cfi.specs.declared.decode.Decoded.{Decoded}
 use Rattle.plcr_dwarf_cfi.specs.declared.entries.Encoding.{Encoding}
@@ -15,12 +15,6 @@ use Rattle.plcr_dwarf_cfi.specs.Sections.{Section, section_at, within}
 use Rattle.plcr_dwarf_cfi.specs.Spelling.{Spelled, Spells}
 use Rattle.plcr_dwarf_cfi.proofs.SpelledOut.{Inside, entry_inside}
 use Rattle.plcr_dwarf_cfi.proofs.SpelledForward.{instruction_ends}
-
-not_equal : (a b : ℕ) → a ≢ b → (a == b) ≡ false
-not_equal a b h = grind (arith, nat_tests)
-
-is_equal : (a b : ℕ) → a ≡ b → (a == b) ≡ true
-is_equal a b h = grind (arith, nat_tests)
 
 abbrev list_from : Section → Encoding → ℕ → ℕ → ℕ → Listed Instruction
 list_from s encoding end left place = listed (instruction_before s encoding end) left place

@@ -3,7 +3,7 @@ use Rattle.std.proofs.Common.{◌≡◌, ◌≤◌, ℕ, zero, suc, ◌+◌, Boo
 use Rattle.std.specs.Prelude.{nat_lt, nat_le, ok_or}
 use Rattle.std.proofs.lemmas.Bool.Decides.{nat_tests}
 use Rattle.plcr_base.specs.Chains.{◌>>=◌, result_map}
-use Rattle.plcr_base.proofs.Chained.{bind_ok, ok_or_ok}
+use Rattle.plcr_base.proofs.Chained.{bind_ok, map_ok, ok_or_ok}
 use Rattle.plcr_memory.specs.Regions.{Contents}
 use Rattle.plcr_leb128.specs.declared.fault.Leb128Fault.{Leb128Fault}
 use Rattle.plcr_leb128.specs.declared.fault.Leb128Fault.TheVariants.{Absent}
@@ -76,10 +76,6 @@ bytes_end s inside (suc left) place bytes h =
     bytes_step s inside left place first.0 bytes (nat_lt first.0 HIGH_BIT) (ok_or_ok (bytes_of s.cells place) Absent first.0 first.1)
     (λ more there. bytes_end s inside left (place + 1) more there) first.2
 
-result_mapped : {A B E : Type 0} (f : A → B) (r : Result A E) (y : B) → result_map f r ≡ Ok y → (x : A) × (r ≡ Ok x) × (f x ≡ y)
-result_mapped f (Ok x) y h = let e : f x ≡ y = cc in (x, refl, e)
-result_mapped f (Err e) y h = let h2 = h in cc
-
 whole_ok : (r : Result Number Leb128Fault) (n : Number) → whole r ≡ Ok n → r ≡ Ok n
 whole_ok (Ok m) n h = let e : m ≡ n = cc in ap (λ (k : Number). let r : Result Number Leb128Fault = Ok k in r) e
 whole_ok (Err fault) n h = let h2 = h in cc
@@ -92,7 +88,7 @@ pub record Forward (s : Section) (at next : ℕ) : Type 0 where
 pub unsigned_ends : (s : Section) → Inside s → (at : ℕ) (n : Number) → unsigned s.cells at ≡ Ok n → Forward s at n.next
 unfolding leb128_bytes
 unsigned_ends s inside at n h =
-    let bytes = result_mapped (unsigned_number at) (leb128_bytes (bytes_of s.cells) at) n (whole_ok (unsigned_at (bytes_of s.cells) at) n h) in
+    let bytes = map_ok (unsigned_number at) (leb128_bytes (bytes_of s.cells) at) n (whole_ok (unsigned_at (bytes_of s.cells) at) n h) in
     let e = bytes_end s inside MOST_BYTES at bytes.0 bytes.1 in
     let next : at + length bytes.0 ≡ n.next = ap (λ (m : Number). m.next) bytes.2 in
     record { forward = omega (arith, next); within = omega (arith, next, e.within) }
@@ -100,7 +96,7 @@ unsigned_ends s inside at n h =
 pub signed_ends : (s : Section) → Inside s → (at : ℕ) (n : Number) → signed s.cells at ≡ Ok n → Forward s at n.next
 unfolding leb128_bytes
 signed_ends s inside at n h =
-    let bytes = result_mapped (signed_number at) (leb128_bytes (bytes_of s.cells) at) n (whole_ok (signed_at (bytes_of s.cells) at) n h) in
+    let bytes = map_ok (signed_number at) (leb128_bytes (bytes_of s.cells) at) n (whole_ok (signed_at (bytes_of s.cells) at) n h) in
     let e = bytes_end s inside MOST_BYTES at bytes.0 bytes.1 in
     let next : at + length bytes.0 ≡ n.next = ap (λ (m : Number). m.next) bytes.2 in
     record { forward = omega (arith, next); within = omega (arith, next, e.within) }

@@ -87,18 +87,26 @@ cfa_rows =
     row DW_CFA_def_cfa_expression (block (λ b. Cfa (cfa.DefCfaExpression b))) ∷
     []
 
-abbrev pub rule_rows : List (Row Reading)
-rule_rows =
+abbrev pub register_rows : List (Row Reading)
+register_rows =
     row DW_CFA_undefined (number (λ r. Rule (rules.Undefined r))) ∷
     row DW_CFA_same_value (number (λ r. Rule (rules.SameValue r))) ∷
+    row DW_CFA_register (two_numbers (λ r q. Rule (rules.Register r q))) ∷
+    row DW_CFA_restore_extended (number (λ r. Rule (rules.RestoreExtended r))) ∷
+    []
+
+abbrev pub offset_rows : List (Row Reading)
+offset_rows =
     row DW_CFA_offset_extended (two_numbers (λ r n. Rule (rules.OffsetExtended r n))) ∷
     row DW_CFA_offset_extended_sf (number_signed (λ r n. Rule (rules.OffsetExtendedSf r n))) ∷
     row DW_CFA_val_offset (two_numbers (λ r n. Rule (rules.ValOffset r n))) ∷
     row DW_CFA_val_offset_sf (number_signed (λ r n. Rule (rules.ValOffsetSf r n))) ∷
-    row DW_CFA_register (two_numbers (λ r q. Rule (rules.Register r q))) ∷
+    []
+
+abbrev pub expression_rows : List (Row Reading)
+expression_rows =
     row DW_CFA_expression (number_block (λ r b. Rule (rules.Expression r b))) ∷
     row DW_CFA_val_expression (number_block (λ r b. Rule (rules.ValExpression r b))) ∷
-    row DW_CFA_restore_extended (number (λ r. Rule (rules.RestoreExtended r))) ∷
     []
 
 abbrev pub other_rows : List (Row Reading)
@@ -119,7 +127,8 @@ among_or opcode rows other = unwrap_or (among opcode rows) other
 
 abbrev pub extended_reading : ℕ → Reading
 extended_reading opcode =
-    among_or opcode creation_rows (among_or opcode cfa_rows (among_or opcode rule_rows (among_or opcode other_rows unknown)))
+    among_or opcode creation_rows (among_or opcode cfa_rows (among_or opcode register_rows (among_or opcode offset_rows
+    (among_or opcode expression_rows (among_or opcode other_rows unknown)))))
 
 -- what each opcode reads; of the three with the highest bits the low six bits are an operand
 unfoldable pub reading_of : ℕ → Reading

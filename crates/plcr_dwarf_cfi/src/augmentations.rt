@@ -12,5 +12,5 @@ pub const LANGUAGE_DATA: u8 = b'L';
 /// A pointer to a personality routine, behind its encoding.
 pub const PERSONALITY: u8 = b'P';
 
-/// The frame is that of a signal handler's caller, which stands at its program counter itself.
+/// A signal frame: its caller stands at its program counter itself.
 pub const SIGNAL_FRAME: u8 = b'S';

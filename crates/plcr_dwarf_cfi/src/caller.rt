@@ -3,6 +3,7 @@ ghost use Rattle.std.specs.Prelude.{◌≡◌, ◌≤◌, ◌<◌, Some, IfOk};
 ghost use Rattle.plcr_base.specs.Chains.{result_map};
 ghost use Rattle.plcr_regs.specs.declared.frame.Step.TheVariants as steps;
 ghost use Rattle.plcr_regs.specs.Frames.{IfFrame, IsOfThread};
+ghost use Rattle.plcr_regs.specs.Outcomes.{step_in};
 ghost use Rattle.plcr_dwarf_cfi.specs.Caller.{at_call, by_column, called, caller_by, cfa_of, frame_at, is_link, is_undefined, known, present, register_numbers, replaced, replaced_by, value_by, value_in, word_at, word_by};
 ghost use Rattle.plcr_dwarf_cfi.specs.declared.limits.TheConstants.{MOST_RULES};
 
@@ -13,7 +14,7 @@ use crate::limits::{LINK_REGISTER, MOST_RULES};
 use crate::row::{CfaRule, RegisterRule, Row};
 use plcr_dwarf_expr::eval;
 use plcr_memory::Memory;
-use plcr_regs::{Arch, Frame, MOST_REGISTERS, Registers, Step, dwarf_place, pc_place, sp_place};
+use plcr_regs::{Arch, Frame, MOST_REGISTERS, Outcome, Registers, dwarf_place, pc_place, sp_place};
 
 /// How many register numbers an architecture has.
 #[tactic(auto, unfolding(crate::specs::Caller::register_numbers))]
@@ -113,15 +114,15 @@ fn replace(
     state: &Registers,
     cfa: u64,
     number: u64,
-    rule: Option<RegisterRule>,
+    rule: &Option<RegisterRule>,
     values: &mut [Option<u64>; MOST_REGISTERS],
 ) -> Result<(), CallFrameFault>
-    ensures { result_map (λ _. values.new) result ≡ replaced_by memory.now state.now cfa number rule values.old }
+    ensures { result_map (λ _. values.new) result ≡ replaced_by memory.now state.now cfa number rule.now values.old }
 {
     let Some(rule) = rule else {
         return Ok(());
     };
-    let value = value_by(memory, state, cfa, number, rule)?;
+    let value = value_by(memory, state, cfa, number, *rule)?;
     if let Some(place) = dwarf_place(state.arch, number) {
         values[place] = value;
     }
@@ -140,7 +141,14 @@ fn replace_all(
     ensures { result_map (λ _. values.new) result ≡ replaced memory.now state.now cfa 0 row.now.rules values.old }
 {
     for number in 0..MOST_RULES {
-        match replace(memory, state, cfa, number as u64, row.rules[number], values) {
+        match replace(
+            memory,
+            state,
+            cfa,
+            number as u64,
+            &row.rules[number],
+            values,
+        ) {
             Ok(()) => {}
             Err(fault) => return Err(fault),
         }
@@ -148,13 +156,14 @@ fn replace_all(
     Ok(())
 }
 
-// The registers where no rule says otherwise.
-fn at_call(state: &Registers, cfa: u64) -> [Option<u64>; MOST_REGISTERS]
-    ensures { result ≡ at_call state.now cfa }
+// Puts the registers where no rule says otherwise into room.
+#[tactic(auto, unfolding(plcr_regs::specs::Frames::kept_of))]
+fn at_call(state: &Registers, cfa: u64, room: &mut Registers)
+    ensures value { room.new.value ≡ at_call state.now cfa }
+    ensures arch { room.new.arch ≡ state.now.arch }
 {
-    let mut values = state.kept().value;
-    values[sp_place(state.arch)] = Some(cfa);
-    values
+    state.keep_into(room);
+    room.value[sp_place(state.arch)] = Some(cfa);
 }
 
 fn is_link(arch: Arch, column: u64) -> bool
@@ -169,18 +178,15 @@ fn is_link(arch: Arch, column: u64) -> bool
 // The return address.
 fn by_column(
     state: &Registers,
-    values: &[Option<u64>; MOST_REGISTERS],
+    caller: &Registers,
     column: u64,
     rule: Option<RegisterRule>,
 ) -> Result<u64, CallFrameFault>
-    ensures { result ≡ by_column state.now values.now column rule }
+    requires { caller.now.arch ≡ state.now.arch }
+    ensures { result ≡ by_column state.now caller.now.value column rule }
 {
     if rule.is_some() {
-        let caller = Registers {
-            arch: state.arch,
-            value: *values,
-        };
-        return present(&caller, column);
+        return present(caller, column);
     }
     if is_link(state.arch, column) {
         present(state, column)
@@ -195,19 +201,16 @@ fn is_undefined(rule: Option<RegisterRule>) -> bool
     matches!(rule, Some(RegisterRule::Undefined))
 }
 
-// The frame of the caller.
-fn frame_at(frame: &Frame, exact: bool, values: &[Option<u64>; MOST_REGISTERS], back: u64) -> Frame
-    ensures frame { result ≡ frame_at frame.now exact values.now back }
-    ensures thread { IsOfThread frame.now result }
+// Makes the room that has the caller's registers the frame of the caller.
+fn finish(frame: &Frame, exact: bool, back: u64, room: &mut Frame)
+    requires { room.old.registers.arch ≡ frame.now.registers.arch }
+    ensures frame { room.new ≡ frame_at frame.now exact room.old.registers.value back }
+    ensures thread { IsOfThread frame.now room.new }
 {
-    let arch = frame.registers.arch;
-    let mut value = *values;
-    value[pc_place(arch)] = Some(frame.cut(back));
-    Frame {
-        registers: Registers { arch, value },
-        exact,
-        bits: frame.bits,
-    }
+    let pc = pc_place(frame.registers.arch);
+    room.registers.value[pc] = Some(frame.cut(back));
+    room.exact = exact;
+    room.bits = frame.bits;
 }
 
 fn called(
@@ -215,33 +218,36 @@ fn called(
     frame: &Frame,
     common: &CommonInformation,
     row: &Row,
-) -> Result<Frame, CallFrameFault>
-    ensures frame { result_map steps.Frame result ≡ called memory.now frame.now common.now row.now }
-    ensures thread { IfOk result (IsOfThread frame.now) }
+    room: &mut Frame,
+) -> Result<(), CallFrameFault>
+    ensures frame { result_map (λ _. steps.Frame room.new) result ≡ called memory.now frame.now common.now row.now }
+    ensures thread { IfOk result (λ _. IsOfThread frame.now room.new) }
 {
     let state = &frame.registers;
     let cfa = cfa_of(memory, state, row.cfa)?;
-    let mut values = at_call(state, cfa);
-    replace_all(memory, state, cfa, row, &mut values)?;
+    at_call(state, cfa, &mut room.registers);
+    replace_all(memory, state, cfa, row, &mut room.registers.value)?;
     let column = common.return_address_register;
-    let back = by_column(state, &values, column, row.rule(column))?;
-    Ok(frame_at(frame, common.signal_frame, &values, back))
+    let back = by_column(state, &room.registers, column, row.rule(column))?;
+    finish(frame, common.signal_frame, back, room);
+    Ok(())
 }
 
-/// The caller of a frame by a row. End where its return address is undefined.
+/// Puts the caller of a frame by a row into room. End where its return address is undefined.
 #[tactic(auto, unfolding(crate::specs::Caller::caller_by))]
 pub fn caller_by(
     memory: &Memory,
     frame: &Frame,
     common: &CommonInformation,
     row: &Row,
-) -> Result<Step, CallFrameFault>
-    ensures caller { result ≡ caller_by memory.now frame.now common.now row.now }
-    ensures thread { IfOk result (λ step. IfFrame step (IsOfThread frame.now)) }
+    room: &mut Frame,
+) -> Result<Outcome, CallFrameFault>
+    ensures caller { result_map (λ outcome. step_in outcome room.new) result ≡ caller_by memory.now frame.now common.now row.now }
+    ensures thread { IfOk result (λ outcome. IfFrame (step_in outcome room.new) (IsOfThread frame.now)) }
 {
     if is_undefined(row.rule(common.return_address_register)) {
-        return Ok(Step::End);
+        return Ok(Outcome::End);
     }
-    let caller = called(memory, frame, common, row)?;
-    Ok(Step::Frame(caller))
+    called(memory, frame, common, row, room)?;
+    Ok(Outcome::Caller)
 }

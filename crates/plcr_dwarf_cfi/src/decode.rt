@@ -1,6 +1,6 @@
 //! The instructions that bytes spell (DWARF 4, sections 6.4.2 and 7.23).
 ghost use Rattle.std.specs.Prelude.{◌≡◌, ◌+◌, ◌<◌, ◌^◌, OnOk, IfOk};
-ghost use Rattle.plcr_dwarf_cfi.specs.Instructions.{among_or, block_read, cfa_rows, creation_rows, extended_reading, instruction_at, instruction_before, other_rows, rule_rows, unknown};
+ghost use Rattle.plcr_dwarf_cfi.specs.Instructions.{among_or, block_read, cfa_rows, expression_rows, extended_reading, instruction_at, instruction_before, offset_rows, other_rows, register_rows, unknown};
 ghost use Rattle.plcr_dwarf_cfi.specs.inner.Settings.{section};
 
 use crate::entries::Encoding;
@@ -74,25 +74,43 @@ fn other<C: Cells>(
     }
 }
 
-// A register's rule with an offset or another register, or another instruction.
-fn rule_of_numbers<C: Cells>(
+// A register's rule by an expression, or another instruction.
+fn rule_by_expression<C: Cells>(
     cells: &C,
     around: &Surroundings<'_>,
     encoding: Encoding,
     opcode: u8,
     at: u64,
 ) -> Result<Decoded, CallFrameFault>
-    ensures { result ≡ among_or opcode rule_rows (among_or opcode other_rows unknown) (section (C.cells cells.now) around.now) encoding at }
+    ensures { result ≡ among_or opcode expression_rows (among_or opcode other_rows unknown) (section (C.cells cells.now) around.now) encoding at }
 {
     let (rule, next) = match opcode {
-        DW_CFA_undefined => {
+        DW_CFA_expression => {
             let r = unsigned(cells, at)?;
-            (RuleDefinition::Undefined(r.value), r.next)
+            let (block, next) = block_at(cells, around, r.next)?;
+            (RuleDefinition::Expression(r.value, block), next)
         }
-        DW_CFA_same_value => {
+        DW_CFA_val_expression => {
             let r = unsigned(cells, at)?;
-            (RuleDefinition::SameValue(r.value), r.next)
+            let (block, next) = block_at(cells, around, r.next)?;
+            (RuleDefinition::ValExpression(r.value, block), next)
         }
+        _ => return other(cells, around, encoding, opcode, at),
+    };
+    Ok(Instruction::Rule(rule).until(next))
+}
+
+// A register's rule by an offset, or another instruction.
+fn rule_by_offset<C: Cells>(
+    cells: &C,
+    around: &Surroundings<'_>,
+    encoding: Encoding,
+    opcode: u8,
+    at: u64,
+) -> Result<Decoded, CallFrameFault>
+    ensures { result ≡ among_or opcode offset_rows (among_or opcode expression_rows (among_or opcode other_rows unknown)) (section (C.cells cells.now) around.now) encoding at }
+{
+    let (rule, next) = match opcode {
         DW_CFA_offset_extended => {
             let r = unsigned(cells, at)?;
             let offset = unsigned(cells, r.next)?;
@@ -125,26 +143,40 @@ fn rule_of_numbers<C: Cells>(
                 offset.next,
             )
         }
+        _ => return rule_by_expression(cells, around, encoding, opcode, at),
+    };
+    Ok(Instruction::Rule(rule).until(next))
+}
+
+// Another rule of a register, or another instruction.
+fn rule_of_register<C: Cells>(
+    cells: &C,
+    around: &Surroundings<'_>,
+    encoding: Encoding,
+    opcode: u8,
+    at: u64,
+) -> Result<Decoded, CallFrameFault>
+    ensures { result ≡ among_or opcode register_rows (among_or opcode offset_rows (among_or opcode expression_rows (among_or opcode other_rows unknown))) (section (C.cells cells.now) around.now) encoding at }
+{
+    let (rule, next) = match opcode {
+        DW_CFA_undefined => {
+            let r = unsigned(cells, at)?;
+            (RuleDefinition::Undefined(r.value), r.next)
+        }
+        DW_CFA_same_value => {
+            let r = unsigned(cells, at)?;
+            (RuleDefinition::SameValue(r.value), r.next)
+        }
         DW_CFA_register => {
             let r = unsigned(cells, at)?;
             let other = unsigned(cells, r.next)?;
             (RuleDefinition::Register(r.value, other.value), other.next)
         }
-        DW_CFA_expression => {
-            let r = unsigned(cells, at)?;
-            let (block, next) = block_at(cells, around, r.next)?;
-            (RuleDefinition::Expression(r.value, block), next)
-        }
-        DW_CFA_val_expression => {
-            let r = unsigned(cells, at)?;
-            let (block, next) = block_at(cells, around, r.next)?;
-            (RuleDefinition::ValExpression(r.value, block), next)
-        }
         DW_CFA_restore_extended => {
             let r = unsigned(cells, at)?;
             (RuleDefinition::RestoreExtended(r.value), r.next)
         }
-        _ => return other(cells, around, encoding, opcode, at),
+        _ => return rule_by_offset(cells, around, encoding, opcode, at),
     };
     Ok(Instruction::Rule(rule).until(next))
 }
@@ -157,7 +189,7 @@ fn definition<C: Cells>(
     opcode: u8,
     at: u64,
 ) -> Result<Decoded, CallFrameFault>
-    ensures { result ≡ among_or opcode cfa_rows (among_or opcode rule_rows (among_or opcode other_rows unknown)) (section (C.cells cells.now) around.now) encoding at }
+    ensures { result ≡ among_or opcode cfa_rows (among_or opcode register_rows (among_or opcode offset_rows (among_or opcode expression_rows (among_or opcode other_rows unknown)))) (section (C.cells cells.now) around.now) encoding at }
 {
     let (cfa, next) = match opcode {
         DW_CFA_def_cfa => {
@@ -186,7 +218,7 @@ fn definition<C: Cells>(
             let (block, next) = block_at(cells, around, at)?;
             (CfaDefinition::DefCfaExpression(block), next)
         }
-        _ => return rule_of_numbers(cells, around, encoding, opcode, at),
+        _ => return rule_of_register(cells, around, encoding, opcode, at),
     };
     Ok(Instruction::Cfa(cfa).until(next))
 }

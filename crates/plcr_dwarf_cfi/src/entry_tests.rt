@@ -1,3 +1,4 @@
+use crate::cases::{COMMONS, ENCODINGS};
 use crate::fixtures::*;
 use crate::{step, the_first_is_found};
 use plcr_macho::{Image, Part};
@@ -41,105 +42,7 @@ fn the_caller_of_a_signal_frame_is_exact(rt: HostRuntime) -> Result<(), Fail> {
 
 #[test]
 fn common_information_is_read_in_its_order(rt: HostRuntime) -> Result<(), Fail> {
-    // The fields, what stands behind the range, and the number of the fault; 0 where there is a
-    // caller.
-    let cases: [(&[u8], &[u8], u8); 36] = [
-        (COMMON, &[], 0),
-        // Version 3 has a return column of several bytes.
-        (&[3, 0, 1, 0x78, 0x90, 0, 0x0c, 7, 8, 0x90, 1], &[], 0),
-        (&[1, 0, 1, 0x78, 0x90, 0, 0x0c, 7, 8, 0x90, 1], &[], 13),
-        (&[0, 0, 1, 0x78, 16, 0x0c, 7, 8, 0x90, 1], &[], 4),
-        (&[2, b'x', 0], &[], 4),
-        (&[4, 0, 1, 0x78, 16, 0x0c, 7, 8, 0x90, 1], &[], 4),
-        (&[], &[], 2),
-        (&[1], &[], 2),
-        (&[1, b'z', b'R'], &[], 2),
-        (&[1, b'x'], &[], 2),
-        (&[1, b'x', 0], &[], 5),
-        (&[1, b'R', 0, 1, 0x78, 16, 0], &[], 5),
-        (&[1, b'z', b'x', 0], &[], 5),
-        (&[1, b'z', b'z', 0, 1, 0x78, 16, 0], &[], 5),
-        (
-            &[1, b'e', b'h', 0, 0, 0, 0, 0, 0, 0, 0, 0, 1, 0x78, 16],
-            &[],
-            5,
-        ),
-        (&[1, 0], &[], 2),
-        (&[1, 0, 1], &[], 2),
-        (&[1, 0, 1, 0x78], &[], 2),
-        (&[3, 0, 1, 0x78, 0x90], &[], 2),
-        // The length of augmentation data, of which not all is read.
-        (&[1, b'z', 0, 1, 0x78, 16], &[], 2),
-        (&[1, b'z', 0, 1, 0x78, 16, 1], &[], 2),
-        (
-            &[
-                1, b'z', 0, 1, 0x78, 16, 0xff, 0xff, 0xff, 0xff, 0xff, 0xff, 0xff, 0xff, 0xff, 1,
-            ],
-            &[],
-            2,
-        ),
-        (
-            &[
-                1, b'z', 0, 1, 0x78, 16, 3, 0x0b, 0x0b, 0x0b, 0x0c, 7, 8, 0x90, 1,
-            ],
-            &[2, 0x0b, 0x0b],
-            0,
-        ),
-        (&[1, b'z', 0, 1, 0x78, 16, 0, 0x0c, 7, 8, 0x90, 1], &[], 2),
-        (&[1, b'z', 0, 1, 0x78, 16, 0, 0x0c, 7, 8, 0x90, 1], &[1], 2),
-        (&[1, b'z', 0, 1, 0x78, 16, 0, 0x0c, 7, 8, 0x90, 1], &[0], 0),
-        // The instructions begin where the length says, whatever the letters read.
-        (
-            &[
-                1, b'z', b'R', 0, 1, 0x78, 16, 0, 0x04, 0, 0, 0, 0, 0x0c, 7, 8, 0x90, 1,
-            ],
-            &[0],
-            0,
-        ),
-        // Letters that stand twice; the last encoding of pointers counts.
-        (
-            &[
-                1, b'z', b'R', b'S', b'R', 0, 1, 0x78, 16, 2, 0x1b, 0x04, 0x0c, 7, 8, 0x90, 1,
-            ],
-            &[0],
-            0,
-        ),
-        // Encodings of pointers that are passed over.
-        (
-            &[
-                1, b'z', b'L', b'P', 0, 1, 0x78, 16, 2, 0xff, 0xff, 0x0c, 7, 8, 0x90, 1,
-            ],
-            &[0],
-            0,
-        ),
-        (
-            &[
-                1, b'z', b'P', b'L', 0, 1, 0x78, 16, 6, 0x9b, 1, 2, 3, 4, 0x90, 0x0c, 7, 8, 0x90, 1,
-            ],
-            &[0],
-            0,
-        ),
-        (
-            &[1, b'z', b'L', 0, 1, 0x78, 16, 1, 0x20, 0x0c, 7, 8, 0x90, 1],
-            &[0],
-            6,
-        ),
-        (
-            &[1, b'z', b'P', 0, 1, 0x78, 16, 1, 0x50, 0x0c, 7, 8, 0x90, 1],
-            &[0],
-            6,
-        ),
-        (&[1, b'z', b'P', 0, 1, 0x78, 16, 1, 0x04, 0x0c], &[0], 2),
-        (
-            &[1, b'z', b'R', 0, 1, 0x78, 16, 1, 0xff, 0x0c, 7, 8, 0x90, 1],
-            &[0],
-            6,
-        ),
-        // Instructions: a restored rule has none to take, and locations move nothing.
-        (&[1, 0, 1, 0x78, 16, 0x0c, 7, 8, 0x90, 1, 0xc3], &[], 7),
-        (&[1, 0, 1, 0x78, 16, 0x02, 99, 0x0c, 7, 8, 0x90, 1], &[], 0),
-    ];
-    for (common, rest, number) in cases {
+    for (common, rest, number) in COMMONS {
         let found = by_common(rt.alloc(), common, rest)?;
         if number == 0 {
             let exact = common.contains(&b'S');
@@ -175,77 +78,7 @@ fn encoded(alloc: Global, encoding: u8, pointers: &[u8]) -> Result<Vec<u8>, Fail
 
 #[test]
 fn pointers_in_each_encoding(rt: HostRuntime) -> Result<(), Fail> {
-    // The first entry has 22 bytes, so the start of the second stands at 0x201e. The encoding,
-    // start and range, the address where the function begins, and that behind its last one.
-    let cases: [(u8, &[u8], u64, u64); 14] = [
-        (
-            0x00,
-            &[0, 0x30, 0, 0, 1, 0, 0, 0, 0x20, 0, 0, 0, 0, 0, 0, 0, 0],
-            0x1_0000_3000,
-            0x1_0000_3020,
-        ),
-        (0x01, &[0x80, 0xe0, 1, 0x20, 0], 0x7000, 0x7020),
-        (0x02, &[0, 0xf0, 0x20, 0, 0], 0xf000, 0xf020),
-        (
-            0x03,
-            &[0, 0, 0, 0xf0, 0x20, 0, 0, 0, 0],
-            0xf000_0000,
-            0xf000_0020,
-        ),
-        (
-            0x04,
-            &[0, 0x30, 0, 0, 1, 0, 0, 0, 0x20, 0, 0, 0, 0, 0, 0, 0, 0],
-            0x1_0000_3000,
-            0x1_0000_3020,
-        ),
-        (
-            0x09,
-            &[0x80, 0x60, 0x20, 0],
-            0xffff_ffff_ffff_f000,
-            0xffff_ffff_ffff_f020,
-        ),
-        (
-            0x0a,
-            &[0, 0xf0, 0x20, 0, 0],
-            0xffff_ffff_ffff_f000,
-            0xffff_ffff_ffff_f020,
-        ),
-        (
-            0x0b,
-            &[0, 0xf0, 0xff, 0xff, 0x20, 0, 0, 0, 0],
-            0xffff_ffff_ffff_f000,
-            0xffff_ffff_ffff_f020,
-        ),
-        (
-            0x0c,
-            &[0, 0x30, 0, 0, 1, 0, 0, 0, 0x20, 0, 0, 0, 0, 0, 0, 0, 0],
-            0x1_0000_3000,
-            0x1_0000_3020,
-        ),
-        // From the pointer's own address; the range is none.
-        (0x1b, &[0xe2, 0x0f, 0, 0, 0x20, 0, 0, 0, 0], 0x3000, 0x3020),
-        (
-            0x1b,
-            &[0xe2, 0xef, 0xff, 0xff, 0x20, 0, 0, 0, 0],
-            0x1000,
-            0x1020,
-        ),
-        (0x11, &[0xe2, 0x1f, 0x20, 0], 0x3000, 0x3020),
-        // At the address that is told: the word of the stack there.
-        (
-            0x83,
-            &[0, 0x71, 0, 0, 0x20, 0, 0, 0, 0],
-            WORD + 0x7100,
-            WORD + 0x7120,
-        ),
-        (
-            0x9b,
-            &[0xe2, 0x50, 0, 0, 0x20, 0, 0, 0, 0],
-            WORD + 0x7100,
-            WORD + 0x7120,
-        ),
-    ];
-    for (encoding, pointers, start, end) in cases {
+    for (encoding, pointers, start, end) in ENCODINGS {
         let section = encoded(rt.alloc(), encoding, pointers)?;
         let memory = memory_with(rt.alloc(), section.as_slice())?;
         let size = section.len() as u64;
@@ -420,6 +253,27 @@ fn a_section_that_is_cut_has_no_caller(rt: HostRuntime) -> Result<(), Fail> {
         };
         assert!(rt; found == want, "{cut}");
     }
+    Ok(())
+}
+
+// A block's bytes belong to its instruction: one that isn't mapped is a fault, whether the
+// expression is carried out or not.
+#[test]
+fn all_bytes_of_a_block_are_there(rt: HostRuntime) -> Result<(), Fail> {
+    let section = function(
+        rt.alloc(),
+        COMMON,
+        &[0x16, 3, 3, 0x30, 0x30, 0x22, 0x07, 3, 0x41],
+    )?;
+    let size = section.len() as u64;
+    let whole = memory_with(rt.alloc(), section.as_slice())?;
+    assert!(rt; answer_in(&whole, size, X86, F, KNOWN) == plain_caller(false));
+    let front = front_mapped(
+        rt.alloc(),
+        section.as_slice(),
+        section.len().saturating_sub(4),
+    )?;
+    assert!(rt; answer_in(&front, size, X86, F, KNOWN) == Step::Bad(2));
     Ok(())
 }
 

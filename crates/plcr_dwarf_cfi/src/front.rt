@@ -2,17 +2,18 @@
 //! of its entries.
 ghost use Rattle.std.specs.Prelude.{◌≡◌, ◌<◌, ◌≤◌, ◌^◌, ◌+◌, All, Some, Ok, true, IfSome};
 ghost use Rattle.plcr_dwarf_cfi.specs.Entries.{description_for, entry_at};
-ghost use Rattle.plcr_dwarf_cfi.specs.inner.Fronts.{IsGrowing, IsRun, is_outside, run_at, with_entry};
+ghost use Rattle.plcr_dwarf_cfi.specs.inner.Fronts.{IsGrowing, IsPassed, IsRun, is_outside, run_at, with_code, with_entry};
 ghost use Rattle.plcr_dwarf_cfi.specs.inner.Settings.{section};
 
 use crate::entries::{Entry, FrameDescription};
 use crate::fault::CallFrameFault;
+use crate::passing::{Passed, passed_at};
 use crate::search::{description_over, entry_at};
 use crate::sections::Surroundings;
 use plcr_leb128::Cells;
 
-/// The front of a section is kept as so many runs.
-pub const FRONT_RUNS: usize = 32;
+/// The front of a section is kept as so many runs, a power of two.
+pub const FRONT_RUNS: usize = 64;
 
 /// Good entries of a section one after the other, from a place up to another. None of them covers
 /// an address below the lowest or above the highest.
@@ -46,28 +47,43 @@ impl Run {
         address < self.lowest || self.highest < address
     }
 
-    // The run with one entry more.
-    fn with_entry(&self, entry: &Entry, next: u64) -> Run
+    // The run with the description of some code more.
+    fn with_code(&self, start: u64, range: u64, next: u64) -> Run
         requires { self.now.entries + 1 < 2 ^ 64 }
-        ensures { result ≡ with_entry self.now entry.now next }
+        ensures { result ≡ with_code self.now start range next }
     {
         let longer = Run {
             to: next,
             entries: self.entries + 1,
             ..*self
         };
-        let Entry::Description(description) = entry else {
-            return longer;
-        };
-        if description.address_range == 0 {
+        if range == 0 {
             return longer;
         }
-        let start = description.initial_location;
-        let last = start.saturating_add(description.address_range - 1);
+        let last = start.saturating_add(range - 1);
         Run {
             lowest: self.lowest.min(start),
             highest: self.highest.max(last),
             ..longer
+        }
+    }
+
+    // The run with one entry more.
+    fn with_entry(&self, entry: &Entry, next: u64) -> Run
+        requires { self.now.entries + 1 < 2 ^ 64 }
+        ensures { result ≡ with_entry self.now entry.now next }
+    {
+        match entry {
+            Entry::Common(_) => Run {
+                to: next,
+                entries: self.entries + 1,
+                ..*self
+            },
+            Entry::Description(description) => self.with_code(
+                description.initial_location,
+                description.address_range,
+                next,
+            ),
         }
     }
 }
@@ -79,7 +95,7 @@ fn stretch_bits(size: u64) -> u32
 {
     64u32
         .saturating_sub(size.leading_zeros())
-        .saturating_sub(5)
+        .saturating_sub(FRONT_RUNS.trailing_zeros())
         .min(63)
 }
 
@@ -109,10 +125,10 @@ fn passable<C: Cells>(
     if place >= u128::from(around.size) {
         return None;
     }
-    let run = runs[slot_of(place as u64, stretch_bits(around.size))];
+    let run = &runs[slot_of(place as u64, stretch_bits(around.size))];
     let here = u128::from(run.from) == place && run.entries > 0;
     if here && u128::from(run.entries) <= left && run.is_outside(address) {
-        Some(run)
+        Some(*run)
     } else {
         None
     }
@@ -137,6 +153,27 @@ fn grown<C: Cells>(
         return None;
     }
     Some(run.with_entry(entry, next as u64))
+}
+
+// The run with a description that was passed over, where its numbers have room.
+#[tactic(auto, using(crate::proofs::Running::run_grows_over))]
+fn grown_over<C: Cells>(
+    _cells: &C,
+    _around: &Surroundings<'_>,
+    run: Option<Run>,
+    _place: u128,
+    _address: u64,
+    passed: &Passed,
+) -> Option<Run>
+    requires growing { IsGrowing (section (C.cells _cells.now) _around.now) run _place }
+    requires passed { IsPassed (section (C.cells _cells.now) _around.now) _place _address passed.now }
+    ensures { IsGrowing (section (C.cells _cells.now) _around.now) result passed.now.next }
+{
+    let run = run?;
+    if passed.next > u128::from(u64::MAX) || run.entries == u64::MAX {
+        return None;
+    }
+    Some(run.with_code(passed.start, passed.range, passed.next as u64))
 }
 
 // Keeps the run where it is long enough, and begins another.
@@ -164,7 +201,7 @@ fn record<C: Cells>(
 
 /// The first frame description entry of the code at an address, where no bad entry stands before
 /// it. Runs that were kept are passed over, and others are kept.
-#[tactic(auto, using(crate::proofs::Running::walk_starts, crate::proofs::Running::walk_passes, crate::proofs::Running::walk_goes, crate::proofs::Running::walk_hits, crate::proofs::Running::walk_ends, crate::proofs::Running::walk_fails, crate::proofs::Running::walk_out))]
+#[tactic(auto, using(crate::proofs::Running::walk_starts, crate::proofs::Running::walk_passes, crate::proofs::Running::walk_passes_one, crate::proofs::Running::walk_goes, crate::proofs::Running::walk_hits, crate::proofs::Running::walk_ends, crate::proofs::Running::walk_fails, crate::proofs::Running::walk_out))]
 pub fn description_with<C: Cells>(
     cells: &C,
     around: &Surroundings<'_>,
@@ -184,6 +221,13 @@ pub fn description_with<C: Cells>(
             place = u128::from(known.to);
             left -= u128::from(known.entries);
             run = Some(Run::at(known.to));
+            continue;
+        }
+        if let Some(passed) = passed_at(cells, around, place, address, &recent) {
+            let longer = grown_over(cells, around, run, place, address, &passed);
+            run = record(cells, around, runs, longer, passed.next);
+            place = passed.next;
+            left -= 1;
             continue;
         }
         match entry_at(cells, around, place, &mut recent) {

@@ -1,7 +1,9 @@
 //! What was found in the sections of a memory, kept so that an address is searched once, and the
 //! front of a section that was read so that others are found sooner.
+ghost use Rattle.std.specs.Bool.{OnTrue};
 ghost use Rattle.std.specs.Prelude.{◌≡◌, ◌<◌, All, IfSome, IsSome};
 ghost use Rattle.plcr_regs.specs.Frames.{IfFrame, IsOfThread, frame_lookup};
+ghost use Rattle.plcr_regs.specs.Outcomes.{step_in};
 ghost use Rattle.plcr_dwarf_cfi.specs.Caller.{call_frame};
 ghost use Rattle.plcr_dwarf_cfi.specs.Entries.{description_for};
 ghost use Rattle.plcr_dwarf_cfi.specs.Sections.{section_at};
@@ -12,15 +14,16 @@ use crate::entries::FrameDescription;
 use crate::fault::CallFrameFault;
 use crate::front::{FRONT_RUNS, Run, description_with};
 use crate::sections::Surroundings;
-use crate::steps::step_from;
+use crate::steps::{step_in, step_with};
+use crate::table::RowTable;
 use plcr_leb128::{Piece, Stored};
 use plcr_macho::{Image, Part};
 use plcr_memory::Memory;
-use plcr_regs::{Frame, Step};
+use plcr_regs::{Frame, Outcome, Step};
 use std::marker::Model;
 
 /// The answers for so many addresses are kept.
-pub const KNOWN_DESCRIPTIONS: usize = 512;
+pub const KNOWN_DESCRIPTIONS: usize = 1024;
 
 /// The fronts of so many sections are kept.
 pub const KNOWN_FRONTS: usize = 32;
@@ -67,51 +70,17 @@ fn no_runs(memory: &Memory, part: Part) -> [Run; FRONT_RUNS]
     [Run::at(0); FRONT_RUNS]
 }
 
-// What is kept of the front of a section.
-fn recall_front(
-    memory: &Memory,
-    slots: &[Option<KnownFront>; KNOWN_FRONTS],
-    part: Part,
-) -> Option<[Run; FRONT_RUNS]>
-    requires { All (FrontHolds memory.now) slots.now }
-    ensures { IfSome result (All (IsRun (section_at memory.now part.at part.size))) }
+fn no_front(memory: &Memory, part: Part) -> KnownFront
+    ensures { FrontHolds memory.now result }
 {
-    let known = slots[front_slot(part)]?;
-    if known.part.at == part.at && known.part.size == part.size {
-        Some(known.runs)
-    } else {
-        None
-    }
+    let runs = no_runs(memory, part);
+    KnownFront { part, runs }
 }
 
-// The same, and no runs where nothing is kept.
-fn front_of(
-    memory: &Memory,
-    slots: &[Option<KnownFront>; KNOWN_FRONTS],
-    part: Part,
-) -> [Run; FRONT_RUNS]
-    requires { All (FrontHolds memory.now) slots.now }
-    ensures { All (IsRun (section_at memory.now part.at part.size)) result }
-{
-    match recall_front(memory, slots, part) {
-        Some(runs) => runs,
-        None => no_runs(memory, part),
-    }
-}
-
-fn keep_front(memory: &Memory, slots: &mut [Option<KnownFront>; KNOWN_FRONTS], known: KnownFront)
-    requires hold { All (FrontHolds memory.now) slots.old }
-    requires is { All (IsRun (section_at memory.now known.part.at known.part.size)) known.runs }
-    ensures { All (FrontHolds memory.now) slots.new }
-{
-    let slot = front_slot(known.part);
-    slots[slot] = Some(known);
-}
-
-fn no_fronts(memory: &Memory) -> [Option<KnownFront>; KNOWN_FRONTS]
+fn no_fronts(memory: &Memory) -> [KnownFront; KNOWN_FRONTS]
     ensures { All (FrontHolds memory.now) result }
 {
-    [None; KNOWN_FRONTS]
+    [no_front(memory, Part { at: 0, size: 0 }); KNOWN_FRONTS]
 }
 
 // What `find` says, over the front of the section that was read.
@@ -140,6 +109,34 @@ fn find_with(
     }
 }
 
+// Whether the front that is kept is that of a section.
+fn is_front(_memory: &Memory, front: &KnownFront, part: Part) -> bool
+    requires { FrontHolds _memory.now front.now }
+    ensures { OnTrue result (All (IsRun (section_at _memory.now part.at part.size)) front.now.runs) }
+{
+    front.part.at == part.at && front.part.size == part.size
+}
+
+// What `find` says, and the front is kept that was read.
+fn find_in(
+    memory: &Memory,
+    part: Part,
+    address: u64,
+    front: &mut KnownFront,
+) -> Result<FrameDescription, CallFrameFault>
+    requires { FrontHolds memory.now front.old }
+    ensures found { IsFound memory.now part address result }
+    ensures known { FrontHolds memory.now front.new }
+{
+    let kept = is_front(memory, front, part);
+    front.part = part;
+    if kept {
+        return find_with(memory, part, address, &mut front.runs);
+    }
+    front.runs = no_runs(memory, part);
+    find_with(memory, part, address, &mut front.runs)
+}
+
 // What is kept of an address in a section.
 fn recall(
     memory: &Memory,
@@ -150,11 +147,12 @@ fn recall(
     requires { All (Holds memory.now) slots.now }
     ensures { IfSome result (IsFound memory.now part address) }
 {
-    let known = slots[slot_of(address)]?;
-    if known.address == address && known.part.at == part.at && known.part.size == part.size {
-        Some(known.answer)
-    } else {
-        None
+    match &slots[slot_of(address)] {
+        Some(known)
+            if known.address == address
+                && known.part.at == part.at
+                && known.part.size == part.size => { Some(known.answer) }
+        _ => None,
     }
 }
 
@@ -184,7 +182,8 @@ fn no_descriptions(memory: &Memory) -> [Option<KnownDescription>; KNOWN_DESCRIPT
 pub struct KnownDescriptions<'m> {
     memory: &'m Memory,
     slots: [Option<KnownDescription>; KNOWN_DESCRIPTIONS],
-    fronts: [Option<KnownFront>; KNOWN_FRONTS],
+    fronts: [KnownFront; KNOWN_FRONTS],
+    table: RowTable,
 }
 
 impl<'m> Model for KnownDescriptions<'m> {
@@ -209,6 +208,7 @@ impl<'m> KnownDescriptions<'m> {
             memory,
             slots,
             fronts,
+            table: RowTable::new(),
         }
     }
 
@@ -220,9 +220,8 @@ impl<'m> KnownDescriptions<'m> {
         if let Some(answer) = recall(self.memory, &self.slots, part, address) {
             return answer;
         }
-        let mut runs = front_of(self.memory, &self.fronts, part);
-        let answer = find_with(self.memory, part, address, &mut runs);
-        keep_front(self.memory, &mut self.fronts, KnownFront { part, runs });
+        let front = &mut self.fronts[front_slot(part)];
+        let answer = find_in(self.memory, part, address, front);
         let known = KnownDescription {
             part,
             address,
@@ -232,21 +231,33 @@ impl<'m> KnownDescriptions<'m> {
         answer
     }
 
-    /// What `step` says.
+    /// What `step` says, where the caller is put into room.
     #[tactic(auto, unfolding(crate::specs::Caller::call_frame))]
+    pub fn step_into(&mut self, image: &Image, frame: &Frame, room: &mut Frame) -> Outcome
+        requires { IsSome (frame_lookup frame.now) }
+        ensures caller { step_in result room.new ≡ call_frame self.old image.now frame.now }
+        ensures thread { IfFrame (step_in result room.new) (IsOfThread frame.now) }
+        ensures same { self.new ≡ self.old }
+    {
+        let Some(part) = image.eh_frame else {
+            return Outcome::Bad(CallFrameFault::NoSection.number());
+        };
+        let Some(address) = frame.lookup() else {
+            unreachable!()
+        };
+        let found = self.find(part, address);
+        step_with(self.memory, &part, frame, &found, &mut self.table, room)
+    }
+
+    /// What `step` says.
     pub fn step(&mut self, image: &Image, frame: &Frame) -> Step
         requires { IsSome (frame_lookup frame.now) }
         ensures caller { result ≡ call_frame self.old image.now frame.now }
         ensures thread { IfFrame result (IsOfThread frame.now) }
         ensures same { self.new ≡ self.old }
     {
-        let Some(part) = image.eh_frame else {
-            return Step::Bad(CallFrameFault::NoSection.number());
-        };
-        let Some(address) = frame.lookup() else {
-            unreachable!()
-        };
-        let found = self.find(part, address);
-        step_from(self.memory, &part, frame, &found)
+        let mut room = *frame;
+        let outcome = self.step_into(image, frame, &mut room);
+        step_in(outcome, room)
     }
 }

@@ -19,6 +19,7 @@ mod known;
 mod laws;
 mod limits;
 mod opcodes;
+mod passing;
 mod pointers;
 mod row;
 mod search;
@@ -33,8 +34,12 @@ pub use front::FRONT_RUNS;
 pub use known::{KNOWN_DESCRIPTIONS, KNOWN_FRONTS, KnownDescriptions};
 pub use laws::{instructions_are_spelled, rows_end_at_locations, the_first_is_found};
 pub use limits::{LINK_REGISTER, MOST_REMEMBERED, MOST_RULES};
-pub use steps::{find, step, step_from};
+pub use steps::{find, step, step_from, step_into};
 
+#[cfg(test)]
+mod arm64_tests;
+#[cfg(test)]
+mod cases;
 #[cfg(test)]
 mod entry_tests;
 #[cfg(test)]

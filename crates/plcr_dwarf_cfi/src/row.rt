@@ -80,6 +80,14 @@ impl Row {
         Row { cfa: None, rules }
     }
 
+    /// Takes all rules away.
+    pub fn clear(&mut self)
+        ensures { self.new ≡ no_rules }
+    {
+        self.cfa = None;
+        self.rules = [None; MOST_RULES];
+    }
+
     /// The rule of a register number.
     pub fn rule(&self, register: u64) -> Option<RegisterRule>
         ensures { result ≡ rule_at self.now register }

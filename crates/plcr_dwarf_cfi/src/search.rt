@@ -8,12 +8,11 @@ ghost use Rattle.plcr_dwarf_cfi.specs.inner.Texts.{IsRecent};
 use crate::common::{Recent, common_before, common_in, extent_at, id_of};
 use crate::entries::{CommonInformation, Entry, Extent, FrameDescription};
 use crate::fault::CallFrameFault;
-use crate::pointers::{number_of, pointer_at};
+use crate::passing::code_in;
 use crate::sections::{Surroundings, Within};
 use plcr_leb128::Cells;
 
 // The fields of a frame description entry through its range.
-#[tactic(auto, unfolding(crate::specs::Entries::description_in))]
 fn description_in<C: Cells>(
     cells: &C,
     around: &Surroundings<'_>,
@@ -23,14 +22,13 @@ fn description_in<C: Cells>(
     requires { extent.start + 4 < 2 ^ 64 }
     ensures { result ≡ description_in (section (C.cells cells.now) around.now) extent common }
 {
-    let start = pointer_at(cells, around, common.pointers, extent.start + 4)?;
-    let range = number_of(cells, common.pointers.format, start.next)?;
+    let code = code_in(cells, around, extent, &common)?;
     Ok(FrameDescription {
         common,
-        initial_location: start.value,
-        address_range: range.value,
+        initial_location: code.start,
+        address_range: code.range,
         rest: Extent {
-            start: range.next,
+            start: code.rest,
             end: extent.end,
         },
     })

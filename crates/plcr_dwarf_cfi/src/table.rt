@@ -37,16 +37,26 @@ impl Model for RowTable {
 impl RowTable {
     ghost use Rattle.plcr_dwarf_cfi.specs.Rows.{applied, at_first, begun, created, is_past, moved, remembered, taken_back, with_definition, with_ruling};
 
-    /// The table at a location, without rules.
-    pub fn new(location: u64) -> RowTable
-        ensures { result ≡ at_first location }
+    /// Room for a table.
+    pub fn new() -> RowTable
+        ensures { result ≡ at_first 0 }
     {
         RowTable {
             row: Row::empty(),
             initial: None,
             remembered: ArrayVec::new(),
-            location,
+            location: 0,
         }
+    }
+
+    /// Makes it the table at a location, without rules.
+    pub fn reset(&mut self, location: u64)
+        ensures { self.new ≡ at_first location }
+    {
+        self.row.clear();
+        self.initial = None;
+        self.remembered.clear();
+        self.location = location;
     }
 
     /// Takes the row as the initial one.
@@ -57,10 +67,10 @@ impl RowTable {
     }
 
     /// The row.
-    pub fn row(&self) -> Row
-        ensures { result ≡ self.now.row }
+    pub fn row(&self) -> &Row
+        ensures { result.now ≡ self.now.row }
     {
-        self.row
+        &self.row
     }
 
     /// Whether the row holds from a location above the address on.

@@ -1,3 +1,4 @@
+use crate::cases::{INSTRUCTION_FAULTS, ROWS};
 use crate::fixtures::*;
 use crate::{
     CallFrameFault, find, instructions_are_spelled, rows_end_at_locations, step, step_from,
@@ -50,6 +51,17 @@ fn rows_of_a_function(rt: HostRuntime) -> Result<(), Fail> {
     )?;
     let caller = [(6, WORD + 0x7100), (7, 0x7110), (16, WORD + 0x7108)];
     assert!(rt; pushed == Step::Frame(frame(X86, false, &caller)));
+    // With another rule rbp is the canonical frame address less 16.
+    let less = function(rt.alloc(), COMMON, &[0x14, 6, 2])?;
+    let found = answer(
+        rt.alloc(),
+        less.as_slice(),
+        X86,
+        F,
+        &[(6, 0xb0), (7, 0x7100)],
+    )?;
+    let caller = [(6, 0x70f8), (7, 0x7108), (16, WORD + 0x7100)];
+    assert!(rt; found == Step::Frame(frame(X86, false, &caller)));
     // The function ends behind 32 bytes.
     for outside in [F - 1, F + 32] {
         let found = answer(rt.alloc(), section.as_slice(), X86, outside, &[(7, 0x7100)])?;
@@ -78,71 +90,7 @@ fn by_instructions(alloc: Global, instructions: &[u8]) -> Result<Step, Fail> {
 
 #[test]
 fn instructions_make_a_row(rt: HostRuntime) -> Result<(), Fail> {
-    // Instructions, and of the caller rbx, the stack pointer, and where its pc stands.
-    let cases: [(&[u8], u64, u64, u64); 38] = [
-        (&[], 0xb1, 0x7108, 0x7100),
-        (&[0x00], 0xb1, 0x7108, 0x7100),
-        (&[0x2e, 0x85, 1], 0xb1, 0x7108, 0x7100),
-        // rbx is saved.
-        (&[0x83, 2], WORD + 0x70f8, 0x7108, 0x7100),
-        (&[0x05, 3, 2], WORD + 0x70f8, 0x7108, 0x7100),
-        (&[0x11, 3, 2], WORD + 0x70f8, 0x7108, 0x7100),
-        (&[0x11, 3, 0x7e], WORD + 0x7118, 0x7108, 0x7100),
-        (&[0x10, 3, 2, 0x23, 0x10], WORD + 0x7118, 0x7108, 0x7100),
-        // rbx is a number.
-        (&[0x14, 3, 2], 0x70f8, 0x7108, 0x7100),
-        (&[0x15, 3, 0x7e], 0x7118, 0x7108, 0x7100),
-        (&[0x16, 3, 2, 0x23, 0x10], 0x7118, 0x7108, 0x7100),
-        (&[0x09, 3, 0], 0xa0, 0x7108, 0x7100),
-        (&[0x83, 2, 0x08, 3], 0xb1, 0x7108, 0x7100),
-        // rbx has the rule that it had at first.
-        (&[0x83, 2, 0xc3], 0xb1, 0x7108, 0x7100),
-        (&[0x83, 2, 0x06, 3], 0xb1, 0x7108, 0x7100),
-        // The canonical frame address.
-        (&[0x0c, 6, 16], 0xb1, 0x7150, 0x7148),
-        (&[0x12, 6, 0x7e], 0xb1, 0x7150, 0x7148),
-        (&[0x0d, 6], 0xb1, 0x7148, 0x7140),
-        (&[0x0e, 32], 0xb1, 0x7120, 0x7118),
-        (&[0x13, 0x7c], 0xb1, 0x7120, 0x7118),
-        (&[0x0f, 2, 0x77, 0x18], 0xb1, 0x7118, 0x7110),
-        (&[0x0f, 1, 0x30, 0x0c, 7, 8], 0xb1, 0x7108, 0x7100),
-        // Rows that are remembered, with their canonical frame address.
-        (&[0x0a, 0x0e, 32, 0x83, 2, 0x0b], 0xb1, 0x7108, 0x7100),
-        (
-            &[0x83, 2, 0x0a, 0x0e, 32, 0x0a, 0xc3, 0x0b, 0x0b],
-            WORD + 0x70f8,
-            0x7108,
-            0x7100,
-        ),
-        // Locations.
-        (&[0x48, 0x0e, 32], 0xb1, 0x7120, 0x7118),
-        (&[0x49, 0x0e, 32], 0xb1, 0x7108, 0x7100),
-        (&[0x02, 8, 0x0e, 32], 0xb1, 0x7120, 0x7118),
-        (&[0x02, 9, 0x0e, 32], 0xb1, 0x7108, 0x7100),
-        (&[0x03, 8, 0, 0x0e, 32], 0xb1, 0x7120, 0x7118),
-        (&[0x03, 9, 0, 0x0e, 32], 0xb1, 0x7108, 0x7100),
-        (&[0x04, 8, 0, 0, 0, 0x0e, 32], 0xb1, 0x7120, 0x7118),
-        (&[0x04, 9, 0, 0, 0, 0x0e, 32], 0xb1, 0x7108, 0x7100),
-        (
-            &[0x01, 8, 0x10, 0, 0, 1, 0, 0, 0, 0x0e, 32],
-            0xb1,
-            0x7120,
-            0x7118,
-        ),
-        (
-            &[0x01, 9, 0x10, 0, 0, 1, 0, 0, 0, 0x0e, 32],
-            0xb1,
-            0x7108,
-            0x7100,
-        ),
-        // What stands behind the location doesn't count, also where it is no instruction.
-        (&[0x49, 0x3f], 0xb1, 0x7108, 0x7100),
-        (&[0x49, 0x0b], 0xb1, 0x7108, 0x7100),
-        // Rules of registers past the architecture's aren't kept.
-        (&[0x05, 17, 2, 0x07, 0x91, 1], 0xb1, 0x7108, 0x7100),
-        (&[0x09, 31, 1, 0xd1], 0xb1, 0x7108, 0x7100),
-    ];
-    for (instructions, rbx, rsp, back) in cases {
+    for (instructions, rbx, rsp, back) in ROWS {
         let found = by_instructions(rt.alloc(), instructions)?;
         assert!(rt;
             found == caller(rbx, rsp, WORD.wrapping_add(back)),
@@ -197,75 +145,7 @@ fn some_rules_leave_registers_unknown(rt: HostRuntime) -> Result<(), Fail> {
 
 #[test]
 fn faults_of_instructions_have_their_numbers(rt: HostRuntime) -> Result<(), Fail> {
-    let cases: [(&[u8], u8); 44] = [
-        // Operands past the entry, and long numbers.
-        (&[0x02], 2),
-        (&[0x03, 8], 2),
-        (&[0x04, 8, 0, 0], 2),
-        (&[0x01, 8, 0x10, 0, 0, 1, 0, 0], 2),
-        (&[0x0e], 2),
-        (&[0x0e, 0x80], 2),
-        (
-            &[
-                0x0e, 0x80, 0x80, 0x80, 0x80, 0x80, 0x80, 0x80, 0x80, 0x80, 0x80, 0,
-            ],
-            2,
-        ),
-        (
-            &[
-                0x13, 0x80, 0x80, 0x80, 0x80, 0x80, 0x80, 0x80, 0x80, 0x80, 0x80, 0,
-            ],
-            2,
-        ),
-        (&[0x83], 2),
-        (&[0x05, 3], 2),
-        (&[0x0f, 2, 0x30], 2),
-        (&[0x10, 3, 2, 0x30], 2),
-        (
-            &[
-                0x16, 3, 0xff, 0xff, 0xff, 0xff, 0xff, 0xff, 0xff, 0xff, 0xff, 1,
-            ],
-            2,
-        ),
-        // No instructions.
-        (&[0x17], 7),
-        (&[0x1d], 7),
-        (&[0x2d], 7),
-        (&[0x2f, 3, 2], 7),
-        (&[0x3f], 7),
-        // Remembered rows.
-        (&[0x0b], 8),
-        (&[0x0a, 0x0b, 0x0b], 8),
-        (&[0x0a; 17], 8),
-        // The canonical frame address.
-        (&[0x0c, 17, 0], 9),
-        (&[0x0c, 0xff, 0xff, 0xff, 0xff, 0x0f, 0], 9),
-        (&[0x0f, 1, 0x30, 0x0d, 6], 10),
-        (&[0x0f, 1, 0x30, 0x0e, 8], 10),
-        (&[0x0f, 1, 0x30, 0x13, 8], 10),
-        // Words that aren't mapped: at the return address, of rbx.
-        (&[0x0c, 16, 0], 12),
-        (&[0x0e, 0x80, 0x10], 12),
-        (&[0x83, 0x80, 0x10], 12),
-        (&[0x10, 3, 2, 0x30, 0x96], 12),
-        // Registers that aren't known.
-        (&[0x0c, 1, 8], 13),
-        (&[0x09, 3, 1], 13),
-        (&[0x09, 3, 17], 13),
-        (&[0x09, 16, 1], 13),
-        // Expressions.
-        (&[0x0f, 1, 0x08], 21),
-        (&[0x0f, 1, 0x18], 22),
-        (&[0x0f, 0], 23),
-        (&[0x0f, 2, 0x30, 0x06], 25),
-        (&[0x0f, 2, 0x71, 0], 26),
-        (&[0x0f, 3, 0x30, 0x30, 0x1b], 27),
-        (&[0x0f, 3, 0x2f, 0xfd, 0xff], 28),
-        (&[0x0f, 3, 0x2f, 1, 0], 29),
-        (&[0x10, 3, 3, 0x2f, 0xfd, 0xff], 28),
-        (&[0x16, 3, 1, 0x13], 23),
-    ];
-    for (instructions, number) in cases {
+    for (instructions, number) in INSTRUCTION_FAULTS {
         let found = by_instructions(rt.alloc(), instructions)?;
         assert!(rt; found == Step::Bad(number), "{instructions:?}");
     }
@@ -340,81 +220,5 @@ fn an_inexact_frame_is_looked_up_one_byte_before(rt: HostRuntime) -> Result<(), 
             assert!(rt; found == caller(0xb1, rsp, WORD + rsp - 8), "{pc}");
         }
     }
-    Ok(())
-}
-
-// The caller of an arm64 frame at the function's start.
-fn on_arm64(
-    alloc: Global,
-    common: &[u8],
-    instructions: &[u8],
-    known: &[(usize, u64)],
-) -> Result<Step, Fail> {
-    let section = function(alloc, common, instructions)?;
-    Ok(answer(alloc, section.as_slice(), Arch::Arm64, F, known)?)
-}
-
-#[test]
-fn arm64_returns_to_its_link_register(rt: HostRuntime) -> Result<(), Fail> {
-    let arm = Arch::Arm64;
-    // Return column 30, and the canonical frame address is sp.
-    let common = &[1, 0, 1, 0x78, 30, 0x0c, 31, 0];
-    let signed = 0x002a_0001_0000_4100;
-    let known = [
-        (19, 0x19),
-        (20, 0x20),
-        (29, 0x7140),
-        (30, signed),
-        (31, 0x7100),
-    ];
-    let found = on_arm64(rt.alloc(), common, &[], &known)?;
-    let caller = [
-        (19, 0x19),
-        (20, 0x20),
-        (29, 0x7140),
-        (31, 0x7100),
-        (32, 0x1_0000_4100),
-    ];
-    assert!(rt; found == Step::Frame(frame(arm, false, &caller)));
-    // With a rule for it, lr is known and pc is its value without a signature.
-    let saved = [0x0e, 16, 0x9e, 1, 0x9d, 2];
-    let found = on_arm64(rt.alloc(), common, &saved, &known)?;
-    let back = WORD + 0x7108;
-    let caller = [
-        (19, 0x19),
-        (20, 0x20),
-        (29, WORD + 0x7100),
-        (30, back),
-        (31, 0x7110),
-        (32, back),
-    ];
-    assert!(rt; found == Step::Frame(frame(arm, false, &caller)));
-    let same = on_arm64(rt.alloc(), common, &[0x08, 30], &known)?;
-    let caller = [
-        (19, 0x19),
-        (20, 0x20),
-        (29, 0x7140),
-        (30, signed),
-        (31, 0x7100),
-        (32, 0x1_0000_4100),
-    ];
-    assert!(rt; same == Step::Frame(frame(arm, false, &caller)));
-    let none = on_arm64(rt.alloc(), common, &[0x07, 30], &known)?;
-    assert!(rt; none == Step::End);
-    // Unknown return addresses.
-    let unknown = [(29, 0x7140), (31, 0x7100)];
-    for instructions in [[0, 0].as_slice(), &[0x08, 30], &[0x09, 30, 30]] {
-        let found = on_arm64(rt.alloc(), common, instructions, &unknown)?;
-        assert!(rt; found == Step::Bad(13), "{instructions:?}");
-    }
-    // Another column stands for nothing.
-    let other = &[1, 0, 1, 0x78, 29, 0x0c, 31, 0];
-    let found = on_arm64(rt.alloc(), other, &[], &known)?;
-    assert!(rt; found == Step::Bad(13));
-    let high = &[1, 0, 1, 0x78, 32, 0x0c, 31, 0, 0x07, 32];
-    let found = on_arm64(rt.alloc(), high, &[], &known)?;
-    assert!(rt; found == Step::Bad(13));
-    let register_32 = on_arm64(rt.alloc(), common, &[0x0c, 32, 0], &known)?;
-    assert!(rt; register_32 == Step::Bad(9));
     Ok(())
 }

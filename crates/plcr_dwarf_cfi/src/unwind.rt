@@ -8,7 +8,6 @@ ghost use Rattle.plcr_dwarf_cfi.specs.inner.Settings.{section};
 use crate::decode::decode_before;
 use crate::entries::{CommonInformation, Extent, FrameDescription};
 use crate::fault::CallFrameFault;
-use crate::row::Row;
 use crate::sections::{Surroundings, Within, pass_over};
 use crate::table::RowTable;
 use plcr_leb128::Cells;
@@ -66,7 +65,7 @@ fn own_instructions<C: Cells>(
     })
 }
 
-/// The row at an address, of an architecture with so many register numbers.
+/// Makes the row of the table that at an address, of an architecture with so many register numbers.
 #[tactic(auto, unfolding(crate::specs::Rows::row_at))]
 pub fn row_at<C: Cells>(
     cells: &C,
@@ -74,13 +73,14 @@ pub fn row_at<C: Cells>(
     count: u64,
     description: &FrameDescription,
     address: u64,
-) -> Result<Row, CallFrameFault>
+    table: &mut RowTable,
+) -> Result<(), CallFrameFault>
     requires { count ≤ MOST_RULES }
-    ensures { result ≡ row_at (section (C.cells cells.now) around.now) count description.now address }
+    ensures { result_map (λ _. table.new.row) result ≡ row_at (section (C.cells cells.now) around.now) count description.now address }
 {
     let own = own_instructions(cells, around, description)?;
     let common = &description.common;
-    let mut table = RowTable::new(description.initial_location);
+    table.reset(description.initial_location);
     instruct(
         cells,
         around,
@@ -88,9 +88,8 @@ pub fn row_at<C: Cells>(
         count,
         None,
         common.initial_instructions,
-        &mut table,
+        table,
     )?;
     table.begin();
-    instruct(cells, around, common, count, Some(address), own, &mut table)?;
-    Ok(table.row())
+    instruct(cells, around, common, count, Some(address), own, table)
 }

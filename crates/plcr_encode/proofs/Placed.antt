@@ -1,8 +1,8 @@
 -- The images and the symbols of the addresses in the rows of frames.
-use Rattle.std.proofs.Common.{◌≡◌, ℕ, ◌<◌, List, [], ◌∷◌, length, map, get_or, Option, Some, None, refl, ap, ◌∙◌}
+use Rattle.std.proofs.Common.{◌≡◌, ℕ, ◌<◌, List, [], ◌∷◌, length, map, get_or, Option, Some, None, refl, ap, sym, ◌∙◌}
 use Rattle.std.specs.Prelude.{All, IfSome, option_map, Result, Ok, Err}
 use Rattle.std.specs.Option.{option_and_then}
-use Rattle.std.proofs.lemmas.List.Elements.{All-map}
+use Rattle.std.proofs.lemmas.List.Elements.{All-head, All-map, All-tail}
 use Rattle.plcr_memory.specs.Regions.{Contents}
 use Rattle.plcr_regs.specs.declared.arch.Arch.{Arch}
 use Rattle.plcr_macho.specs.declared.image.Image.{Image}
@@ -18,7 +18,7 @@ use Rattle.plcr_symbols.proofs.Lawful.{symbol_named}
 use Rattle.plcr_cursor.specs.declared.given.Given.{Given}
 use Rattle.plcr_encode.specs.declared.frame_rows.FrameRow.{FrameRow}
 use Rattle.plcr_encode.specs.Frames.{frame_of, lookup_in, pc_of, symbol_of, symbol_over}
-use Rattle.plcr_encode.specs.inner.FrameRows.{IsNamed, IsNamedIn, IsPlaced, frame_in, position_of, row_of, symbol_by, symbol_within}
+use Rattle.plcr_encode.specs.inner.FrameRows.{IsBare, IsNamed, IsNamedIn, IsPlaced, frame_in, position_of, row_of, symbol_by, symbol_within}
 use Rattle.plcr_encode.specs.inner.Lookups.{answered}
 
 module _ (memory : Contents) (arch : Arch) (listed : List Listed) where
@@ -72,3 +72,13 @@ module _ (memory : Contents) (arch : Arch) (listed : List Listed) where
   pub rows_hold : (frames : List Given) → map (frame_in memory) (map (answered (symbol_by memory arch listed)) (map (row_of memory arch listed) frames)) ≡ map (frame_of memory arch listed) frames
   rows_hold [] = refl
   rows_hold (given ∷ frames) = λ k. row_holds given k ∷ rows_hold frames k
+
+  -- rows of addresses that no image has are answered as they are
+  answered_bare : (row : FrameRow) → IsBare row → answered (symbol_by memory arch listed) row ≡ row
+  answered_bare row bare =
+      ap (λ (symbol : Option SymbolAt). record row { symbol = symbol })
+      (ap (λ (position : Option ℕ). symbol_by memory arch listed position row.lookup) bare.nowhere ∙ sym bare.nameless)
+
+  pub bare_answered : (rows : List FrameRow) → All IsBare rows → map (answered (symbol_by memory arch listed)) rows ≡ rows
+  bare_answered [] bare = refl
+  bare_answered (row ∷ rows) bare = λ k. answered_bare row (All-head IsBare row rows bare) k ∷ bare_answered rows (All-tail IsBare row rows bare) k

@@ -1,7 +1,7 @@
 //! The symbols of frames: one pass over the table of each image that they lie in.
-ghost use Rattle.std.specs.Prelude.{◌≡◌, ◌<◌, ℕ, Option, All, IfSome, length, map};
+ghost use Rattle.std.specs.Prelude.{◌≡◌, ◌<◌, ℕ, Option, All, IfSome, IsTrue, length, map};
 ghost use Rattle.std.specs.List.Sorted.{IsNonDecreasing, IsPermutation};
-ghost use Rattle.plcr_encode.specs.inner.FrameRows.{IsPlaced, symbol_by};
+ghost use Rattle.plcr_encode.specs.inner.FrameRows.{IsBare, IsPlaced, symbol_by};
 ghost use Rattle.plcr_symbols.specs.declared.symbol.SymbolAt.{SymbolAt};
 ghost use Rattle.plcr_encode.specs.inner.Lookups.{IsWithin, address_of, answer, answered, lookups_for};
 
@@ -107,8 +107,16 @@ fn answer_rows<I: Images>(
     give_symbols(rows, lookups, found);
 }
 
-/// Finds the symbols of the rows of a thread's frames. The lookups are sorted by image and address,
-/// so that the table of each image is gone through once, and the rows keep their order.
+/// Whether no symbol is to be looked for.
+fn are_bare(rows: &[FrameRow]) -> bool
+    ensures { IsTrue result → All IsBare rows.now }
+{
+    rows.iter().all(|row| row.is_bare())
+}
+
+/// Finds the symbols of the rows of threads' frames. The lookups are sorted by image and address,
+/// so that the table of each image is gone through once, and the rows keep their order. Where no image
+/// has an address of the rows, nothing is looked for.
 pub(crate) fn find_symbols<I: Images>(room: &mut Room, images: &mut I, memory: &Memory, arch: Arch)
     requires { All (IsPlaced (I.images images.old)) room.old.rows.items }
     ensures counts { room.new.counts.items ≡ room.old.counts.items }
@@ -117,6 +125,9 @@ pub(crate) fn find_symbols<I: Images>(room: &mut Room, images: &mut I, memory: &
     ensures index { I.extents images.new ≡ I.extents images.old }
     ensures follows { I.follows images.old images.new }
 {
+    if are_bare(room.rows()) {
+        return;
+    }
     let Room {
         rows,
         counts: _,

@@ -1,4 +1,7 @@
 //! The rows in which the frames of a thread are kept.
+ghost use Rattle.std.specs.Prelude.{◌↔◌, IsTrue};
+ghost use Rattle.plcr_encode.specs.inner.FrameRows.{IsBare};
+
 use plcr_symbols::SymbolAt;
 
 /// What is kept of a frame while its thread is sized and written.
@@ -14,6 +17,15 @@ pub(crate) struct FrameRow {
     pub(crate) position: Option<usize>,
     /// The symbol of this address.
     pub(crate) symbol: Option<SymbolAt>,
+}
+
+impl FrameRow {
+    /// Whether no image has its address, and it has no symbol.
+    pub(crate) fn is_bare(&self) -> bool
+        ensures { IsTrue result ↔ IsBare self.now }
+    {
+        self.position.is_none() && self.symbol.is_none()
+    }
 }
 
 impl Default for FrameRow {

@@ -4,6 +4,7 @@ use Rattle.std.specs.Prelude.{◌≢◌}
 use Rattle.std.proofs.lemmas.Bool.{eqb-false}
 use Rattle.std.proofs.lemmas.Bool.Decides.{nat_tests}
 use Rattle.plcr_base.specs.Numbers.{u64_in}
+use Rattle.plcr_base.proofs.Plain.{not_equal}
 use Rattle.plcr_memory.specs.Regions.{Contents, bytes_at}
 use Rattle.plcr_regs.specs.declared.frame.Frame.{Frame}
 use Rattle.plcr_regs.specs.declared.frame.Step.{Step}
@@ -20,9 +21,6 @@ rises_by pointer saved h = grind (arith, nat_tests)
 
 rises_back : (pointer saved : ℕ) → (saved ≡ 0) ⊎ (pointer < saved) → rises pointer saved ≡ true
 rises_back pointer saved h = grind (arith, nat_tests)
-
-not_zero : (pointer : ℕ) → pointer ≢ 0 → (pointer == 0) ≡ false
-not_zero pointer h = grind (arith, nat_tests)
 
 -- what the words tell, where they rise
 by_words : Frame → ℕ → List ℕ → Bool → Step
@@ -66,7 +64,7 @@ pub caller_only : (memory : Contents) (frame caller : Frame) → IsCaller memory
 unfolding saved_frame by_words
 caller_only memory frame caller h =
     ap (by_pointer memory frame) h.known
-    ∙ ap (λ (b : Bool). cond b steps.End (by_bytes frame h.pointer (bytes_at memory h.pointer SAVED_FRAME))) (not_zero h.pointer h.leads)
+    ∙ ap (λ (b : Bool). cond b steps.End (by_bytes frame h.pointer (bytes_at memory h.pointer SAVED_FRAME))) (not_equal h.pointer 0 h.leads)
     ∙ ap (by_bytes frame h.pointer) h.there
     ∙ ap (by_words frame h.pointer h.words) (rises_back h.pointer (u64_in h.words 0) h.rises)
     ∙ ap (λ (f : Frame). let s : Step = steps.Frame f in s) (sym h.is)

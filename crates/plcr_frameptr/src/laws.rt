@@ -5,7 +5,8 @@ ghost use Rattle.plcr_regs.specs.declared.frame.Step.TheVariants as steps;
 ghost use Rattle.plcr_frameptr.specs.Callers.{IsCaller};
 ghost use Rattle.plcr_frameptr.specs.Saved.{saved_frame};
 
-/// The caller by a saved frame is the one that the two words at the frame pointer tell, and it rises.
+/// The caller by a saved frame is the one that the two words at the frame pointer tell, and it
+/// rises.
 pub fn callers_rise()
     // A caller that is answered is told so.
     ensures found { (memory : Contents) (frame caller : Frame) →

@@ -7,7 +7,7 @@ mod saved;
 
 pub use bad::{DOES_NOT_RISE, NO_FRAME_POINTER, NOT_MAPPED};
 pub use laws::callers_rise;
-pub use saved::step;
+pub use saved::{step, step_into};
 
 #[cfg(test)]
 mod tests;

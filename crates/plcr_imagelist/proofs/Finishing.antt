@@ -53,6 +53,17 @@ come_start start none =
     let some = some_steps start.doing in
     record { table = refl; doing = refl; load = refl; most = omega arith; before = λ _. (refl, stores_none start.doing start.node start.writer); after = λ e. absurd (omega arith) }
 
+-- all steps before the change itself
+pub come_stored : (start now : ChangeState) → now.doing ≡ start.doing → now.load ≡ start.load → now.node ≡ start.node → suc now.made ≡ change_step start.doing → OnlyStores start.doing start.node start.writer now.writer → HasCome start now
+come_stored start now doing load node last only = record {
+  table = stores_table start.doing start.node start.writer now.writer only;
+  doing = doing;
+  load = load;
+  most = omega arith;
+  before = λ _. (node, only);
+  after = λ e. absurd (omega arith);
+}
+
 -- the change itself stays on its table
 same_table : (old : WriterState) (doing : Doing) (load node : ℕ) (new : WriterState) → IsChangedAt old doing load node new → new.table ≡ old.table
 same_table old (Loads header name) load node new k = ap (λ (s : WriterState). s.table) k.now

@@ -4,7 +4,7 @@ use Rattle.std.proofs.lemmas.Bool.{and_parts, eqb-true}
 use Rattle.plcr_base.proofs.Plain.{and_false}
 use Rattle.plcr_machine.specs.declared.image.Image.{Image}
 use Rattle.plcr_machine.specs.declared.entry.Entry.{Entry}
-use Rattle.plcr_machine.specs.declared.entry.Entry.TheVariants.{Announce, Enter, Leave, Retire, Load, Unload, Count, Look}
+use Rattle.plcr_machine.specs.declared.entry.Entry.TheVariants.{Unload, Count}
 use Rattle.plcr_machine.specs.Lists.{has, without, live, loads}
 use Rattle.plcr_machine.specs.Nodes.{is_new, is_removed, is_cleared, is_free, is_waiting, is_let_go, counts_before}
 use Rattle.plcr_machine.specs.Passes.{counts, owes_count, all_under}
@@ -17,6 +17,7 @@ use Rattle.plcr_machine.proofs.Freedom.{listed_old, listed_busy, listed_kept, re
 use Rattle.plcr_machine.proofs.Full.{all_live}
 use Rattle.plcr_machine.proofs.Pace.{paced_rest}
 use Rattle.plcr_machine.proofs.Insiders.{counts_few}
+use Rattle.plcr_machine.proofs.Reach.{before_most}
 use Rattle.plcr_nodes.specs.declared.view.Store.{Store}
 use Rattle.plcr_nodes.specs.Names.{header_in}
 use Rattle.plcr_nodes.specs.Tokens.{OwnerState}
@@ -58,17 +59,6 @@ cleared_same passes n g h e = ap (λ (f : ℕ → Bool). all_under f passes) (λ
 not_cleared : (passes n node : ℕ) (past : List Entry) → eqb node n ≡ true → 0 < passes → is_cleared passes n (Unload node ∷ past) ≡ false
 not_cleared zero n node past e some = absurd (omega arith)
 not_cleared (suc p) n node past e some = rw e refl
-
-before_most : (n : ℕ) (h : List Entry) → counts_before n h ≤ counts h
-before_most n [] = omega arith
-before_most n (Announce q s ∷ past) = before_most n past
-before_most n (Enter q ∷ past) = before_most n past
-before_most n (Leave q ∷ past) = before_most n past
-before_most n (Retire q ∷ past) = before_most n past
-before_most n (Load k i a ∷ past) = before_most n past
-before_most n (Unload k ∷ past) = by_cases (eqb k n) (λ e. rw e (omega arith)) (λ e. rw e (before_most n past))
-before_most n (Count ∷ past) = omega (arith, before_most n past)
-before_most n (Look w x ∷ past) = before_most n past
 
 pub waiting_same : (passes n : ℕ) (g h : List Entry) → owner_entries g ≡ owner_entries h → is_waiting passes n g ≡ is_waiting passes n h
 waiting_same passes n g h e = λ i. removed_same n g h e i && not (cleared_same passes n g h e i)

@@ -7,7 +7,7 @@ use Rattle.plcr_machine.specs.Lists.{Grows}
 use Rattle.plcr_machine.specs.Passes.{is_inside, is_announced, counts}
 use Rattle.plcr_machine.specs.Histories.{IsHistory}
 use Rattle.plcr_machine.specs.Holds.{before_enter}
-use Rattle.plcr_machine.specs.Parts.{own_entries}
+use Rattle.plcr_machine.specs.Parts.{own_entries, entries_of_holds, MadeHolds}
 use Rattle.plcr_machine.proofs.Cases.{eqb_same}
 use Rattle.plcr_machine.proofs.Growing.{counts-grows}
 use Rattle.plcr_machine.proofs.Insiders.{inside_announced}
@@ -16,11 +16,11 @@ use Rattle.plcr_nodes.specs.Seeing.{GoesOn}
 use Rattle.plcr_nodes.specs.Tokens.{PassState, SeesMore, IsEntry, IsGlanced, IsEntered, IsLeft}
 use Rattle.plcr_nodes.proofs.Seeing.{own_of, grows_again, adds_again}
 use Rattle.plcr_nodes.proofs.Known.{inside_same, announced_same}
-use Rattle.plcr_imagelist.specs.Holds.{WalkerState, IsPassed, IsHeld, IsReleased, IsOut, HasEnded, start_of}
-use Rattle.plcr_imagelist.specs.inner.Holding.{walker_state, images_on, IsHolding}
+use Rattle.plcr_imagelist.specs.Holds.{WalkerState, IsPassed, IsHeld, IsReleased, HasEnded, start_of}
+use Rattle.plcr_imagelist.specs.inner.Holding.{walker_state, images_on, IsOut, IsHolding}
 use Rattle.plcr_imagelist.proofs.Looking.{went_again}
 use Rattle.plcr_imagelist.proofs.Meeting.{before_enter-same, ended_on}
-use Rattle.plcr_imagelist.proofs.Walking.{hold_of}
+use Rattle.plcr_imagelist.proofs.Walking.{MadeHoldsAndAnnounced, hold_of}
 
 pub goes_again : (nodes passes p : ℕ) (a b c : List Entry) (a' b' c' : List (List ℕ)) → GoesOn nodes passes false (p ∷ []) a a' b b' → GoesOn nodes passes false (p ∷ []) b b' c c' → GoesOn nodes passes false (p ∷ []) a a' c c'
 goes_again nodes passes p a b c a' b' c' g h = record { added = adds_again false (p ∷ []) a b c g.added h.added; named = went_again a' b' c' g.named h.named; legal = h.legal; short = h.short }
@@ -74,6 +74,14 @@ module _ (old mid : PassState) (seen : ℕ) (g : IsGlanced old seen mid) where
     legal = a.legal;
   }
 
+-- after the holds that it had made
+pub announced_made : (old mid new : PassState) (seen : ℕ) → IsGlanced old seen mid → IsEntry (Announce mid.number seen) mid new → MadeHolds old.number old.history → MadeHoldsAndAnnounced new.number new.history
+announced_made old mid new seen g a made =
+    let p : ℕ = old.number in
+    let one = passing p (walker_state old) (Announce p seen) (walker_state new) (announced_by old mid seen g new a) refl in
+    subst (λ n. MadeHoldsAndAnnounced n new.history) (sym one.number)
+    (seen, made.0, ap (own_entries p) one.history ∙ rw (eqb_same p) (ap (λ (es : List Entry). Announce p seen ∷ es) (one.own ∙ made.1)))
+
 -- so it may go in
 pub may_enter : (old : PassState) (seen : ℕ) (new : PassState) → IsEntry (Announce old.number seen) old new → is_inside old.number old.history ≡ false → (is_announced new.number new.history ≡ true) × (is_inside new.number new.history ≡ false)
 may_enter old seen new a out =
@@ -111,14 +119,6 @@ may_retire old high new met ended low k h =
     subst (λ (s : PassState). (is_announced s.number s.history ≡ true) × (is_inside s.number s.history ≡ false)) (sym e.now)
     (announced_same old.number e.past old.history own ∙ was, rw (eqb_same old.number) refl)
 
--- and is out then
-pub out_retired : (old new : PassState) → IsEntry (Retire old.number) old new → is_inside old.number old.history ≡ false → IsOut (walker_state new)
-out_retired old new k out = record {
-  known = k.legal;
-  outside = subst (λ (s : PassState). is_inside s.number s.history ≡ false) (sym k.now) (inside_same old.number k.past old.history (own_of old.number old.history k.past k.sees.added) ∙ out);
-  retired = subst (λ (s : PassState). is_announced s.number s.history ≡ false) (sym k.now) (rw (eqb_same old.number) refl);
-}
-
 ended_out : (old new : WalkerState) (past : List Entry) (names : List (List ℕ)) (met : List Image) (b : ℕ) → new ≡ record old { history = past; names = names } → IsHistory new.nodes new.passes new.history new.names
     → Grows old.history past → before_enter old.number past ≡ before_enter old.number old.history → HasEnded old.history (start_of old) b met → HasEnded new.history (start_of new) b met
 ended_out old new past names met b now legal grows before k =
@@ -150,3 +150,16 @@ released_left old out new met ended low high l r h =
       before = before;
       ends = λ b k. ended_out (walker_state old) (walker_state new) new.history new.names (images_on met old.history) b now r.legal grows before k;
     }
+
+-- a pass that retired is out
+pub out_retired : (old out new : PassState) (met : List ℕ) (ended : Bool) (low high : ℕ) → IsLeft old high out → IsEntry (Retire out.number) out new → IsHolding old met ended low → is_inside out.number out.history ≡ false → IsOut (walker_state new)
+out_retired old out new met ended low high l k h outside = record {
+  known = k.legal;
+  outside = subst (λ (s : PassState). is_inside s.number s.history ≡ false) (sym k.now) (inside_same out.number k.past out.history (own_of out.number out.history k.past k.sees.added) ∙ outside);
+  retired = subst (λ (s : PassState). is_announced s.number s.history ≡ false) (sym k.now) (rw (eqb_same out.number) refl);
+  made =
+      let own : own_entries old.number old.history ≡ Enter old.number ∷ Announce old.number h.made.0 ∷ entries_of_holds old.number h.made.1 = h.made.2 in
+      let r = released_left old out new met ended low high l k h in
+      let same : new.number ≡ old.number = ap (λ (s : PassState). s.number) k.now ∙ ap (λ (s : PassState). s.number) l.entry.now in
+      subst (λ n. MadeHolds n new.history) (sym same) (h.made.0 ∷ h.made.1, r.own ∙ ap (λ (es : List Entry). Retire old.number ∷ Leave old.number ∷ es) own);
+}

@@ -13,7 +13,7 @@ use Rattle.plcr_base.specs.Limits.{IsImageName}
 use Rattle.plcr_nodes.specs.Names.{AreNames}
 use Rattle.plcr_nodes.proofs.NamesKept.{name_short, bytes_named}
 use Rattle.plcr_nodes.proofs.Spelling.{no_bytes}
-use Rattle.plcr_nodes.specs.Rule.{name_on, image_word, image_words}
+use Rattle.plcr_nodes.specs.Payload.{name_on, image_word, image_words}
 use Rattle.plcr_nodes.specs.Seeing.{GoesOn}
 use Rattle.plcr_nodes.specs.Tokens.{PassState, IsRead}
 use Rattle.plcr_nodes.proofs.Staying.{image_stays, name_stays}

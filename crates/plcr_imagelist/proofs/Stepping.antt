@@ -15,12 +15,12 @@ use Rattle.plcr_imagelist.specs.declared.change.Task.{Task}
 use Rattle.plcr_imagelist.specs.declared.change.Task.TheVariants.{Load, Unload}
 use Rattle.plcr_imagelist.specs.inner.Keeping.{BooksState, writer_state}
 use Rattle.plcr_imagelist.specs.Finding.{first_with}
-use Rattle.plcr_imagelist.specs.States.{WriterState, change_step, ChangeState, IsAtRest}
+use Rattle.plcr_imagelist.specs.States.{WriterState, Loads, change_step, ChangeState, IsAtRest}
 use Rattle.plcr_imagelist.specs.Changes.{IsBegunLoad, begun_load, FindsNode}
-use Rattle.plcr_imagelist.specs.inner.Making.{FindsRoom, IsMaking, MakesStep, AreStored, doing_of}
+use Rattle.plcr_imagelist.specs.inner.Making.{FindsRoom, OnlyStores, IsMaking, MakesStep, AreStored, stores_after, doing_of}
 use Rattle.plcr_imagelist.specs.Steps.{word_stored, value_stored}
 use Rattle.plcr_imagelist.proofs.Resting.{loaded_at, unloaded_at, due_linked, due_unlinked}
-use Rattle.plcr_imagelist.proofs.Storing.{stored_more, IsWhole, whole}
+use Rattle.plcr_imagelist.proofs.Storing.{stored_more, stored_after, after_elsewhere, IsWhole, whole}
 
 -- before the change itself, none is to be counted, and there is room for one more
 pub making_rest : (b : BooksState) (task : Task) (name : List ℕ) (load made : ℕ) → IsMaking b task name load made → made < change_step (doing_of task name) → (owes_count b.owner.history ≡ false) × (changes b.owner.history < MOST_CHANGES)
@@ -56,6 +56,31 @@ making_stored b b' header name load made m early e =
       before = λ _. (refl, refl);
       change = λ q. absurd (omega arith);
     })
+
+-- and all of them
+pub making_filled : (b b' : BooksState) (header : ℕ) (name : List ℕ) (load made : ℕ) → IsMaking b (Load header) name load 0 → made ≡ 3 + words_of (length name)
+    → b' ≡ record b { owner = record b.owner { filled = stores_after b.spare header name (3 + words_of (length name)) b.owner.filled } } → IsMaking b' (Load header) name load made
+making_filled b b' header name load made m is e =
+    let w : ℕ = words_of (length name) in
+    let now : b' ≡ record b { owner = record b.owner { filled = stores_after b.spare header name made b.owner.filled } } =
+    e ∙ ap (λ n. record b { owner = record b.owner { filled = stores_after b.spare header name n b.owner.filled } }) (sym is) in
+    subst (λ (s : BooksState). IsMaking s (Load header) name load made) (sym now)
+    (record {
+      known = m.known;
+      paced = m.paced;
+      first = m.first;
+      short = m.short;
+      bytes = m.bytes;
+      most = omega arith;
+      fewer = m.fewer;
+      owes = (making_rest b (Load header) name load 0 m (omega arith)).0 ∙ sym (ne_eqb made (4 + w) (λ q. omega arith));
+      ready = λ _. let r = m.ready (omega arith) in (r.0, r.1, stored_after b.spare header name made b.owner.filled (omega arith));
+    })
+
+pub filled_only : (b b' : BooksState) (header : ℕ) (name : List ℕ) (made : ℕ) → b' ≡ record b { owner = record b.owner { filled = stores_after b.spare header name made b.owner.filled } }
+    → OnlyStores (Loads header name) b.spare (writer_state b.owner) (writer_state b'.owner)
+filled_only b b' header name made e =
+    subst (λ (s : BooksState). OnlyStores (Loads header name) b.spare (writer_state b.owner) (writer_state s.owner)) (sym e) (refl, after_elsewhere b.spare header name made b.owner.filled)
 
 -- the words of the whole image are stored
 pub making_whole : (b : BooksState) (header : ℕ) (name : List ℕ) (load made : ℕ) → IsMaking b (Load header) name load made → made ≡ 3 + words_of (length name) → IsWhole b.spare header name b.owner.filled

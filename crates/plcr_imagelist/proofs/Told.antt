@@ -16,8 +16,8 @@ use Rattle.plcr_imagelist.specs.inner.Keeping.{BooksState, Agrees, is_node, once
 use Rattle.plcr_imagelist.specs.Finding.{first_with}
 use Rattle.plcr_imagelist.specs.States.{IsAtRest}
 use Rattle.plcr_imagelist.specs.inner.Making.{IsMaking, IsReady}
-use Rattle.plcr_imagelist.specs.inner.Holding.{walker_state, images_on, IsHolding}
-use Rattle.plcr_imagelist.specs.Holds.{IsOut, EndedAt}
+use Rattle.plcr_imagelist.specs.inner.Holding.{walker_state, images_on, IsOut, IsHolding}
+use Rattle.plcr_imagelist.specs.Holds.{EndedAt}
 use Rattle.plcr_imagelist.specs.Tellings.{IsWriterTold, IsWalkerTold, IsHoldTold, IsMet}
 use Rattle.plcr_nodes.proofs.Pacing.{changes_same, owes_same, paced_same}
 use Rattle.plcr_imagelist.specs.declared.bounds.Removed.{Removed}
@@ -103,7 +103,8 @@ walker_told old note new k = record { past = k.past; names = k.names; sees = k.s
 pub out_told : (old : PassState) (note : NoteState) (new : PassState) → IsPassTold old note new → IsOut (walker_state old) → IsOut (walker_state new)
 out_told old note new k o =
     subst (λ (s : PassState). IsOut (walker_state s)) (sym k.now)
-    (record { known = k.sees.legal; outside = inside_same old.number k.past old.history (own_of old.number old.history k.past k.sees.added) ∙ o.outside; retired = announced_same old.number k.past old.history (own_of old.number old.history k.past k.sees.added) ∙ o.retired })
+    (let own = own_of old.number old.history k.past k.sees.added in
+    record { known = k.sees.legal; outside = inside_same old.number k.past old.history own ∙ o.outside; retired = announced_same old.number k.past old.history own ∙ o.retired; made = (o.made.0, own ∙ o.made.1) })
 
 pub holding_told : (old : PassState) (note : NoteState) (new : PassState) (met : List ℕ) (ended : Bool) (low : ℕ) → IsPassTold old note new → IsHolding old met ended low → IsHolding new met ended low
 holding_told old note new met ended low k h =

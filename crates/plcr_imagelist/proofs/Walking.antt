@@ -3,13 +3,14 @@ use Rattle.std.proofs.Common.{◌≡◌, ◌≢◌, inl, inr, ℕ, zero, suc, �
 use Rattle.std.proofs.lemmas.Bool.{or_left, or_right}
 use Rattle.plcr_machine.specs.declared.image.Image.{Image}
 use Rattle.plcr_machine.specs.declared.entry.Entry.{Entry}
-use Rattle.plcr_machine.specs.declared.entry.Entry.TheVariants.{Enter}
+use Rattle.plcr_machine.specs.declared.entry.Entry.TheVariants.{Announce, Enter}
 use Rattle.plcr_machine.specs.Lists.{load_number, loaded, changes, list_after}
 use Rattle.plcr_machine.specs.Walks.{RisesAbove, follow, last_met, Meets, IsWholeWalk}
 use Rattle.plcr_machine.specs.Passes.{counts}
 use Rattle.plcr_machine.specs.Histories.{IsHistory}
 use Rattle.plcr_machine.specs.Holds.{may_reach, before_enter}
 use Rattle.plcr_machine.specs.Links.{image_at}
+use Rattle.plcr_machine.specs.Parts.{own_entries, entries_of_holds}
 use Rattle.plcr_machine.proofs.Cases.{eqb_same, not_both}
 use Rattle.plcr_machine.proofs.Growing.{meets_until, meets-snoc, changes-grows, meets-grows}
 use Rattle.plcr_nodes.specs.Entries.{among}
@@ -28,6 +29,10 @@ on_with s past names given = record s { history = past; names = names; given = g
 
 abbrev pub hold_of : PassState → List ℕ → Bool → HoldState
 hold_of pass met ended = record { walker = walker_state pass; met = images_on met pass.history; ended = ended; extents = [] }
+
+-- a pass that made whole holds, and announced itself
+abbrev pub MadeHoldsAndAnnounced : ℕ → List Entry → Type 0
+MadeHoldsAndAnnounced pass history = (seen : ℕ) × (seens : List ℕ) × (own_entries pass history ≡ Announce pass seen ∷ entries_of_holds pass seens)
 
 -- a hold stays one as its pass sees more
 pub holding_stays : (old : PassState) (past : List Entry) (names : List (List ℕ)) (given met : List ℕ) (ended : Bool) (low : ℕ) → SeesMore old past names → ((n : ℕ) → among n old.given ≡ true → among n given ≡ true)
@@ -55,11 +60,12 @@ holding_stays old past names given met ended low g more h =
       };
       given = λ n t. let at = h.given n t in (at.0, more n at.1, reach_stays old.nodes old.passes p n old.history past old.names names g at.2);
       low_is = h.low_is ∙ ap counts (sym start);
+      made = (h.made.0, h.made.1, own ∙ h.made.2);
     }
 
 -- a pass that went in has a hold that has met nothing
-pub holding_entered : (old : PassState) (low : ℕ) (new : PassState) → IsEntered old low new → IsHolding new [] false low
-holding_entered old low new k =
+pub holding_entered : (old : PassState) (low : ℕ) (new : PassState) → IsEntered old low new → MadeHoldsAndAnnounced old.number old.history → IsHolding new [] false low
+holding_entered old low new k made =
     let e = k.entry in
     let start : before_enter old.number (Enter old.number ∷ e.past) ≡ e.past = rw (eqb_same old.number) refl in
     subst (λ (s : PassState). IsHolding s [] false low) (sym e.now)
@@ -75,6 +81,7 @@ holding_entered old low new k =
       };
       given = λ n t. not_both false t refl;
       low_is = k.gate ∙ ap counts (sym start);
+      made = (made.0, made.1, rw (eqb_same old.number) (ap (λ (es : List Entry). Enter old.number ∷ es) (own_of old.number old.history e.past e.sees.added ∙ made.2)));
     })
 
 image_at-some : (n : ℕ) (h : List Entry) → n ≢ 0 → image_at n h ≡ Some (loaded n h)
@@ -118,6 +125,7 @@ holding_ended old met found new low f h z =
       };
       given = on.given;
       low_is = on.low_is;
+      made = on.made;
     })
 
 -- so its walk is lawful up to the list that its pass saw then
@@ -182,6 +190,7 @@ holding_met old met found new low f h some =
       };
       given = given;
       low_is = on.low_is;
+      made = on.made;
     })
 
 pub next_met : (old : PassState) (met : List ℕ) (found : ℕ) (new : PassState) (low : ℕ) → Followed old met found new → IsHolding old met false low → found ≢ 0 → IsNext (hold_of old met false) true (hold_of new (met ++ found ∷ []) false)

@@ -15,13 +15,17 @@ use Rattle.plcr_imagelist.specs.States.{WriterState, Doing, Loads, Unloads, Chan
 abbrev pub WriterSeesMore : WriterState → List Entry → List (List ℕ) → Type 0
 WriterSeesMore old past names = GoesOn old.nodes old.passes true old.joined old.history old.names past names
 
--- the stamp of a pass was looked at, and this is it
-pub record IsLookedAt (old : WriterState) (pass stamp : ℕ) (new : WriterState) : Type 0 where
+-- the writer made an entry, which came last, and which leaves the list
+pub record IsNoted (entry : Entry) (old new : WriterState) : Type 0 where
   pub past : List Entry
   pub names : List (List ℕ)
   pub sees : WriterSeesMore old past names
-  pub now : new ≡ record old { history = Look pass stamp ∷ past; names = names }
+  pub now : new ≡ record old { history = entry ∷ past; names = names }
   pub legal : IsHistory new.nodes new.passes new.history new.names
+
+-- the stamp of a pass was looked at, and this is it
+abbrev pub IsLookedAt : WriterState → ℕ → ℕ → WriterState → Type 0
+IsLookedAt old pass stamp new = IsNoted (Look pass stamp) old new
 
 -- each of the first passes was looked at once, in rising order, and so many of them had a stamp
 abbrev pub Looks : ℕ → WriterState → ℕ → WriterState → Type 0
@@ -29,12 +33,8 @@ Looks zero old found new = (new ≡ old) × (found ≡ 0)
 Looks (suc pass) old found new = (mid : WriterState) × (less : ℕ) × (stamp : ℕ) × Looks pass old less mid × IsLookedAt mid pass stamp new × (found ≡ less + (if stamp == 0 then 0 else 1))
 
 -- the change was counted
-pub record IsCountedAt (old : WriterState) (new : WriterState) : Type 0 where
-  pub past : List Entry
-  pub names : List (List ℕ)
-  pub sees : WriterSeesMore old past names
-  pub now : new ≡ record old { history = Count ∷ past; names = names }
-  pub legal : IsHistory new.nodes new.passes new.history new.names
+abbrev pub IsCountedAt : WriterState → WriterState → Type 0
+IsCountedAt old new = IsNoted Count old new
 
 -- an image with this name stands at the end of the list, on a node that was free: the change of a load. What was stored in the node is no longer among the stores in free nodes
 pub record IsLoadedAt (old : WriterState) (header : ℕ) (name : List ℕ) (load node : ℕ) (new : WriterState) : Type 0 where

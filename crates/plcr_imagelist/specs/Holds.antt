@@ -1,12 +1,12 @@
 -- What contracts see of passes and holds, and what each of their calls says.
-use Rattle.std.specs.Prelude.{◌≡◌, ℕ, ◌≤◌, Bool, true, false, List, [], ◌∷◌, ◌++◌, length, Some, None, IsTrue, IsFalse}
+use Rattle.std.specs.Prelude.{◌≡◌, ℕ, ◌≤◌, Bool, true, false, List, [], ◌∷◌, ◌++◌, length, Some, None, IsTrue}
 use Rattle.atomic_table.specs.Seated.{TableId}
 use Rattle.plcr_machine.specs.declared.image.Image.{Image}
 use Rattle.plcr_machine.specs.declared.entry.Entry.{Entry}
 use Rattle.plcr_machine.specs.declared.entry.Entry.TheVariants.{Announce, Enter, Leave, Retire}
 use Rattle.plcr_machine.specs.Lists.{Grows, load_number, changes, list_after}
 use Rattle.plcr_machine.specs.Walks.{RisesAbove, follow, last_met, Meets, IsWholeWalk, IsLawfulWalk}
-use Rattle.plcr_machine.specs.Passes.{is_inside, is_announced, counts}
+use Rattle.plcr_machine.specs.Passes.{is_inside, counts}
 use Rattle.plcr_machine.specs.Histories.{IsHistory}
 use Rattle.plcr_machine.specs.Holds.{before_enter}
 use Rattle.plcr_machine.specs.Parts.{own_entries}
@@ -66,12 +66,6 @@ pub record IsWalking (s : HoldState) : Type 0 where
   pub rises : RisesAbove load_number 0 s.met
   pub few : length s.met ≤ s.walker.nodes
   pub whole : s.ended ≡ true → (b : ℕ) × EndedAt s b
-
--- a pass that is out, and not announced
-pub record IsOut (s : WalkerState) : Type 0 where
-  pub known : IsHistory s.nodes s.passes s.history s.names
-  pub outside : IsFalse (is_inside s.number s.history)
-  pub retired : IsFalse (is_announced s.number s.history)
 
 -- The pass announced itself, with a number of counts that it saw in this call, and went in. Its walk has met nothing
 pub record IsHeld (old : WalkerState) (new : HoldState) : Type 0 where

@@ -1,6 +1,12 @@
 -- What the tokens of a list that was just opened know.
-use Rattle.std.specs.Prelude.{◌≡◌, ℕ, zero, suc, ◌<◌, List, [], ◌∷◌, ◌++◌, length, slice_index_or}
+use Rattle.std.specs.Prelude.{◌≡◌, ℕ, zero, suc, ◌<◌, List, [], ◌∷◌, ◌++◌, length, slice_index_or, Result, Ok, Err}
 use Rattle.atomic_table.specs.Seated.{TableId}
+use Rattle.plcr_machine.specs.Lists.{live}
+use Rattle.plcr_imagelist.specs.declared.refusals.LoadRefused.{LoadRefused}
+use Rattle.plcr_imagelist.specs.declared.refusals.UnloadRefused.{UnloadRefused}
+use Rattle.plcr_imagelist.specs.declared.refusals.UnloadRefused.TheVariants.{NotLoaded}
+use Rattle.plcr_imagelist.specs.Finding.{first_with}
+use Rattle.plcr_imagelist.specs.Loading.{LoadsOrRefuses, UnloadsOrRefuses}
 use Rattle.plcr_imagelist.specs.States.{WriterState}
 use Rattle.plcr_imagelist.specs.Holds.{WalkerState}
 
@@ -19,6 +25,11 @@ opened_walkers table nodes passes (suc count) = opened_walkers table nodes passe
 pub record IsOpenedList (nodes passes : ℕ) (table : TableId) (writer : WriterState) (all : List WalkerState) : Type 0 where
   pub writing : writer ≡ opened_writer table nodes passes
   pub numbered : all ≡ opened_walkers table nodes passes passes
+
+-- what the first calls of a writer come to: a load is not refused, and has the number 1, and there is no image to unload
+pub record StartsEmpty (writer : WriterState) : Type 0 where
+  pub load : (header : ℕ) (name : List ℕ) (new : WriterState) (answer : Result ℕ LoadRefused) → LoadsOrRefuses writer header name new answer → answer ≡ Ok 1
+  pub unload : (header : ℕ) (new : WriterState) (answer : Result ℕ UnloadRefused) → UnloadsOrRefuses writer (first_with header (live writer.history)) new answer → answer ≡ Err NotLoaded
 
 -- so there is one pass for each number, at its place
 abbrev pub PassesAreNumbered : Type 0

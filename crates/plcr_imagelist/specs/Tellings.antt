@@ -1,10 +1,10 @@
 -- Notes and tellings: what one token of a list has seen, and what another learns of it.
 use Rattle.std.specs.Prelude.{◌≡◌, ℕ, false, List, [], ◌∷◌}
 use Rattle.plcr_machine.specs.declared.entry.Entry.{Entry}
-use Rattle.plcr_machine.specs.Lists.{Grows}
 use Rattle.plcr_nodes.specs.Entries.{WentOn}
 use Rattle.plcr_nodes.specs.Seeing.{AddsOthers}
 use Rattle.plcr_nodes.specs.Tokens.{NoteState}
+use Rattle.plcr_nodes.specs.Telling.{IsTold}
 use Rattle.plcr_imagelist.specs.States.{WriterState, ChangeState}
 use Rattle.plcr_imagelist.specs.Changes.{WriterSeesMore}
 use Rattle.plcr_imagelist.specs.Holds.{WalkerState, HoldState, WalkerSeesMore, EndedAt}
@@ -16,23 +16,13 @@ note_of_writer s = record { table = s.table; history = s.history; names = s.name
 abbrev pub note_of_walker : WalkerState → NoteState
 note_of_walker s = record { table = s.table; history = s.history; names = s.names }
 
--- the writer was told what the note's token had seen: both had seen a beginning of what it has seen now
-pub record IsWriterTold (old : WriterState) (note : NoteState) (new : WriterState) : Type 0 where
-  pub past : List Entry
-  pub names : List (List ℕ)
-  pub sees : WriterSeesMore old past names
-  pub now : new ≡ record old { history = past; names = names }
-  pub told : Grows note.history past
-  pub named : WentOn note.names names
+-- the writer was told what the note's token had seen
+abbrev pub IsWriterTold : WriterState → NoteState → WriterState → Type 0
+IsWriterTold old note new = IsTold (WriterSeesMore old) (λ past names. record old { history = past; names = names }) note new
 
 -- a pass was told likewise
-pub record IsWalkerTold (old : WalkerState) (note : NoteState) (new : WalkerState) : Type 0 where
-  pub past : List Entry
-  pub names : List (List ℕ)
-  pub sees : WalkerSeesMore old past names
-  pub now : new ≡ record old { history = past; names = names }
-  pub told : Grows note.history past
-  pub named : WentOn note.names names
+abbrev pub IsWalkerTold : WalkerState → NoteState → WalkerState → Type 0
+IsWalkerTold old note new = IsTold (WalkerSeesMore old) (λ past names. record old { history = past; names = names }) note new
 
 -- and so was the writer that a change has, whose steps stay as they were
 pub record IsChangeTold (old : ChangeState) (note : NoteState) (new : ChangeState) : Type 0 where

@@ -6,7 +6,8 @@ ghost use Rattle.plcr_machine.specs.Nodes.{is_free};
 ghost use Rattle.plcr_machine.specs.Links.{last_place};
 ghost use Rattle.plcr_machine.specs.declared.limits.TheConstants.{MOST_CHANGES};
 ghost use Rattle.plcr_nodes.specs.declared.words.TheConstants.{PAYLOAD_WORDS};
-ghost use Rattle.plcr_nodes.specs.Names.{IsFilled, IsEnded, header_in, store};
+ghost use Rattle.plcr_base.specs.Limits.{IsImageName};
+ghost use Rattle.plcr_nodes.specs.Names.{IsFilled, IsEnded, header_in, store, words_of};
 ghost use Rattle.plcr_nodes.specs.Opening.{IsSized, opened_owner};
 ghost use Rattle.plcr_nodes.specs.Owning.{IsLinked, IsUnlinked, IsCounted};
 ghost use Rattle.plcr_nodes.specs.Telling.{note_of_owner, IsOwnerTold, IsJoined};
@@ -16,10 +17,11 @@ ghost use Rattle.plcr_imagelist.specs.Changes.{Looks};
 ghost use Rattle.plcr_imagelist.specs.Refusing.{RefusesFull};
 ghost use Rattle.plcr_imagelist.specs.Loading.{HasMade};
 ghost use Rattle.plcr_imagelist.specs.inner.Keeping.{writer_state, last_of, times, once_where, is_node};
-ghost use Rattle.plcr_imagelist.specs.inner.Making.{FindsRoom};
+ghost use Rattle.plcr_imagelist.specs.inner.Making.{FindsRoom, stores_after};
 
 use crate::bounds::{Removed, least_of, let_go, look_at_all};
 use crate::refusals::LoadRefused;
+use crate::words::store_image;
 use plcr_machine::{COUNT_UNIT, Image};
 use plcr_nodes::{NodeNote, NodePass, Nodes, Owner};
 use std::alloc::{AllocError, Global};
@@ -107,6 +109,17 @@ impl Books {
     {
         let node = self.spare();
         self.owner.end_link(nodes, node);
+    }
+
+    /// Stores an image in that node, and the end as its link.
+    pub(crate) fn fill_whole(&mut self, nodes: &Nodes, header: u64, name: &[u8])
+        requires table { self.old.owner.table ≡ nodes.now }
+        requires some { self.old.spare ≢ 0 }
+        requires short { IsImageName name.now }
+        ensures { self.new ≡ record self.old { owner = record self.old.owner { filled = stores_after self.old.spare header name.now (3 + words_of (length name.now)) self.old.owner.filled } } }
+    {
+        let node = self.spare();
+        store_image(&mut self.owner, nodes, node, header, name);
     }
 
     // The last place of the list.

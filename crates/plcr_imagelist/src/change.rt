@@ -7,7 +7,8 @@ ghost use Rattle.plcr_imagelist.specs.States.{IsAtRest, Loads, is_load, change_s
 ghost use Rattle.plcr_imagelist.specs.Changes.{IsCountedAt};
 ghost use Rattle.plcr_imagelist.specs.Steps.{word_stored, value_stored, IsStepped, Advances, table_of, history_of};
 ghost use Rattle.plcr_imagelist.specs.Listing.{HasLists, AddsChanges, made_by_step, writer_of};
-ghost use Rattle.plcr_imagelist.specs.inner.Making.{doing_of, IsMaking, MakesStep, IsFinished};
+ghost use Rattle.plcr_imagelist.specs.inner.Keeping.{writer_state};
+ghost use Rattle.plcr_imagelist.specs.inner.Making.{doing_of, IsMaking, MakesStep, OnlyStores, HasCome, IsFinished};
 
 use crate::books::Books;
 use crate::list::ImageList;
@@ -117,6 +118,34 @@ fn unload_step(
     books.unlink(nodes, at, image);
 }
 
+// All steps of a load before the change itself, and how many they are.
+fn store_load(books: &mut Books, nodes: &Nodes, header: u64, name: &[u8], load: u32) -> u32
+    requires table { books.old.owner.table ≡ nodes.now }
+    requires making { IsMaking books.old (Task.Load header) name.now load 0 }
+    ensures making { IsMaking books.new (Task.Load header) name.now load result }
+    ensures last { suc result ≡ change_step (Loads header name.now) }
+    ensures spare { books.new.spare ≡ books.old.spare }
+    ensures stores { OnlyStores (Loads header name.now) books.old.spare (writer_state books.old.owner) (writer_state books.new.owner) }
+{
+    books.fill_whole(nodes, header, name);
+    3 + words_of(name.len()) as u32
+}
+
+// The same of any change: an unload has no such steps.
+fn store_words(books: &mut Books, nodes: &Nodes, task: Task, name: &[u8], load: u32) -> u32
+    requires table { books.old.owner.table ≡ nodes.now }
+    requires making { IsMaking books.old task name.now load 0 }
+    ensures making { IsMaking books.new task name.now load result }
+    ensures last { suc result ≡ change_step (doing_of task name.now) }
+    ensures spare { books.new.spare ≡ books.old.spare }
+    ensures stores { OnlyStores (doing_of task name.now) books.old.spare (writer_state books.old.owner) (writer_state books.new.owner) }
+{
+    match task {
+        Task::Load { header } => store_load(books, nodes, header, name, load),
+        Task::Unload { .. } => 0,
+    }
+}
+
 // Any step of a change but the count.
 fn make_step(books: &mut Books, nodes: &Nodes, task: Task, name: &[u8], load: u32, made: u32)
     requires table { books.old.owner.table ≡ nodes.now }
@@ -184,11 +213,26 @@ impl Change {
         ensures list { result.table ≡ self.writer.table }
     {
         let mut change = self;
-        let last = change_step(&change.task, &change.name);
-        for made in 0..last {
-            change.advance(list);
-        }
+        change.store_all(list);
+        change.advance(list);
         change.count(list)
+    }
+
+    // All steps before the change itself.
+    fn store_all(&mut self, list: &ImageList)
+        requires table { self.old.writer.table ≡ list.now }
+        requires begun { self.old.made ≡ 0 }
+        ensures come { HasCome self.old self.new }
+        ensures last { suc self.new.made ≡ change_step self.old.doing }
+    {
+        let made = store_words(
+            &mut self.books,
+            &list.nodes,
+            self.task,
+            &self.name,
+            self.load,
+        );
+        self.made = made;
     }
 
     // The last step, which counts the change.

@@ -24,8 +24,8 @@ pub struct Pass {
 
 impl Model for Pass {
     ghost use Rattle.std.specs.Prelude.{◌≤◌, vec_capacity, vec_len};
-    ghost use Rattle.plcr_imagelist.specs.Holds.{WalkerState, IsOut};
-    ghost use Rattle.plcr_imagelist.specs.inner.Holding.{walker_state};
+    ghost use Rattle.plcr_imagelist.specs.Holds.{WalkerState};
+    ghost use Rattle.plcr_imagelist.specs.inner.Holding.{walker_state, IsOut};
 
     ghost Value = { WalkerState };
 

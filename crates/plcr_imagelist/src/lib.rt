@@ -31,7 +31,10 @@ mod writer;
 pub use change::{Change, Progress};
 pub use hold::{Hold, Pass, Window};
 pub use kept_hold::KeptHold;
-pub use laws::{passes_are_numbered, rest_has_lists, seeing_goes_on, visits_are_made};
+pub use laws::{
+    holds_were_entered, passes_are_numbered, passes_made_holds, rest_has_lists, seeing_goes_on,
+    visits_are_made,
+};
 pub use list::{ImageList, OpenError};
 pub use refusals::{LoadRefused, UnloadRefused};
 pub use telling::Note;

@@ -1,7 +1,7 @@
 //! The list that all tokens share.
 ghost use Rattle.std.specs.Prelude.{◌≡◌, IfOk, IfErr, IsErrOf};
 ghost use Rattle.plcr_nodes.specs.Opening.{IsSized, IsOpened};
-ghost use Rattle.plcr_imagelist.specs.Opening.{IsOpenedList};
+ghost use Rattle.plcr_imagelist.specs.Opening.{IsOpenedList, StartsEmpty};
 
 use crate::hold::Pass;
 use crate::writer::Writer;
@@ -54,6 +54,7 @@ impl ImageList {
         passes: u32,
     ) -> Result<(ImageList, Writer, Vec<Pass>), OpenError>
         ensures opened { IfOk result (λ r. IsSized nodes passes × IsOpenedList nodes passes r.0 r.1 r.2.items) }
+        ensures first { IfOk result (λ r. StartsEmpty r.1) }
         ensures bad { ¬ IsSized nodes passes → IsErrOf result (OpenError.BadSize nodes passes) }
         ensures memory { IsSized nodes passes → IfErr result (λ e. e ≡ OpenError.Memory) }
     {
@@ -78,6 +79,7 @@ impl ImageList {
         requires sized { IsSized nodes passes }
         requires opened { IsOpened nodes passes table owner all.items }
         ensures opened { IfOk result (λ r. IsOpenedList nodes passes r.0 r.1 r.2.items) }
+        ensures first { IfOk result (λ r. StartsEmpty r.1) }
         ensures memory { IfErr result (λ e. e ≡ OpenError.Memory) }
     {
         let writer = Writer::open(alloc, owner, nodes, passes)?;

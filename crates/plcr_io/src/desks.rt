@@ -37,7 +37,8 @@ impl<T: Drop> From<AllocFailed<T>> for TakeFault {
     }
 }
 
-/// A place that has files, and where outputs are made under names. What it tells of that is a `Told`.
+/// A place that has files, and where outputs are made under names. What it tells of that is a
+/// `Told`.
 pub trait Desk {
     /// An output that was made and is neither kept nor given up.
     type Out: Sink + Drop;

@@ -7,8 +7,8 @@ ghost use Rattle.plcr_base.specs.Told.{AppendsUpTo};
 use crate::room::Room;
 use crate::{PutFailed, Sink};
 
-/// A sink with the bytes that it hasn't got yet. What was put to both together is what the sink has written and
-/// then what waits.
+/// A sink with the bytes that it hasn't got yet. What was put to both together is what the sink has
+/// written and then what waits.
 #[derive(Drop)]
 pub(crate) struct Gathered<K> {
     pub(crate) sink: K,

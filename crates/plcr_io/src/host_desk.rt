@@ -1,5 +1,5 @@
-//! A desk over the files of the system. It tells nothing of content. Its calls stand on trust in the system; what
-//! is counted is each failure.
+//! A desk over the files of the system. It tells nothing of content. Its calls stand on trust in
+//! the system; what is counted is each failure.
 ghost use Rattle.std.specs.Prelude.{◌≡◌, ◌≢◌, ℕ, ◌<◌, ◌≤◌, [], length, None, IfOk, IsErrOf};
 ghost use Rattle.plcr_io.specs.declared.desks.TakeFault.TheVariants.{TooLong};
 
@@ -19,8 +19,9 @@ const LONGEST_PATH: usize = 4096;
 
 /// An output of a `HostDesk`, which is written under its name with `.part` behind it.
 ///
-/// What is put to it waits in room of its own until a piece doesn't fit, or until it is kept. So an `Ok` of a put
-/// says that the bytes were taken, and a system that has no place for them may show it only as the output is kept.
+/// What is put to it waits in room of its own until a piece doesn't fit, or until it is kept. So an
+/// `Ok` of a put says that the bytes were taken, and a system that has no place for them may show
+/// it only as the output is kept.
 #[derive(Drop)]
 pub struct HostFile<F> {
     out: Gathered<HostOut<F>>,
@@ -96,8 +97,8 @@ fn read_fault(error: io::Error) -> TakeFault
     }
 }
 
-/// The whole bytes of a file, whose room is reserved by the size that the system tells. One byte past the limit
-/// is read at most.
+/// The whole bytes of a file, whose room is reserved by the size that the system tells. One byte
+/// past the limit is read at most.
 fn read_whole<R: Files>(
     files: &R,
     alloc: Global,
@@ -239,7 +240,8 @@ mod tests {
         }
     }
 
-    // A full disk: files are made there, renamed and removed, and take no byte. It counts what is renamed and removed.
+    // A full disk: files are made there, renamed and removed, and take no byte. It counts what is
+    // renamed and removed.
     #[derive(Drop)]
     struct FullDisk<'a> {
         renamed: &'a Cell<u32>,

@@ -1,4 +1,5 @@
-//! A sink over a file of the system, standard output or another writer. It tells nothing of what it has written.
+//! A sink over a file of the system, standard output or another writer. It tells nothing of what it
+//! has written.
 ghost use Rattle.std.specs.Prelude.{◌≡◌, ◌<◌, ◌≤◌, [], length, None, IfOk};
 ghost use Rattle.plcr_io.specs.Counting.{count_after};
 ghost use Rattle.plcr_io.specs.inner.Tries.{Tries};

@@ -1,5 +1,6 @@
-//! Where bytes go and come from: sinks, which take bytes piece by piece, and desks, from which whole files are
-//! taken and on which named outputs are made, kept or given up; and lines of text on their way to a sink.
+//! Where bytes go and come from: sinks, which take bytes piece by piece, and desks, from which
+//! whole files are taken and on which named outputs are made, kept or given up; and lines of text
+//! on their way to a sink.
 #![tactic(auto)]
 
 mod calls;
@@ -19,7 +20,7 @@ mod sinks;
 pub use desks::{Desk, MakeFailed, TakeFault};
 pub use host_desk::{HostDesk, HostFile};
 pub use host_out::HostOut;
-pub use limits::FILE_NAME_BYTES;
+pub use limits::{DECIMAL_DIGITS, FILE_NAME_BYTES};
 pub use lines::{add_bytes, add_decimal, put_parts};
 pub use mem_desk::MemDesk;
 pub use mem_files::MemFile;

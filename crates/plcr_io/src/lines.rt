@@ -4,6 +4,7 @@ ghost use Rattle.std.specs.Io.KnownBytes.{append_known};
 ghost use Rattle.plcr_base.specs.Causes.{Rose};
 ghost use Rattle.plcr_base.specs.Told.{AppendsProperFront};
 ghost use Rattle.arrayvec.specs.ArrayVec.{array_vec_len};
+ghost use Rattle.plcr_io.specs.declared.limits.TheConstants.{DECIMAL_DIGITS};
 ghost use Rattle.plcr_io.specs.declared.lines.TheConstants.{LINE_ROOM};
 
 use crate::{PutFailed, Sink, put_all};
@@ -25,18 +26,18 @@ pub fn add_bytes<const N: usize>(line: &mut ArrayVec<u8, N>, bytes: &[u8])
     }
 }
 
-/// Adds a decimal number, of at most 20 digits, to a line that has room for 20 bytes.
+/// Adds a decimal number to a line that has room for [`DECIMAL_DIGITS`](crate::DECIMAL_DIGITS).
 pub fn add_decimal<const N: usize>(line: &mut ArrayVec<u8, N>, number: u64)
-    requires { array_vec_len line.old + 20 ≤ N }
+    requires { array_vec_len line.old + DECIMAL_DIGITS ≤ N }
     ensures items { line.new.items ≡ line.old.items ++ decimal number }
-    ensures len { array_vec_len line.new ≤ array_vec_len line.old + 20 }
+    ensures len { array_vec_len line.new ≤ array_vec_len line.old + DECIMAL_DIGITS }
 {
     let mut buffer = Buffer::new();
     add_bytes(line, buffer.format(number).as_bytes());
 }
 
-/// Writes a line in three parts, by one put where it is no longer than the room for it. At `Err` a front of the
-/// whole was written, and not all.
+/// Writes a line in three parts, by one put where it is no longer than the room for it. At `Err` a
+/// front of the whole was written, and not all.
 pub fn put_parts<K: Sink>(
     sink: &mut K,
     head: &[u8],

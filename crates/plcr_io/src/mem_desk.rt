@@ -32,8 +32,8 @@ pub struct MemDesk {
 impl MemDesk {
     ghost use Rattle.plcr_io.specs.MemDesk.{contents, file_now};
 
-    /// A desk with these files, which hands out these outputs in order. Of several files with one name the first
-    /// counts. The takes, makes and keeps whose numbers stand in `failing` fail.
+    /// A desk with these files, which hands out these outputs in order. Of several files with one
+    /// name the first counts. The takes, makes and keeps whose numbers stand in `failing` fail.
     pub fn new(
         alloc: Global,
         files: Vec<MemFile>,

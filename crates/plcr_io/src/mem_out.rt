@@ -31,8 +31,8 @@ impl Model for MemOut {
 }
 
 impl MemOut {
-    /// An output that takes at most `room` bytes in all and `most` in one put. The puts whose numbers, from 1,
-    /// stand in `failing` fail, and so does each put when the room is full.
+    /// An output that takes at most `room` bytes in all and `most` in one put. The puts whose
+    /// numbers, from 1, stand in `failing` fail, and so does each put when the room is full.
     pub fn new(
         alloc: Global,
         room: usize,

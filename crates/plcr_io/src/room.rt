@@ -4,7 +4,8 @@ ghost use Rattle.plcr_io.specs.declared.room.TheConstants.{ROOM};
 
 use std::marker::Model;
 
-/// The room has so many bytes: enough for few writes, and little where many outputs are open at once.
+/// The room has so many bytes: enough for few writes, and little where many outputs are open at
+/// once.
 pub(crate) const ROOM: usize = 4096;
 
 /// Bytes that wait, in the order in which they came.
@@ -53,7 +54,8 @@ impl Room {
         &self.bytes[self.start..self.end]
     }
 
-    /// Lets a piece wait behind the others. False where there is no room for it, and nothing changes then.
+    /// Lets a piece wait behind the others. False where there is no room for it, and nothing
+    /// changes then.
     pub(crate) fn hold(&mut self, piece: &[u8]) -> bool
         ensures held { IsTrue result → self.new ≡ self.old ++ piece.now }
         ensures full { IsFalse result → self.new ≡ self.old }

@@ -31,8 +31,8 @@ pub trait Sink {
     /// Plain data of the sink's own choice, which no put changes.
     ghost mark: { Self → List ℕ };
 
-    /// Writes a front of a piece that isn't empty: its first byte at least. At `Ok(n)` that were the first `n`
-    /// bytes, at `Err` none.
+    /// Writes a front of a piece that isn't empty: its first byte at least. At `Ok(n)` that were
+    /// the first `n` bytes, at `Err` none.
     fn put(&mut self, piece: &[u8]) -> Result<usize, PutFailed>
         requires { 0 < length piece.now }
         ensures some { IfOk result (λ n. 0 < n) }

@@ -159,7 +159,8 @@ fn files_of_the_system(rt: HostRuntime) -> Result<(), Fail> {
     Ok(())
 }
 
-// Pieces of 256 bytes, sixteen of which fit in the room, on their way to an output whose second put fails.
+// Pieces of 256 bytes, sixteen of which fit in the room, on their way to an output whose second put
+// fails.
 #[test]
 fn pieces_are_gathered(rt: HostRuntime) -> Result<(), Fail> {
     let alloc = rt.alloc();
@@ -179,8 +180,8 @@ fn pieces_are_gathered(rt: HostRuntime) -> Result<(), Fail> {
         assert_eq!(rt; gathered.sink.bytes(), sixteen.as_slice());
         whole.extend_from_slice(&piece)?;
     }
-    // The next is refused with the second put. What waits is passed on at the next try, and a piece that is
-    // greater than the room goes straight on.
+    // The next is refused with the second put. What waits is passed on at the next try, and a piece
+    // that is greater than the room goes straight on.
     assert_eq!(rt; gathered.put(b"lost"), Err(PutFailed));
     assert_eq!(rt; gathered.sink.bytes(), sixteen.as_slice());
     let great = [b'z'; 5000];

@@ -5,7 +5,7 @@ use Rattle.std.proofs.lemmas.Int.{ints}
 use Rattle.std.proofs.lemmas.Bool.{cases_lt}
 use Rattle.std.proofs.lemmas.Bool.Decides.{nat_tests}
 use Rattle.plcr_base.specs.Chains.{◌>>=◌, result_map}
-use Rattle.plcr_base.proofs.Chained.{bind_ok, bind_err, ok_or_ok}
+use Rattle.plcr_base.proofs.Chained.{bind_ok, bind_err, map_ok, map_err, ok_or_ok}
 use Rattle.plcr_leb128.specs.declared.fault.Leb128Fault.{Leb128Fault}
 use Rattle.plcr_leb128.specs.declared.fault.Leb128Fault.TheVariants.{Absent, Long}
 use Rattle.plcr_leb128.specs.declared.leb128.Number.{Number}
@@ -112,14 +112,6 @@ signed_encoding cells are place (byte ∷ []) one stand =
 signed_encoding cells are place (byte ∷ next ∷ bytes) one stand =
     let low : byte < 256 = are place byte stand.0 in
     (one.0, low, (signed_value (next ∷ bytes), omega (arith, ints, low, one.0), signed_encoding cells are (place + 1) (next ∷ bytes) one.1 stand.1))
-
-map_ok : {A B E : Type 0} (f : A → B) (r : Result A E) (y : B) → result_map f r ≡ Ok y → (x : A) × (r ≡ Ok x) × (f x ≡ y)
-map_ok f (Ok x) y h = (x, refl, cc)
-map_ok f (Err e) y h = cc
-
-map_err : {A B E : Type 0} (f : A → B) (r : Result A E) (e : E) → result_map f r ≡ Err e → r ≡ Err e
-map_err f (Ok x) e h = cc
-map_err f (Err d) e h = cc
 
 pub unsigned_has : (cells : Bytes) → AreBytes cells → (place : ℕ) (number : Number) → unsigned_at cells place ≡ Ok number → HasUnsigned cells place number
 unfolding leb128_bytes

@@ -1,16 +1,15 @@
 -- A load command that was found to lie before the end of the list, with all its bytes there.
-use Rattle.std.proofs.Common.{◌≡◌, ℕ, ◌+◌, ◌≤◌, false, nat_lt, ◌||◌, List, Some, Result, Ok, refl, subst, arith}
+use Rattle.std.proofs.Common.{◌≡◌, ℕ, ◌+◌, ◌≤◌, false, nat_lt, ◌||◌, List, Some, Result, Ok, refl, sym, subst, arith}
 use Rattle.std.specs.Prelude.{ok_or}
 use Rattle.std.proofs.lemmas.Bool.Decides.{nat_tests}
 use Rattle.plcr_base.specs.Chains.{◌>>=◌, result_map}
-use Rattle.plcr_base.proofs.Chained.{bind_ok, if_ok, ok_or_ok}
+use Rattle.plcr_base.proofs.Chained.{bind_ok, if_ok, map_ok, ok_or_ok}
 use Rattle.plcr_loader.specs.declared.load_command.LoadCommand.{LoadCommand}
 use Rattle.plcr_loader.specs.declared.load_command.TheConstants.{LENGTH, CMD, CMDSIZE}
 use Rattle.plcr_loader.specs.declared.trouble.Trouble.{Trouble}
 use Rattle.plcr_loader.specs.declared.trouble.Trouble.TheVariants.{Bad, Absent}
 use Rattle.plcr_loader.specs.Fields.{number}
 use Rattle.plcr_loader.specs.Commands.{Bytes, Command, load_command_of, whole_at, framed_at}
-use Rattle.plcr_loader.proofs.Results.{map_ok}
 
 -- what is known of a framed command: its front, and all its bytes
 pub record IsFramed (source : Bytes) (end at : ℕ) (c : Command) : Type 0 where
@@ -53,8 +52,8 @@ framed_ok source end index at c h =
 pub framed_by : (source : Bytes) (end index at : ℕ) (said : LoadCommand) → Ok said ≡ result_map load_command_of (framed_at source end index at)
     → (c : Command) × (framed_at source end index at ≡ Ok c) × (said ≡ load_command_of c) × IsFramed source end at c
 framed_by source end index at said h =
-    let framed = map_ok load_command_of (framed_at source end index at) said h in
-    (framed.0, framed.1, framed.2, framed_ok source end index at framed.0 framed.1)
+    let framed = map_ok load_command_of (framed_at source end index at) said (sym h) in
+    (framed.0, framed.1, sym framed.2, framed_ok source end index at framed.0 framed.1)
 
 -- a command by its place and its bytes
 pub command_is : (c : Command) (at : ℕ) (bytes : List ℕ) → c.place ≡ at → c.bytes ≡ bytes → c ≡ record { cmd = c.cmd; cmdsize = c.cmdsize; place = at; bytes = bytes }

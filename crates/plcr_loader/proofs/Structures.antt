@@ -103,6 +103,7 @@ of_uuid_command = record {
 pub of_thread_group : OfThreadGroup
 of_thread_group = record {
   length = refl;
+  word = refl;
   flavor = (refl, refl);
   count = (refl, refl);
 }

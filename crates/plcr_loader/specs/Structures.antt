@@ -104,9 +104,10 @@ pub record OfUuidCommand : Type 0 where
   pub cmdsize : Stands uuid_command.CMDSIZE 4 4
   pub uuid : Stands uuid_command.UUID 8 16
 
--- the front of each group of a struct thread_command (<mach-o/loader.h>)
+-- the front of each group of a struct thread_command (<mach-o/loader.h>), whose count is of uint32_t
 pub record OfThreadGroup : Type 0 where
   pub length : thread_group.LENGTH ≡ 8
+  pub word : thread_group.WORD ≡ 4
   pub flavor : Stands thread_group.FLAVOR 0 4
   pub count : Stands thread_group.COUNT 4 4
 

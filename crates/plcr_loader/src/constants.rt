@@ -27,12 +27,13 @@ pub const SEG_TEXT: [u8; 16] = *b"__TEXT\0\0\0\0\0\0\0\0\0\0";
 
 pub const SEG_LINKEDIT: [u8; 16] = *b"__LINKEDIT\0\0\0\0\0\0";
 
-/// Masks of the field n_type of a symbol (`nlist_64::N_TYPE`): the bits that mark a debugger's entry.
+/// Masks of the field n_type of a symbol (`nlist_64::N_TYPE`): the bits that mark a debugger's
+/// entry.
 pub const N_STAB: u8 = 0xe0;
 
 /// And the bits that hold the symbol's type.
 pub const N_TYPE: u8 = 0x0e;
 
-/// The type, under that mask, of a symbol that is defined in the section that the field n_sect (`nlist_64::N_SECT`)
-/// numbers.
+/// The type, under that mask, of a symbol that is defined in the section that the field n_sect
+/// (`nlist_64::N_SECT`) numbers.
 pub const N_SECT: u8 = 0xe;

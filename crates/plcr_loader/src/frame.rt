@@ -6,8 +6,8 @@ use crate::load_command::{LENGTH, LoadCommand};
 use crate::source::Source;
 use crate::trouble::Trouble;
 
-/// What the load command at place `at` says of itself, which has the index `index` in a list that ends at place `end`,
-/// where the whole command stands before the end and is there.
+/// What the load command at place `at` says of itself, which has the index `index` in a list that
+/// ends at place `end`, where the whole command stands before the end and is there.
 #[tactic(auto, unfolding(crate::specs::Commands::framed_at))]
 pub fn frame_at<S: Source>(
     source: &S,

@@ -1,4 +1,5 @@
-//! The header of a 64-bit Mach-O file (loader.h): its length in bytes, and its fields. Load commands follow it.
+//! The header of a 64-bit Mach-O file (loader.h): its length in bytes, and its fields. Load
+//! commands follow it.
 
 use crate::field::Field;
 

@@ -1,4 +1,5 @@
-//! LC_SEGMENT_64 (loader.h): its length in bytes, and its fields. Its sections follow these within the command.
+//! LC_SEGMENT_64 (loader.h): its length in bytes, and its fields. Its sections follow these within
+//! the command.
 
 use crate::field::Field;
 

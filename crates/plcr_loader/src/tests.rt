@@ -62,16 +62,19 @@ macro_rules! fills {
     };
 }
 
-// The fields stand in the order in which the headers declare them, without a gap, and fill their structure.
+// The fields stand in the order in which the headers declare them, without a gap, and fill their
+// structure.
 #[test]
 fn fields_fill_their_structures(rt: HostRuntime) {
     assert!(rt; fills!(load_command: CMD CMDSIZE));
     assert!(rt; fills!(header: MAGIC CPUTYPE CPUSUBTYPE FILETYPE NCMDS SIZEOFCMDS FLAGS RESERVED));
     assert!(rt;
-        fills!(segment: CMD CMDSIZE SEGNAME VMADDR VMSIZE FILEOFF FILESIZE MAXPROT INITPROT NSECTS FLAGS)
+        fills!(segment: CMD CMDSIZE SEGNAME VMADDR VMSIZE FILEOFF FILESIZE MAXPROT INITPROT
+            NSECTS FLAGS)
     );
     assert!(rt;
-        fills!(section: SECTNAME SEGNAME ADDR SIZE OFFSET ALIGN RELOFF NRELOC FLAGS RESERVED1 RESERVED2 RESERVED3)
+        fills!(section: SECTNAME SEGNAME ADDR SIZE OFFSET ALIGN RELOFF NRELOC FLAGS RESERVED1
+            RESERVED2 RESERVED3)
     );
     assert!(rt; fills!(symtab: CMD CMDSIZE SYMOFF NSYMS STROFF STRSIZE));
     assert!(rt; fills!(uuid: CMD CMDSIZE UUID));

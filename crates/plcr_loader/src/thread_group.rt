@@ -1,5 +1,5 @@
-//! What follows the front of an LC_THREAD or LC_UNIXTHREAD (loader.h): groups, each of these fields and then of as many
-//! 4-byte words as its count says.
+//! What follows the front of an LC_THREAD or LC_UNIXTHREAD (loader.h): groups, each of these fields
+//! and then of as many words as its count says.
 
 use crate::field::Field;
 
@@ -8,3 +8,6 @@ pub const LENGTH: usize = 8;
 pub const FLAVOR: Field = Field { at: 0, size: 4 };
 
 pub const COUNT: Field = Field { at: 4, size: 4 };
+
+/// The bytes of a word.
+pub const WORD: usize = 4;

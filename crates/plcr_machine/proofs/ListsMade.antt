@@ -88,7 +88,7 @@ module _ (nodes passes : ℕ) (names : List (List ℕ)) where
       (λ t. rw (changes_of-length names past, t) (lists_after past j l.1 f.1))
 
 -- the writer's entries tell the list
-live-owner : (h : List Entry) → live (owner_entries h) ≡ live h
+pub live-owner : (h : List Entry) → live (owner_entries h) ≡ live h
 live-owner [] = refl
 live-owner (Announce p seen ∷ past) = live-owner past
 live-owner (Enter p ∷ past) = live-owner past

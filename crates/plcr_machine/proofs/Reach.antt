@@ -96,7 +96,7 @@ module _ (nodes passes : ℕ) where
   legal_kept (Load m i a ∷ past) l = ((λ p. free_beyond p m past l.1 l.0.2), legal_kept past l.1)
 
 -- an unload of a node was at most so many counts ago
-before_most : (n : ℕ) (h : List Entry) → counts_before n h ≤ counts h
+pub before_most : (n : ℕ) (h : List Entry) → counts_before n h ≤ counts h
 before_most n [] = omega arith
 before_most n (Announce q seen ∷ past) = before_most n past
 before_most n (Enter q ∷ past) = before_most n past

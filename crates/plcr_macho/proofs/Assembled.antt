@@ -12,7 +12,7 @@ use Rattle.plcr_loader.specs.declared.trouble.Trouble.{Trouble}
 use Rattle.plcr_loader.specs.Commands.{Command, commands_at, faulted, is_symtab}
 use Rattle.plcr_loader.specs.declared.mach_header_64.TheConstants as mach_header_64
 use Rattle.plcr_loader.specs.Fields.{number, is_named}
-use Rattle.plcr_loader.proofs.Results.{map_ok, map_err}
+use Rattle.plcr_base.proofs.Chained.{map_ok, map_err}
 use Rattle.plcr_regs.specs.declared.arch.Arch.{Arch}
 use Rattle.plcr_macho.specs.declared.sections.TheConstants.{UNWIND_INFO, EH_FRAME}
 use Rattle.plcr_macho.specs.declared.image.Part.{Part}
@@ -83,7 +83,7 @@ pub no_head : (m : Contents) (arch : Arch) (address : ℕ) (fault : ImageFault) 
 unfolding image_at
 no_head m arch address fault h =
     ap (λ (r : Result (List ℕ) ImageFault). r >>= λ (head : List ℕ). commands_in m address head >>= λ (cs : List Command). image_of address head cs)
-    (sym (map_err header_of (head_at m arch address) fault h))
+    (sym (map_err header_of (head_at m arch address) fault (sym h)))
 
 by_head : (m : Contents) (arch : Arch) (address : ℕ) (head : List ℕ) → head_at m arch address ≡ Ok head
     → image_at m arch address ≡ (faulted (fault_of (plus address mach_header_64.LENGTH)) (read m address (header_of head)) >>= λ cs. image_of address head cs)
@@ -96,17 +96,17 @@ by_head m arch address head h =
 pub no_commands : (m : Contents) (arch : Arch) (address : ℕ) (header : Header) (trouble : Trouble) → Ok header ≡ result_map header_of (head_at m arch address)
     → Err trouble ≡ result_map kept_of (read m address header) → Err (fault_of (plus address mach_header_64.LENGTH) trouble) ≡ image_at m arch address
 no_commands m arch address header trouble h t =
-    let p = map_ok header_of (head_at m arch address) header h in
-    let e : read m address (header_of p.0) ≡ Err trouble = ap (read m address) (sym p.2) ∙ map_err kept_of (read m address header) trouble t in
+    let p = map_ok header_of (head_at m arch address) header (sym h) in
+    let e : read m address (header_of p.0) ≡ Err trouble = ap (read m address) p.2 ∙ map_err kept_of (read m address header) trouble (sym t) in
     sym (by_head m arch address p.0 p.1 ∙ ap (λ (r : Result (List Command) Trouble). faulted (fault_of (plus address mach_header_64.LENGTH)) r >>= λ (cs : List Command). image_of address p.0 cs) e)
 
 -- commands that were read
 pub with_commands : (m : Contents) (arch : Arch) (address : ℕ) (header : Header) (kept : Kept) → Ok header ≡ result_map header_of (head_at m arch address)
     → Ok kept ≡ result_map kept_of (read m address header) → image_from address header kept ≡ image_at m arch address
 with_commands m arch address header kept h k =
-    let p = map_ok header_of (head_at m arch address) header h in
-    let q = map_ok kept_of (read m address header) kept k in
-    let e : read m address (header_of p.0) ≡ Ok q.0 = ap (read m address) (sym p.2) ∙ q.1 in
+    let p = map_ok header_of (head_at m arch address) header (sym h) in
+    let q = map_ok kept_of (read m address header) kept (sym k) in
+    let e : read m address (header_of p.0) ≡ Ok q.0 = ap (read m address) p.2 ∙ q.1 in
     let image : image_at m arch address ≡ image_of address p.0 q.0 =
     by_head m arch address p.0 p.1 ∙ ap (λ (r : Result (List Command) Trouble). faulted (fault_of (plus address mach_header_64.LENGTH)) r >>= λ (cs : List Command). image_of address p.0 cs) e in
-    ap (λ (x : Header). image_from address x kept) p.2 ∙ ap (image_from address (header_of p.0)) q.2 ∙ sym (image ∙ image_is address p.0 q.0)
+    ap (λ (x : Header). image_from address x kept) (sym p.2) ∙ ap (image_from address (header_of p.0)) (sym q.2) ∙ sym (image ∙ image_is address p.0 q.0)

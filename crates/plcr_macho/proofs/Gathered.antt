@@ -3,7 +3,7 @@ use Rattle.std.proofs.Common.{◌≡◌, ◌≤◌, ◌<◌, ℕ, suc, ◌+◌, 
 use Rattle.plcr_base.specs.Chains.{◌>>=◌, result_map}
 use Rattle.plcr_loader.specs.declared.trouble.Trouble.{Trouble}
 use Rattle.plcr_loader.specs.Commands.{Bytes, Command, command_at, commands_at}
-use Rattle.plcr_loader.proofs.Results.{map_ok, map_err}
+use Rattle.plcr_base.proofs.Chained.{map_ok, map_err}
 use Rattle.plcr_macho.specs.declared.kept.Kept.{Kept}
 use Rattle.plcr_macho.specs.declared.gain.Gain.{Gain}
 use Rattle.plcr_macho.specs.Loading.{image_trouble}
@@ -50,13 +50,13 @@ pub moves : (source : Bytes) (end count index at : ℕ) (old : Kept) (gain : Gai
     → Ok gain ≡ result_map (gain_with old) (command_at source image_trouble end index at)
     → SoFar source end count (index + 1) (at + gain.size) gain.kept
 moves source end count index at old gain h more found =
-    let read = map_ok (gain_with old) (command_at source image_trouble end index at) gain found in
+    let read = map_ok (gain_with old) (command_at source image_trouble end index at) gain (sym found) in
     let c = read.0 in
     let left = count - (index + 1) in
     let step = λ (r : Result Command Trouble). behind old (r >>= λ (d : Command). rest source end left (index + 1) (at + d.cmdsize) >>= λ (cs : List Command). let q : Result (List Command) Trouble = Ok (d ∷ cs) in q) in
     let whole : step (Ok c) ≡ result_map kept_of (rest source end count 0 0) = ap step (sym read.1) ∙ here_on source end count index at old h more in
-    let kept : gain.kept ≡ first_kept old (kept_of (c ∷ [])) = ap (λ (g : Gain). g.kept) read.2 in
-    let size : gain.size ≡ c.cmdsize = ap (λ (g : Gain). g.size) read.2 in
+    let kept : gain.kept ≡ first_kept old (kept_of (c ∷ [])) = ap (λ (g : Gain). g.kept) (sym read.2) in
+    let size : gain.size ≡ c.cmdsize = ap (λ (g : Gain). g.size) (sym read.2) in
     ap (λ (k : Kept). behind k (rest source end left (index + 1) (at + gain.size))) kept
     ∙ ap (λ (n : ℕ). behind (first_kept old (kept_of (c ∷ []))) (rest source end left (index + 1) (at + n))) size
     ∙ one_more old c (rest source end left (index + 1) (at + c.cmdsize)) ∙ whole
@@ -69,7 +69,7 @@ pub breaks : (source : Bytes) (end count index at : ℕ) (old : Kept) (trouble :
 breaks source end count index at old trouble h more found =
     let left = count - (index + 1) in
     let step = λ (r : Result Command Trouble). behind old (r >>= λ (d : Command). rest source end left (index + 1) (at + d.cmdsize) >>= λ (cs : List Command). let q : Result (List Command) Trouble = Ok (d ∷ cs) in q) in
-    ap step (sym (map_err (gain_with old) (command_at source image_trouble end index at) trouble found)) ∙ here_on source end count index at old h more
+    ap step (sym (map_err (gain_with old) (command_at source image_trouble end index at) trouble (sym found))) ∙ here_on source end count index at old h more
 
 -- behind the last command all is kept
 pub ends : (source : Bytes) (end count index at : ℕ) (kept : Kept) → SoFar source end count index at kept → count ≤ index → Ok kept ≡ result_map kept_of (rest source end count 0 0)

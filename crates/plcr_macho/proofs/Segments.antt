@@ -2,7 +2,7 @@
 use Rattle.std.proofs.Common.{◌≡◌, ◌≤◌, ◌<◌, ℕ, ◌+◌, ◌*◌, lit≤, Bool, true, false, cond, nat_lt, List, take, drop, Option, Some, None, Result, Ok, Err, refl, sym, ap, subst, ◌∙◌, arith}
 use Rattle.std.specs.Prelude.{◌≢◌, ◌==◌, ◌&&◌, not, is_some}
 use Rattle.std.specs.Option.{option_map}
-use Rattle.std.proofs.lemmas.Bool.Decides.{nat_tests}
+use Rattle.std.proofs.lemmas.Bool.{lt-ltb, le-ltb}
 use Rattle.plcr_base.proofs.Plain.{not_equal}
 use Rattle.plcr_base.specs.Chains.{◌>>=◌, passed, result_map}
 use Rattle.plcr_loader.specs.declared.constants.TheConstants.{LC_SEGMENT_64, LC_SYMTAB, LC_UUID, SEG_LINKEDIT, SEG_TEXT}
@@ -27,12 +27,6 @@ use Rattle.plcr_macho.specs.Loading.{image_trouble, sections_in}
 use Rattle.plcr_macho.specs.inner.Keeping.{first_kept, gain_with, kept_in, kept_of, nothing, parts_in, segment_in, tables_in, text_of}
 use Rattle.plcr_macho.proofs.FirstKept.{gives, fails, segment_later}
 use Rattle.plcr_macho.proofs.Fronts.{sections_are, segment_front}
-
-fits : (size n : ℕ) → n ≤ size → nat_lt size n ≡ false
-fits size n h = grind (arith, nat_tests)
-
-short : (size n : ℕ) → size < n → nat_lt size n ≡ true
-short size n h = grind (arith, nat_tests)
 
 -- what is kept of `__TEXT`
 pub text_is : (s : Segment) (p : Parts) (c : Command) → s ≡ segment_in c.bytes → p ≡ parts_in (sections_in s.sections (drop segment_command_64.LENGTH c.bytes)) → record { segment = s; parts = p } ≡ text_of c
@@ -64,7 +58,7 @@ segment_bad_two index size place bytes h = rw h refl
 pub segment_bad : (index : ℕ) (c : Command) → c.cmd ≡ LC_SEGMENT_64 → c.cmdsize < segment_command_64.LENGTH + section_64.LENGTH * number NSECTS c.bytes → Err (Bad index) ≡ kept_in index c
 segment_bad index c kind less =
     subst (λ (k : ℕ). Err (Bad index) ≡ kept_in index (record { cmd = k; cmdsize = c.cmdsize; place = c.place; bytes = c.bytes })) (sym kind)
-    (sym (segment_bad_two index c.cmdsize c.place c.bytes (short c.cmdsize (segment_command_64.LENGTH + section_64.LENGTH * number NSECTS c.bytes) less)))
+    (sym (segment_bad_two index c.cmdsize c.place c.bytes (lt-ltb c.cmdsize (segment_command_64.LENGTH + section_64.LENGTH * number NSECTS c.bytes) less)))
 
 -- a segment with its sections
 pub segment_kept_is : (index : ℕ) (c : Command) (front : List ℕ) (s : Segment) (text : Option Text) (linkedit : Option Segment)
@@ -87,7 +81,7 @@ segment_kept_is index c front s text linkedit kind is_front is_segment long is_t
     ∙ sym (map_cond (λ (c : Command). segment_in c.bytes) (is_named SEGNAME SEG_LINKEDIT c.bytes) d) in
     ap (λ (o : Option Text). let r : Result Kept Trouble = Ok (record { text = o; linkedit = linkedit; symtab = None; uuid = None }) in r) t
     ∙ ap (λ (o : Option Segment). let r : Result Kept Trouble = Ok (record { text = option_map text_of (cond (is_named SEGNAME SEG_TEXT c.bytes) (Some d) None); linkedit = o; symtab = None; uuid = None }) in r) l
-    ∙ sym (segment_two index c.cmdsize c.place c.bytes (fits c.cmdsize (segment_command_64.LENGTH + section_64.LENGTH * number NSECTS c.bytes) most))
+    ∙ sym (segment_two index c.cmdsize c.place c.bytes (le-ltb c.cmdsize (segment_command_64.LENGTH + section_64.LENGTH * number NSECTS c.bytes) most))
     ∙ ap (kept_in index) (sym same)
 
 -- the same behind what was kept
@@ -116,7 +110,7 @@ pub symtab_kept_is : (index : ℕ) (c : Command) (t : Tables) → c.cmd ≡ LC_S
 symtab_kept_is index c t kind long is =
     subst (λ (k : ℕ). Ok (record { text = None; linkedit = None; symtab = Some t; uuid = None }) ≡ kept_in index (record { cmd = k; cmdsize = c.cmdsize; place = c.place; bytes = c.bytes })) (sym kind)
     (ap (λ (t : Tables). let r : Result Kept Trouble = Ok (record { text = None; linkedit = None; symtab = Some t; uuid = None }) in r) is
-    ∙ sym (symtab_two index c.cmdsize c.place c.bytes (fits c.cmdsize symtab_command.LENGTH long)))
+    ∙ sym (symtab_two index c.cmdsize c.place c.bytes (le-ltb c.cmdsize symtab_command.LENGTH long)))
 
 uuid_two : (index size place : ℕ) (bytes : List ℕ) → nat_lt size uuid_command.LENGTH ≡ false
     → kept_in index (record { cmd = LC_UUID; cmdsize = size; place = place; bytes = bytes }) ≡ Ok (record { text = None; linkedit = None; symtab = None; uuid = Some (bytes_of UUID bytes) })
@@ -128,7 +122,7 @@ pub uuid_kept_is : (index : ℕ) (c : Command) (u : List ℕ) → c.cmd ≡ LC_U
 uuid_kept_is index c u kind long is =
     subst (λ (k : ℕ). Ok (record { text = None; linkedit = None; symtab = None; uuid = Some u }) ≡ kept_in index (record { cmd = k; cmdsize = c.cmdsize; place = c.place; bytes = c.bytes })) (sym kind)
     (ap (λ (u : List ℕ). let r : Result Kept Trouble = Ok (record { text = None; linkedit = None; symtab = None; uuid = Some u }) in r) is
-    ∙ sym (uuid_two index c.cmdsize c.place c.bytes (fits c.cmdsize uuid_command.LENGTH long)))
+    ∙ sym (uuid_two index c.cmdsize c.place c.bytes (le-ltb c.cmdsize uuid_command.LENGTH long)))
 
 -- what a command gives that stands there
 pub gain_is : (source : Bytes) (end index at : ℕ) (before : Kept) (c : Command) (k : Kept) → Ok c ≡ framed_at source end index at → Ok k ≡ result_map (first_kept before) (kept_in index c)
@@ -152,4 +146,4 @@ other_two index c p q r s = rw (p, q, r, s) refl
 pub other_kept_is : (index : ℕ) (c : Command) (k : Kept) → k ≡ nothing → c.cmd ≢ LC_SEGMENT_64 → c.cmd ≢ LC_SYMTAB → c.cmd ≢ LC_UUID → load_command.LENGTH ≤ c.cmdsize → Ok k ≡ kept_in index c
 other_kept_is index c k none p q r least =
     ap (λ (k : Kept). let x : Result Kept Trouble = Ok k in x) none
-    ∙ sym (other_two index c (not_equal c.cmd LC_SEGMENT_64 p) (not_equal c.cmd LC_SYMTAB q) (not_equal c.cmd LC_UUID r) (fits c.cmdsize load_command.LENGTH least))
+    ∙ sym (other_two index c (not_equal c.cmd LC_SEGMENT_64 p) (not_equal c.cmd LC_SYMTAB q) (not_equal c.cmd LC_UUID r) (le-ltb c.cmdsize load_command.LENGTH least))

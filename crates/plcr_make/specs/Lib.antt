@@ -4,4 +4,5 @@ pub mod Images
 pub mod Stacks
 pub mod Cores
 pub mod Scripts
+pub mod MadeScripts
 pub mod Summary

@@ -5,6 +5,7 @@
 mod constants;
 mod cores;
 mod images;
+mod laws;
 mod numbers;
 mod script;
 mod segments;
@@ -15,5 +16,6 @@ mod tests;
 
 pub use constants::{MADE_REPORT, MOST_IMAGES, THREADS};
 pub use cores::core_bytes;
+pub use laws::made_scripts_are_read;
 pub use script::script_bytes;
 pub use summary::write_summary;

@@ -65,7 +65,8 @@ fn are_apart(regions: &[Region], order: &[Placed], count: usize) -> bool
     true
 }
 
-// The first region that shares an address with an earlier one, by halves over the length of the front.
+// The first region that shares an address with an earlier one, by halves over the length of the
+// front.
 #[tactic(auto, using(crate::proofs::Halves::halves_start, crate::proofs::Halves::halves_end))]
 fn second_of_overlap(regions: &[Region], order: &[Placed]) -> usize
     requires sized { All (λ r. 1 ≤ r.size) regions.now }

@@ -6,10 +6,11 @@ use std::alloc::{AllocError, AllocFailed};
 /// Why a list of regions is no memory. Indices count the regions from 0, in the order given.
 #[derive(Clone, Copy, Debug, PartialEq, Eq)]
 pub enum MemoryFault {
-    /// `second` is the least index of a region that shares an address with an earlier one, and `first` the least index
-    /// of such an earlier one.
+    /// `second` is the least index of a region that shares an address with an earlier one, and
+    /// `first` the least index of such an earlier one.
     Overlap { first: usize, second: usize },
-    /// The least index of a region that passes the last 64-bit address. It is told before an overlap.
+    /// The least index of a region that passes the last 64-bit address. It is told before an
+    /// overlap.
     Wraps { index: usize },
     /// Memory ran out.
     Memory,

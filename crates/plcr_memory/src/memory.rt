@@ -14,7 +14,8 @@ use byteorder::{ByteOrder, LittleEndian};
 use std::alloc::Global;
 use std::marker::Model;
 
-/// The memory of a stopped process. Contracts see the file's bytes and the regions, as they were given.
+/// The memory of a stopped process. Contracts see the file's bytes and the regions, as they were
+/// given.
 #[derive(Drop)]
 pub struct Memory {
     file: Vec<u8>,
@@ -34,8 +35,8 @@ impl Model for Memory {
 }
 
 impl Memory {
-    /// The memory of the regions over the file's bytes. The first region that wraps is refused, then the first that
-    /// shares an address with an earlier one.
+    /// The memory of the regions over the file's bytes. The first region that wraps is refused,
+    /// then the first that shares an address with an earlier one.
     pub fn new(alloc: Global, bytes: Vec<u8>, regions: Vec<Region>) -> Result<Memory, MemoryFault>
         requires { All (IsBacked bytes.items) regions.items }
         ensures ok { IfOk result (λ m. m ≡ record { file = bytes.items; regions = regions.items }) }
@@ -75,7 +76,8 @@ impl Memory {
         }
     }
 
-    /// Whether each byte of a range is mapped. An empty range is. A mapped range ends within the addresses of 64 bits.
+    /// Whether each byte of a range is mapped. An empty range is. A mapped range ends within the
+    /// addresses of 64 bits.
     #[tactic(auto, using(crate::proofs::Ranges::all_mapped, crate::proofs::Ranges::one_missing, crate::proofs::Ranges::mapped_run))]
     pub fn is_mapped(&self, at: u64, size: u64) -> bool
         ensures mapped { result ≡ is_some (bytes_at self.now at size) }
@@ -95,8 +97,9 @@ impl Memory {
         true
     }
 
-    /// How many bytes from an address on are zero since the file has none of them: the rest of the region that covers
-    /// the address, where its bytes of the file end before it. Where there is none, 0. One region is looked at.
+    /// How many bytes from an address on are zero since the file has none of them: the rest of the
+    /// region that covers the address, where its bytes of the file end before it. Where there is
+    /// none, 0. One region is looked at.
     pub fn zeros_from(&self, at: u64) -> u64
         ensures size { result ≡ zeros_at self.now at }
         ensures zeros { (k : ℕ) → k < result → byte_at self.now (at + k) ≡ Some 0 }
@@ -112,8 +115,9 @@ impl Memory {
         }
     }
 
-    /// Copies the bytes of a range, where each of them is mapped, and else leaves `into` as it was. A range within one
-    /// region takes one search; any other is gone through twice, with a search for each of its regions.
+    /// Copies the bytes of a range, where each of them is mapped, and else leaves `into` as it was.
+    /// A range within one region takes one search; any other is gone through twice, with a search
+    /// for each of its regions.
     pub fn copy(&self, at: u64, into: &mut [u8]) -> bool
         ensures mapped { result ≡ is_some (bytes_at self.now at (length into.old)) }
         ensures within { OnTrue result (at + length into.old ≤ 2 ^ 64) }
@@ -130,9 +134,10 @@ impl Memory {
         self.copy_across(at, into)
     }
 
-    /// The bytes of a range where they stand in the file, one after the other, as bytes of one region. None says
-    /// nothing of whether the range is mapped: it may have zeros behind a region's bytes of the file, or go on in
-    /// another region. A caller then reads number by number. One region is looked at.
+    /// The bytes of a range where they stand in the file, one after the other, as bytes of one
+    /// region. None says nothing of whether the range is mapped: it may have zeros behind a
+    /// region's bytes of the file, or go on in another region. A caller then reads number by
+    /// number. One region is looked at.
     pub fn stored(&self, at: u64, size: u64) -> Option<&[u8]>
         ensures bytes { IfSome result (λ piece. bytes_at self.now at size ≡ Some piece.now) }
         ensures within { OnSome result (at + size ≤ 2 ^ 64) }

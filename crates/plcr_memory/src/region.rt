@@ -1,8 +1,9 @@
 ghost use Rattle.std.specs.Prelude.{◌↔◌, IsTrue, All};
 ghost use Rattle.plcr_memory.specs.Regions.{IsBacked};
 
-/// A range of addresses, from `start` to `start + size - 1`. Its first `len` bytes are those from place `from` of the
-/// file, as of a segment with `vmaddr`, `vmsize`, `fileoff` and `filesize` (loader.h), and the rest are zero.
+/// A range of addresses, from `start` to `start + size - 1`. Its first `len` bytes are those from
+/// place `from` of the file, as of a segment with `vmaddr`, `vmsize`, `fileoff` and `filesize`
+/// (loader.h), and the rest are zero.
 #[derive(Clone, Copy, Debug, PartialEq, Eq)]
 pub struct Region {
     pub start: u64,
@@ -21,8 +22,8 @@ impl Region {
     }
 }
 
-/// Whether a memory can be made of the regions over the file: the bytes of each stand in the file and within the region,
-/// and none is empty.
+/// Whether a memory can be made of the regions over the file: the bytes of each stand in the file
+/// and within the region, and none is empty.
 pub fn are_backed(file: &[u8], regions: &[Region]) -> bool
     ensures { IsTrue result ↔ All (IsBacked file.now) regions.now }
 {

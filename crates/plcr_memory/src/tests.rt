@@ -123,7 +123,8 @@ fn stored_bytes_are_one_slice(rt: HostRuntime) -> Result<(), Fail> {
     assert!(rt; is_slice(&memory, 0x1002, &[3, 4, 5]));
     assert!(rt; is_slice(&memory, 0x1000, &[1, 2, 3, 4, 5, 6, 7, 8]));
     assert!(rt; is_slice(&memory, 0x1010, &[255; 16]));
-    // Zeros behind the file's bytes, alone and behind the last of them, more than there are, and addresses of no region.
+    // Zeros behind the file's bytes, alone and behind the last of them, more than there are, and
+    // addresses of no region.
     let unstored = [
         (0x1009, 1),
         (0x1007, 2),
@@ -165,7 +166,8 @@ fn bytes_of_two_regions_are_read_as_a_number(rt: HostRuntime) -> Result<(), Fail
 fn refusals(rt: HostRuntime) {
     let wrapping = [zeros(0xffff_ffff_ffff_fff0, 32)];
     let last = [zeros(0xffff_ffff_ffff_fff0, 16)];
-    // The fourth is the first that shares an address with an earlier one, and the second is the first such.
+    // The fourth is the first that shares an address with an earlier one, and the second is the
+    // first such.
     let clashing = [
         zeros(0x5000, 16),
         zeros(0x3000, 0x100),

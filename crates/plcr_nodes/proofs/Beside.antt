@@ -13,8 +13,8 @@ use Rattle.plcr_machine.proofs.Cases.{not_both}
 use Rattle.plcr_machine.proofs.Leads.{link_same}
 use Rattle.plcr_nodes.specs.declared.words.TheConstants.{GATE, HEAD, NODE_WORDS}
 use Rattle.plcr_nodes.specs.Names.{words_of, payload_word}
-use Rattle.plcr_nodes.specs.Words.{base, stamp_place, table_words}
-use Rattle.plcr_nodes.specs.Rule.{IsHeld, Truth, ShowsBeside, Stands}
+use Rattle.plcr_nodes.specs.inner.Words.{base, stamp_place, table_words}
+use Rattle.plcr_nodes.specs.inner.Rule.{IsHeld, Truth, ShowsBeside, Stands}
 
 -- a word that no node has: the gate, or one behind the nodes
 abbrev pub IsBeside : ℕ → ℕ → Type 0

@@ -10,8 +10,8 @@ use Rattle.plcr_machine.proofs.Cases.{not_both}
 use Rattle.plcr_nodes.specs.declared.view.View.{View}
 use Rattle.plcr_nodes.specs.Entries.{among, WentOn}
 use Rattle.plcr_nodes.specs.declared.words.TheConstants.{NODE_WORDS}
-use Rattle.plcr_nodes.specs.Words.{base}
-use Rattle.plcr_nodes.specs.Rule.{Truth, Stands, Sees, Fits, Holds}
+use Rattle.plcr_nodes.specs.inner.Words.{base}
+use Rattle.plcr_nodes.specs.inner.Rule.{Truth, Stands, Sees, Fits, Holds}
 use Rattle.plcr_nodes.specs.inner.Plays.{TakesIn}
 
 abbrev pub St : Type 0

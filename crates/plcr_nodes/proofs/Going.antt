@@ -16,7 +16,7 @@ use Rattle.plcr_machine.proofs.Cases.{not_both, eqb_same}
 use Rattle.plcr_machine.proofs.Insiders.{inside_announced}
 use Rattle.plcr_nodes.specs.Entries.{among}
 use Rattle.plcr_nodes.specs.Names.{header_in}
-use Rattle.plcr_nodes.specs.Rule.{name_on}
+use Rattle.plcr_nodes.specs.Payload.{name_on}
 use Rattle.plcr_nodes.specs.Tokens.{PassState, OwnerState, IsEntry, IsGlanced, IsEntered, IsLeft, IsFollowed, IsRead}
 use Rattle.plcr_nodes.specs.Owning.{Follows, IsLinked}
 use Rattle.plcr_nodes.specs.Opening.{opened_pass, opened_passes}

@@ -4,7 +4,7 @@ use Rattle.std.proofs.lemmas.Bool.{cases_eq, and_parts, and_from, or_right, or_c
 use Rattle.plcr_machine.specs.declared.image.Image.{Image}
 use Rattle.plcr_machine.specs.declared.entry.Entry.{Entry}
 use Rattle.plcr_machine.specs.declared.entry.Entry.TheVariants.{Announce, Enter, Leave, Retire, Load, Unload, Count, Look}
-use Rattle.plcr_machine.specs.Lists.{has, without, live, loads, loaded}
+use Rattle.plcr_machine.specs.Lists.{has, live, loads, loaded}
 use Rattle.plcr_machine.specs.Nodes.{is_new, is_removed, counts_before, lets_go, is_let_go, is_free}
 use Rattle.plcr_machine.specs.Passes.{is_inside, is_announced, seen_by, all_under, counts}
 use Rattle.plcr_machine.specs.Histories.{IsLegal, IsHistory}
@@ -16,6 +16,7 @@ use Rattle.plcr_machine.proofs.Freedom.{live_bound}
 use Rattle.plcr_machine.proofs.Followers.{after_listed}
 use Rattle.plcr_machine.proofs.Insiders.{counts_few}
 use Rattle.plcr_machine.proofs.Leads.{link_here, link_before}
+use Rattle.plcr_machine.proofs.ListsMade.{live-owner}
 use Rattle.plcr_machine.proofs.Makers.{own_grow, own_split, announced-own}
 use Rattle.plcr_machine.proofs.Reach.{reach_inside, reach_busy}
 use Rattle.plcr_nodes.specs.Knowing.{StandsAsBefore}
@@ -130,17 +131,6 @@ module _ (nodes passes : ℕ) where
   loaded_most n (Look w x ∷ past) l = loaded_most n past l.1
 
 -- the list, the free nodes and the numbers of loads and counts are told by the owner's entries
-pub live-owner : (h : List Entry) → live (owner_entries h) ≡ live h
-live-owner [] = refl
-live-owner (Enter q ∷ past) = live-owner past
-live-owner (Announce q s ∷ past) = live-owner past
-live-owner (Leave q ∷ past) = live-owner past
-live-owner (Retire q ∷ past) = live-owner past
-live-owner (Load n i a ∷ past) = ap (λ (xs : List Image). xs ++ record { node = n; load = i; header = a } ∷ []) (live-owner past)
-live-owner (Unload n ∷ past) = ap (without n) (live-owner past)
-live-owner (Count ∷ past) = live-owner past
-live-owner (Look w x ∷ past) = live-owner past
-
 loads-owner : (h : List Entry) → loads (owner_entries h) ≡ loads h
 loads-owner [] = refl
 loads-owner (Enter q ∷ past) = loads-owner past

@@ -10,7 +10,7 @@ use Rattle.plcr_machine.proofs.OnNodes.{IsApart, turned}
 use Rattle.plcr_machine.proofs.Freedom.{listed_busy, live_apart, live_bound, head_absent}
 use Rattle.plcr_machine.proofs.Followers.{last_place-other}
 use Rattle.plcr_machine.proofs.Leads.{link_here}
-use Rattle.plcr_nodes.specs.Rule.{IsHeld}
+use Rattle.plcr_nodes.specs.inner.Rule.{IsHeld}
 
 last_place_is : (p : ℕ) (xs : List Image) → (last_place p xs ≡ p) ⊎ (has (last_place p xs) xs ≡ true)
 last_place_is p [] = inl refl

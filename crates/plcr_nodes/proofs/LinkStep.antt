@@ -17,8 +17,9 @@ use Rattle.plcr_nodes.specs.declared.view.View.{View}
 use Rattle.plcr_nodes.specs.declared.view.Store.{Store}
 use Rattle.plcr_nodes.specs.declared.words.TheConstants.{NODE_WORDS, PAYLOAD_WORDS}
 use Rattle.plcr_nodes.specs.Names.{stored, words_of, payload_word, header_in, name_in, IsFilled, IsEnded}
-use Rattle.plcr_nodes.specs.Words.{base}
-use Rattle.plcr_nodes.specs.Rule.{image_word, image_words, IsHeld, Truth, Stands, Fits, Holds}
+use Rattle.plcr_nodes.specs.inner.Words.{base}
+use Rattle.plcr_nodes.specs.Payload.{image_word, image_words}
+use Rattle.plcr_nodes.specs.inner.Rule.{IsHeld, Truth, Stands, Fits, Holds}
 use Rattle.plcr_nodes.specs.inner.Plays.{Mine, linked, linked_view}
 use Rattle.plcr_nodes.proofs.Spelling.{name_bytes}
 use Rattle.plcr_nodes.proofs.Known.{free_same, live_same, loaded_most}

@@ -18,8 +18,9 @@ use Rattle.plcr_nodes.specs.declared.view.View.{View}
 use Rattle.plcr_nodes.specs.Entries.{among}
 use Rattle.plcr_nodes.specs.Names.{words_of}
 use Rattle.plcr_nodes.specs.declared.words.TheConstants.{GATE, PAYLOAD_WORDS}
-use Rattle.plcr_nodes.specs.Words.{base}
-use Rattle.plcr_nodes.specs.Rule.{name_on, image_word, image_words, first_of, number_of, Stands, Fits, Holds}
+use Rattle.plcr_nodes.specs.inner.Words.{base}
+use Rattle.plcr_nodes.specs.Payload.{name_on, image_word, image_words}
+use Rattle.plcr_nodes.specs.inner.Rule.{first_of, number_of, Stands, Fits, Holds}
 use Rattle.plcr_nodes.specs.inner.Plays.{Mine, view_at, glanced, followed, loaded_word}
 use Rattle.plcr_nodes.proofs.Known.{inside_same, free_same, reach_grows, reach_bound, link_bound, loaded_grows, loaded_most}
 use Rattle.plcr_nodes.proofs.NamesKept.{name-older}

@@ -3,7 +3,7 @@ use Rattle.std.proofs.Common.{◌≡◌, ℕ, suc, ◌≤◌, List, [], ◌∷�
 use Rattle.std.proofs.lemmas.Bool.{cond_both}
 use Rattle.plcr_machine.specs.declared.entry.Entry.{Entry}
 use Rattle.plcr_machine.specs.Lists.{name_of, loaded}
-use Rattle.plcr_nodes.specs.Rule.{name_on, image_words}
+use Rattle.plcr_nodes.specs.Payload.{name_on, image_words}
 use Rattle.plcr_base.specs.Bytes.{IsBytes}
 use Rattle.plcr_base.specs.Limits.{IsImageName}
 use Rattle.plcr_nodes.specs.declared.words.TheConstants.{PAYLOAD_WORDS}

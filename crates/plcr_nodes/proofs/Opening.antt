@@ -13,8 +13,8 @@ use Rattle.plcr_machine.proofs.Cases.{not_both, eqb_same}
 use Rattle.plcr_nodes.specs.declared.view.View.{View}
 use Rattle.plcr_nodes.specs.declared.view.Heard.{Heard}
 use Rattle.plcr_nodes.specs.Entries.{among}
-use Rattle.plcr_nodes.specs.Words.{base, stamp_place, table_words}
-use Rattle.plcr_nodes.specs.Rule.{first_of, Truth, Stands, Fits, Holds, owner_view, first_view}
+use Rattle.plcr_nodes.specs.inner.Words.{base, stamp_place, table_words}
+use Rattle.plcr_nodes.specs.inner.Rule.{first_of, Truth, Stands, Fits, Holds, owner_view, first_view}
 use Rattle.plcr_nodes.specs.Opening.{IsSized}
 use Rattle.plcr_nodes.specs.inner.Seats.{IsPassing}
 use Rattle.plcr_nodes.specs.inner.Plays.{Mine, numbered, giving, given_view}
@@ -150,7 +150,7 @@ at_snoc_place [] a b (suc j) e = absurd (some-ne-none b (sym e))
 at_snoc_place (x ∷ xs) a b zero e = inl (omega arith, e)
 at_snoc_place (x ∷ xs) a b (suc j) e = ⊎_elim (λ d. inl (let z = d.0 in omega arith, d.1)) (λ d. inr (ap suc d.0, d.1)) (at_snoc_place xs a b j e)
 
-at_within : {A : Type 0} (l : List A) (a : A) (j : ℕ) → get_elem? l j ≡ some a → j < length l
+pub at_within : {A : Type 0} (l : List A) (a : A) (j : ℕ) → get_elem? l j ≡ some a → j < length l
 at_within [] a j e = absurd (some-ne-none a (sym e))
 at_within (x ∷ xs) a zero e = omega arith
 at_within (x ∷ xs) a (suc j) e = let z = at_within xs a j e in omega arith

@@ -11,8 +11,8 @@ use Rattle.plcr_machine.specs.Links.{last_place}
 use Rattle.plcr_nodes.specs.declared.view.View.{View}
 use Rattle.plcr_nodes.specs.declared.words.TheConstants.{NODE_WORDS}
 use Rattle.plcr_nodes.specs.Names.{store, header_in, IsFilled, IsEnded}
-use Rattle.plcr_nodes.specs.Words.{base}
-use Rattle.plcr_nodes.specs.Rule.{Holds}
+use Rattle.plcr_nodes.specs.inner.Words.{base}
+use Rattle.plcr_nodes.specs.inner.Rule.{Holds}
 use Rattle.plcr_nodes.specs.Tokens.{OwnerSeesMore}
 use Rattle.plcr_nodes.specs.Owning.{IsLinked}
 use Rattle.plcr_nodes.specs.inner.Plays.{Mine, TakesIn, filled, linked, linked_view}

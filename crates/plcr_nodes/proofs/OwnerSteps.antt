@@ -14,8 +14,8 @@ use Rattle.plcr_machine.proofs.Cases.{not_both}
 use Rattle.plcr_machine.proofs.Freedom.{free_looked}
 use Rattle.plcr_nodes.specs.declared.view.View.{View}
 use Rattle.plcr_nodes.specs.declared.words.TheConstants.{GATE}
-use Rattle.plcr_nodes.specs.Words.{stamp_place}
-use Rattle.plcr_nodes.specs.Rule.{Truth, ShowsBeside, Stands, Fits, Holds}
+use Rattle.plcr_nodes.specs.inner.Words.{stamp_place}
+use Rattle.plcr_nodes.specs.inner.Rule.{Truth, ShowsBeside, Stands, Fits, Holds}
 use Rattle.plcr_nodes.specs.Owning.{IsOwnerEntry, IsCounted, IsLooked}
 use Rattle.plcr_nodes.specs.inner.Plays.{Mine, Makes, TakesIn, view_at, counted, looked}
 use Rattle.plcr_nodes.specs.inner.Seats.{owner_state, IsOwner}

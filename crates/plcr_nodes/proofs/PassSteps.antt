@@ -12,8 +12,8 @@ use Rattle.plcr_machine.proofs.Cases.{not_both, eqb_same}
 use Rattle.plcr_nodes.specs.declared.view.View.{View}
 use Rattle.plcr_nodes.specs.declared.words.TheConstants.{GATE}
 use Rattle.plcr_nodes.specs.Entries.{among}
-use Rattle.plcr_nodes.specs.Words.{stamp_place}
-use Rattle.plcr_nodes.specs.Rule.{number_of, Truth, ShowsBeside, Stands, Fits, Holds}
+use Rattle.plcr_nodes.specs.inner.Words.{stamp_place}
+use Rattle.plcr_nodes.specs.inner.Rule.{number_of, Truth, ShowsBeside, Stands, Fits, Holds}
 use Rattle.plcr_nodes.specs.inner.Plays.{Mine, Makes, view_at, announced, entered, left, retired}
 use Rattle.plcr_nodes.proofs.Known.{inside_same, announced_same, free_same}
 use Rattle.plcr_machine.proofs.Growing.{counts-grows}

@@ -13,8 +13,9 @@ use Rattle.plcr_machine.proofs.Cases.{not_both, eqb_same}
 use Rattle.plcr_nodes.specs.declared.view.View.{View}
 use Rattle.plcr_nodes.specs.Entries.{among}
 use Rattle.plcr_nodes.specs.declared.words.TheConstants.{PAYLOAD_WORDS}
-use Rattle.plcr_nodes.specs.Words.{base}
-use Rattle.plcr_nodes.specs.Rule.{image_word, number_of}
+use Rattle.plcr_nodes.specs.inner.Words.{base}
+use Rattle.plcr_nodes.specs.Payload.{image_word}
+use Rattle.plcr_nodes.specs.inner.Rule.{number_of}
 use Rattle.plcr_nodes.specs.Tokens.{SeesMore, IsEntry, IsGlanced, IsEntered, IsLeft, IsFollowed, IsRead}
 use Rattle.plcr_nodes.specs.inner.Plays.{Mine, TakesIn, view_at, glanced, announced, retired, entered, left, followed, loaded_word}
 use Rattle.plcr_nodes.specs.inner.Seats.{pass_state, IsPass, IsPassing}

@@ -6,7 +6,7 @@ use Rattle.plcr_machine.specs.Lists.{loads, loaded}
 use Rattle.plcr_machine.specs.Holds.{may_reach}
 use Rattle.plcr_machine.specs.Parts.{own_entries}
 use Rattle.plcr_nodes.specs.Names.{payload_word}
-use Rattle.plcr_nodes.specs.Rule.{name_on, image_word}
+use Rattle.plcr_nodes.specs.Payload.{name_on, image_word}
 use Rattle.plcr_nodes.specs.Seeing.{GoesOn}
 use Rattle.plcr_nodes.proofs.Seeing.{own_of}
 use Rattle.plcr_nodes.proofs.Known.{reach_grows, loaded_grows}

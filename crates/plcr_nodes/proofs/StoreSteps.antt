@@ -11,8 +11,8 @@ use Rattle.plcr_nodes.specs.declared.view.View.{View}
 use Rattle.plcr_nodes.specs.declared.view.Store.{Store}
 use Rattle.plcr_nodes.specs.declared.words.TheConstants.{NODE_WORDS}
 use Rattle.plcr_nodes.specs.Names.{store, stored, stored_elsewhere}
-use Rattle.plcr_nodes.specs.Words.{base}
-use Rattle.plcr_nodes.specs.Rule.{Truth, Stands, Fits, Holds}
+use Rattle.plcr_nodes.specs.inner.Words.{base}
+use Rattle.plcr_nodes.specs.inner.Rule.{Truth, Stands, Fits, Holds}
 use Rattle.plcr_nodes.specs.inner.Plays.{Mine, filled}
 use Rattle.plcr_nodes.proofs.Known.{free_same}
 use Rattle.plcr_nodes.proofs.Fitting.{St, truth, there, moved}

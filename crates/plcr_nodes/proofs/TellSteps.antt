@@ -9,7 +9,7 @@ use Rattle.plcr_machine.proofs.Cases.{not_both, by_cases}
 use Rattle.plcr_nodes.specs.declared.view.View.{View}
 use Rattle.plcr_nodes.specs.declared.view.Heard.{Heard}
 use Rattle.plcr_nodes.specs.Entries.{among}
-use Rattle.plcr_nodes.specs.Rule.{number_of, Truth, Fits, Hears, Holds}
+use Rattle.plcr_nodes.specs.inner.Rule.{number_of, Truth, Fits, Hears, Holds}
 use Rattle.plcr_nodes.specs.inner.Plays.{Mine, view_at}
 use Rattle.plcr_nodes.specs.inner.Telling.{noted_view, heard_of, hearing_view, spent_view, gained, TakesAllOver, learned, gathered}
 use Rattle.plcr_nodes.proofs.Fitting.{St, truth, there, stands_held, still_fits, taken}

@@ -5,7 +5,7 @@ use Rattle.atomic_table.specs.Seated.{TableId}
 use Rattle.plcr_machine.specs.declared.entry.Entry.{Entry}
 use Rattle.plcr_nodes.specs.declared.view.View.{View}
 use Rattle.plcr_nodes.specs.Seeing.{AddsOthers}
-use Rattle.plcr_nodes.specs.Rule.{number_of}
+use Rattle.plcr_nodes.specs.inner.Rule.{number_of}
 use Rattle.plcr_nodes.specs.Telling.{IsPassTold, IsOwnerTold, IsJoined}
 use Rattle.plcr_nodes.specs.inner.Plays.{Mine, TakesIn, view_at}
 use Rattle.plcr_nodes.specs.inner.Seats.{pass_state, owner_state, note_state, IsPassing, IsOwning}

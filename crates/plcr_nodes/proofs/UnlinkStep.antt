@@ -16,8 +16,8 @@ use Rattle.plcr_machine.proofs.Freedom.{listed_busy, live_bound}
 use Rattle.plcr_machine.proofs.Followers.{after_listed}
 use Rattle.plcr_machine.proofs.Leads.{link_here, link_over, link_else}
 use Rattle.plcr_nodes.specs.declared.view.View.{View}
-use Rattle.plcr_nodes.specs.Words.{base}
-use Rattle.plcr_nodes.specs.Rule.{IsHeld, Truth, Stands, Fits, Holds}
+use Rattle.plcr_nodes.specs.inner.Words.{base}
+use Rattle.plcr_nodes.specs.inner.Rule.{IsHeld, Truth, Stands, Fits, Holds}
 use Rattle.plcr_nodes.specs.Owning.{Follows, IsUnlinked}
 use Rattle.plcr_nodes.specs.inner.Plays.{Mine, TakesIn, view_at, unlinked}
 use Rattle.plcr_nodes.specs.inner.Seats.{owner_state, IsOwner}

@@ -6,7 +6,7 @@ use Rattle.plcr_machine.specs.Nodes.{is_free}
 use Rattle.plcr_machine.specs.Passes.{is_inside, is_announced, seen_by, counts, IsPaced}
 use Rattle.plcr_machine.specs.Holds.{may_reach}
 use Rattle.plcr_nodes.specs.Entries.{among}
-use Rattle.plcr_nodes.specs.Rule.{name_on}
+use Rattle.plcr_nodes.specs.Payload.{name_on}
 use Rattle.plcr_nodes.specs.Seeing.{AddsOthers, GoesOn}
 
 -- the list, the free nodes, and how many loads, changes and counts there were

@@ -1,8 +1,7 @@
 pub mod Entries
 pub mod Names
 pub mod Seeing
-pub mod Words
-pub mod Rule
+pub mod Payload
 pub mod Tokens
 pub mod Owning
 pub mod Opening

@@ -13,23 +13,20 @@ note_of_owner s = record { table = s.table; history = s.history; names = s.names
 abbrev pub note_of_pass : PassState → NoteState
 note_of_pass s = record { table = s.table; history = s.history; names = s.names }
 
--- the pass was told what the note's token had seen: both had seen a beginning of what it has seen now
-pub record IsPassTold (old : PassState) (note : NoteState) (new : PassState) : Type 0 where
+-- a token was told what a note's token had seen: both had seen a beginning of what it has seen now
+pub record IsTold {S : Type 0} (Sees : List Entry → List (List ℕ) → Type 0) (after : List Entry → List (List ℕ) → S) (note : NoteState) (new : S) : Type 0 where
   pub past : List Entry
   pub names : List (List ℕ)
-  pub sees : SeesMore old past names
-  pub now : new ≡ record old { history = past; names = names }
+  pub sees : Sees past names
+  pub now : new ≡ after past names
   pub told : Grows note.history past
   pub named : WentOn note.names names
 
--- the owner was told likewise
-pub record IsOwnerTold (old : OwnerState) (note : NoteState) (new : OwnerState) : Type 0 where
-  pub past : List Entry
-  pub names : List (List ℕ)
-  pub sees : OwnerSeesMore old past names
-  pub now : new ≡ record old { history = past; names = names }
-  pub told : Grows note.history past
-  pub named : WentOn note.names names
+abbrev pub IsPassTold : PassState → NoteState → PassState → Type 0
+IsPassTold old note new = IsTold (SeesMore old) (λ past names. record old { history = past; names = names }) note new
+
+abbrev pub IsOwnerTold : OwnerState → NoteState → OwnerState → Type 0
+IsOwnerTold old note new = IsTold (OwnerSeesMore old) (λ past names. record old { history = past; names = names }) note new
 
 -- the owner joined the pass: both had seen a beginning of what the owner has seen now, which has of the pass just the entries that the pass had seen
 pub record IsJoined (old : OwnerState) (pass : PassState) (new : OwnerState) : Type 0 where

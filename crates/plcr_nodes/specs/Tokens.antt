@@ -9,7 +9,7 @@ use Rattle.plcr_machine.specs.Links.{link_of}
 use Rattle.plcr_machine.specs.Holds.{may_reach}
 use Rattle.plcr_nodes.specs.declared.view.Store.{Store}
 use Rattle.plcr_nodes.specs.Seeing.{GoesOn}
-use Rattle.plcr_nodes.specs.Rule.{image_word}
+use Rattle.plcr_nodes.specs.Payload.{image_word}
 
 -- what a pass knows: its table with its sizes, its number, the history that it has seen with the names of its loads, and what its walk was given since it went in
 pub record PassState : Type 0 where

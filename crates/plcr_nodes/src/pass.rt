@@ -2,7 +2,7 @@
 ghost use Rattle.std.specs.Prelude.{◌≡◌, ◌⊎◌, ◌<◌, true, false};
 ghost use Rattle.plcr_machine.specs.Passes.{is_announced, is_inside};
 ghost use Rattle.plcr_nodes.specs.Entries.{among};
-ghost use Rattle.plcr_nodes.specs.Rule.{image_words};
+ghost use Rattle.plcr_nodes.specs.Payload.{image_words};
 ghost use Rattle.plcr_nodes.specs.Tokens.{IsEntered, IsLeft, IsFollowed, IsRead};
 
 use crate::nodes::Nodes;

@@ -50,7 +50,7 @@ pub struct View {
 pub struct OneHistory;
 
 impl TableRule<(), View, Sizes> for OneHistory {
-    ghost use Rattle.plcr_nodes.specs.Rule.{Holds, first_view};
+    ghost use Rattle.plcr_nodes.specs.inner.Rule.{Holds, first_view};
 
     ghost holds = { λ key. Holds key.nodes key.passes };
 

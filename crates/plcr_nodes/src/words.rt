@@ -2,7 +2,7 @@
 //! them a stamp for each pass.
 ghost use Rattle.std.specs.Prelude.{◌≡◌, ℕ, ◌+◌, ◌≤◌};
 ghost use Rattle.plcr_machine.specs.declared.limits.TheConstants.{MOST_NODES};
-ghost use Rattle.plcr_nodes.specs.Words.{base, stamp_place};
+ghost use Rattle.plcr_nodes.specs.inner.Words.{base, stamp_place};
 
 use plcr_base::IMAGE_NAME_BYTES;
 

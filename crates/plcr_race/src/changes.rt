@@ -1,4 +1,4 @@
-//! Loads and unloads alone: the list has all images but one that it has room for, and the oldest is unloaded.
+//! Loads and unloads alone: the list has all images but one that it has room for, and is filled and unloaded at a place.
 ghost use Rattle.std.specs.Prelude.{◌≡◌, ◌≤◌, ◌*◌};
 ghost use Rattle.plcr_race.specs.Counting.{MakesChanges};
 
@@ -9,8 +9,9 @@ use std::io;
 use std::rt::Clock;
 use std::time::Instant;
 
-// Loads an image and unloads the oldest, so often, and gives how many changes weren't refused.
-fn change(list: &ImageList, writer: Writer, images: u32, rounds: u32) -> (Writer, u64)
+// Loads an image and unloads the one at a place, counted from 1, so often, and gives how many changes weren't refused. The
+// images behind the place move up, so each unload takes the header that comes next.
+fn change(list: &ImageList, writer: Writer, images: u32, place: u32, rounds: u32) -> (Writer, u64)
     requires { writer.table ≡ list.now }
     ensures counts { MakesChanges writer result.1 result.0 }
     ensures most { result.1 ≤ 2 * rounds }
@@ -18,9 +19,8 @@ fn change(list: &ImageList, writer: Writer, images: u32, rounds: u32) -> (Writer
     let mut writer = writer;
     let mut made = 0u64;
     for round in 0..rounds {
-        let oldest = round as u64 + 1;
-        let (next, loaded) = load(list, writer, oldest + images as u64);
-        let (next, unloaded) = unload(list, next, oldest);
+        let (next, loaded) = load(list, writer, round as u64 + images as u64 + 1);
+        let (next, unloaded) = unload(list, next, round as u64 + place as u64);
         writer = next;
         made += u64::from(loaded) + u64::from(unloaded);
     }
@@ -31,6 +31,7 @@ fn change(list: &ImageList, writer: Writer, images: u32, rounds: u32) -> (Writer
 pub fn race<R: Clock + Alloc<A = Global> + Print>(
     rt: &R,
     nodes: u32,
+    place: u32,
     rounds: u32,
 ) -> io::Result<()> {
     let (list, writer, _) = open(rt.alloc(), nodes, 1)?;
@@ -40,7 +41,7 @@ pub fn race<R: Clock + Alloc<A = Global> + Print>(
     let filling = start.elapsed(rt)?.as_nanos();
     println!(rt; "{filled} loads {filling} ns")?;
     let start = Instant::now(rt)?;
-    let (_, made) = change(&list, writer, images, rounds);
+    let (_, made) = change(&list, writer, images, place, rounds);
     let changing = start.elapsed(rt)?.as_nanos();
     println!(rt; "{made} changes {changing} ns")
 }

@@ -1,5 +1,5 @@
-//! A race of the image list: `changes NODES ROUNDS` loads and unloads alone, `walks NODES READERS ROUNDS` walks on threads
-//! while a writer loads and unloads. `bench/imagelist.py` runs it.
+//! A race of the image list: `changes NODES PLACE ROUNDS` loads at the end and unloads at a place, alone, and `walks NODES
+//! READERS ROUNDS` walks on threads while a writer loads and unloads. `bench/imagelist.py` runs it.
 #![tactic(auto)]
 
 mod changes;
@@ -19,7 +19,13 @@ fn main(rt: HostRuntime) -> io::Result<ExitCode> {
         words.push(word)?;
     }
     match words::read(words.as_slice()) {
-        Some(Task::Changes { nodes, rounds }) => changes::race(&rt, nodes, rounds)?,
+        Some(
+            Task::Changes {
+                nodes,
+                place,
+                rounds,
+            },
+        ) => changes::race(&rt, nodes, place, rounds)?,
         Some(
             Task::Walks {
                 nodes,
@@ -28,7 +34,7 @@ fn main(rt: HostRuntime) -> io::Result<ExitCode> {
             },
         ) => walks::race(&rt, nodes, readers, rounds)?,
         None => {
-            println!(rt; "changes NODES ROUNDS\nwalks NODES READERS ROUNDS")?;
+            println!(rt; "changes NODES PLACE ROUNDS\nwalks NODES READERS ROUNDS")?;
             let good = words.is_empty();
             return Ok(if good {
                 ExitCode::SUCCESS

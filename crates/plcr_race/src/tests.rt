@@ -100,6 +100,12 @@ fn words_name_a_race(rt: HostRuntime) -> Result<(), Fail> {
     let alloc = rt.alloc();
     let changes = Task::Changes {
         nodes: 4096,
+        place: 1,
+        rounds: 7,
+    };
+    let later = Task::Changes {
+        nodes: 4096,
+        place: 2048,
         rounds: 7,
     };
     let walks = Task::Walks {
@@ -108,6 +114,7 @@ fn words_name_a_race(rt: HostRuntime) -> Result<(), Fail> {
         rounds: 9,
     };
     assert_eq!(rt; named(alloc, "changes 4096 7")?, Some(changes));
+    assert_eq!(rt; named(alloc, "changes 4096 2048 7")?, Some(later));
     assert_eq!(rt; named(alloc, "walks 128 2 9")?, Some(walks));
     assert_eq!(rt; named(alloc, "walks 2 9")?, None);
     assert_eq!(rt; named(alloc, "changes 4096 x")?, None);

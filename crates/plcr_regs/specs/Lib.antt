@@ -2,3 +2,4 @@ pub mod Names
 pub mod Places
 pub mod States
 pub mod Frames
+pub mod Outcomes

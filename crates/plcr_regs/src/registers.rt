@@ -46,17 +46,22 @@ impl Registers {
         }
     }
 
+    /// What `kept` says, where the registers are put into room.
+    pub fn keep_into(&self, room: &mut Registers)
+        ensures { room.new ≡ kept_of self.now }
+    {
+        room.arch = self.arch;
+        for place in 0..MOST_REGISTERS {
+            room.value[place] = self.kept_at(place);
+        }
+    }
+
     /// The registers that a function keeps for its caller, and the frame pointer; all others unknown.
     pub fn kept(&self) -> Registers
         ensures { result ≡ kept_of self.now }
     {
-        let mut value = [None; MOST_REGISTERS];
-        for place in 0..value.len() {
-            value[place] = self.kept_at(place);
-        }
-        Registers {
-            arch: self.arch,
-            value,
-        }
+        let mut room = *self;
+        self.keep_into(&mut room);
+        room
     }
 }

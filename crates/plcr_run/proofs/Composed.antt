@@ -17,8 +17,7 @@ use Rattle.plcr_script.specs.RunLaws.{state_behind}
 use Rattle.plcr_script.proofs.PrefixRuns.{states_go_on}
 use Rattle.plcr_script.proofs.Insides.{in_behind_more}
 use Rattle.plcr_command.specs.Seen.{Seen}
-use Rattle.plcr_command.specs.Endings.{HasKept, CannotPrint}
-use Rattle.plcr_command.specs.inner.Endings.{GoesOn}
+use Rattle.plcr_command.specs.Endings.{GoesOn, HasKept, CannotPrint}
 use Rattle.plcr_command.proofs.Kept.{kept_none, kept_twice, goes_none, goes_twice, unwritten_after, unprinted_after}
 use Rattle.plcr_command.proofs.Numbered.{parts_at, take_next}
 use Rattle.plcr_run.specs.declared.stepping.Stop.{Stop}
@@ -191,6 +190,7 @@ stop_left process script i number statement Unprinted old mid new next nexts at 
   state = (turn_of process script.nodes script.passes (state_at process script i) statement).state;
   is = step.leaves;
   changes = ap will_change (sym (state_more process script i number statement at));
+  went = ([], ap (λ (s : State). s.events) (sym (state_more process script i number statement at)));
 }
 stop_left process script i number statement Unwritten old mid new next nexts at turn before goes step =
     let x : NumberedTurn = record { line = number; turn = turn_of process script.nodes script.passes (state_at process script i) statement } in
@@ -202,6 +202,7 @@ stop_left process script i number statement Unwritten old mid new next nexts at 
       state = step.leaves.0;
       is = step.leaves.1;
       changes = step.leaves.2;
+      went = step.leaves.3;
     }
 
 stop_how : (stop : Stop) (files : List (List ℕ × List ℕ)) (line : List ℕ) (old new : Seen) → StepEnds (Err stop) files line old new → IsUnwritten files old new ⊎ CannotPrint files [] line old new

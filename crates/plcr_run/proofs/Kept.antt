@@ -3,8 +3,9 @@ use Rattle.std.proofs.Common.{◌≡◌, ℕ, zero, suc, ◌+◌, Bool, true, fa
 use Rattle.std.specs.Prelude.{if◌then◌else◌, OnOk}
 use Rattle.plcr_script.specs.Places.{in_behind}
 use Rattle.plcr_machine.specs.declared.change.Change.{Change}
-use Rattle.plcr_machine.specs.declared.entry.Entry.TheVariants.{Count}
-use Rattle.plcr_machine.specs.Events.{Event, Changed, Noted, changes_in}
+use Rattle.plcr_machine.specs.declared.entry.Entry.TheVariants.{Announce, Enter, Count}
+use Rattle.plcr_machine.specs.Passes.{counts}
+use Rattle.plcr_machine.specs.Events.{Event, Changed, Noted, changes_in, noted_in}
 use Rattle.plcr_script.specs.declared.statements.Statement.{Statement}
 use Rattle.plcr_script.specs.declared.statements.Statement.TheVariants as statements
 use Rattle.plcr_script.specs.declared.outcomes.Outcome.{Outcome}
@@ -12,6 +13,7 @@ use Rattle.plcr_script.specs.Meanings.{Meanings}
 use Rattle.plcr_script.specs.RunChanges.{Plan, planned_load, planned_unload}
 use Rattle.plcr_script.specs.RunStates.{Opened, stepped, steps, steps_left, is_full, searched, State, is_in, finished, entered, entered_if_out}
 use Rattle.plcr_script.specs.RunTurns.{Turn, comes_to, full, stepped_on, stepped_through, step_turn, with_opened, left_open, made_whole, unless_refused, without_opened, with_node, turn_of}
+use Rattle.plcr_script.specs.RunLaws.{Follows}
 use Rattle.plcr_run.specs.inner.Stepping.{IsChange, IsMove, will_change}
 
 -- of two turns that keep nothing, either keeps nothing
@@ -86,6 +88,13 @@ entering_keeps pass s = of (is_in (s.places pass))
     of : (b : Bool) → will_change (if b then s else entered pass s) ≡ will_change s
     of true = refl
     of false = finished_same s.opened (entered pass s).events s.events refl
+
+pub entering_follows : (pass : ℕ) (s : State) → Follows s.events (entered_if_out pass s).events
+entering_follows pass s = of (is_in (s.places pass))
+  where
+    of : (b : Bool) → Follows s.events (if b then s else entered pass s).events
+    of true = ([], refl)
+    of false = (Noted (Enter pass) ∷ Noted (Announce pass (counts (noted_in s.events))) ∷ [], refl)
 
 -- a statement that is none of a pass's is one of the writer's, and moves no pass
 pub is_change : (s : Statement) → ((p : ℕ) → s ≡ statements.Enter p → ⊥) → ((p most : ℕ) → s ≡ statements.Walk p most → ⊥) → ((p : ℕ) → s ≡ statements.Leave p → ⊥) → ((p : ℕ) (file : List ℕ) → s ≡ statements.Report p file → ⊥) → IsChange s

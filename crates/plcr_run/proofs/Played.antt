@@ -4,14 +4,15 @@ use Rattle.std.specs.Prelude.{OnOk, OnErr}
 use Rattle.plcr_machine.specs.declared.change.Change.{Change}
 use Rattle.plcr_machine.specs.Histories.{IsHistory}
 use Rattle.plcr_machine.specs.Changes.{changes_of}
-use Rattle.plcr_machine.specs.Events.{events_of, changes_in}
+use Rattle.plcr_machine.specs.Events.{Event, events_of, changes_in}
 use Rattle.plcr_machine.proofs.EventsMade.{events-changes}
 use Rattle.plcr_imagelist.specs.States.{WriterState}
 use Rattle.plcr_script.specs.Scripts.{ScriptValue}
 use Rattle.plcr_script.specs.Meanings.{Meanings}
 use Rattle.plcr_script.specs.RunStates.{ended}
 use Rattle.plcr_script.specs.Run.{end_after, changes_after}
-use Rattle.plcr_script.specs.RunLaws.{state_behind, StoppedRunsArePrefixes}
+use Rattle.plcr_script.specs.RunLaws.{Follows, state_behind, StoppedRunsArePrefixes}
+use Rattle.plcr_script.proofs.HeldRuns.{ended_follows}
 use Rattle.plcr_script.proofs.PrefixRuns.{ended_changes}
 use Rattle.plcr_command.specs.Seen.{Seen}
 use Rattle.plcr_run.specs.declared.stepping.Stop.{Stop}
@@ -88,6 +89,8 @@ ran_part process script old new writing slots writer prefixes stopped e =
         all = met_by script writing slots writer stopped.nodes stopped.passes e;
         legal = known_by script writing slots writer stopped.nodes stopped.passes e;
         first = e.lists.first;
+        went = subst (λ (es : List Event). Follows (state_behind process script b.done).events es) (sym events)
+            (ended_follows (state_behind process script b.done).events writer.passes b.state b.went);
         made = mine;
         later = p.0;
         changes = p.1 ∙ ap (λ (cs : List Change). p.0 ++ cs) (sym mine);

@@ -36,7 +36,7 @@ use Rattle.plcr_run.specs.inner.Tokens.{writer_of, IsAll, place_in, StateIs, Goe
 use Rattle.plcr_run.specs.inner.Reports.{images_in, images_at}
 use Rattle.plcr_run.specs.inner.Stepping.{IsUnwritten, StepEnds, StepLeaves, StepIs, Takes, ReportEnds}
 use Rattle.plcr_run.proofs.Leaving.{goes_twice, state_same, place_out, place_inside}
-use Rattle.plcr_run.proofs.Kept.{entering_keeps}
+use Rattle.plcr_run.proofs.Kept.{entering_keeps, entering_follows}
 
 -- a line was printed
 pub line_done : (line : List ℕ) (desk : Told) (lines lines_after : Option (List ℕ)) (faults faults_after : ℕ) → lines_after ≡ append_known lines line → HasKept [] line (seen desk lines faults) (seen desk lines_after faults_after)
@@ -136,7 +136,7 @@ report_unwritten process number pass file name old olds mid mids faults faults_a
       let stop = unwritten_is (process.report (images_at mids pass)) file name faults faults_after desk desk_after lines lines_after unsaved named printed in
       record {
         ends = subst (λ (l : List Listed). IsUnwritten ((file, process.report l) ∷ []) (seen desk lines faults) (seen desk_after lines_after faults_after)) images stop;
-        leaves = (walked pass (walk_to_end (changes_in inside.events) (inside.places pass)) inside, s.goes.state all state is, entering_keeps pass state);
+        leaves = (walked pass (walk_to_end (changes_in inside.events) (inside.places pass)) inside, s.goes.state all state is, entering_keeps pass state, entering_follows pass state);
       };
 }
 

@@ -4,12 +4,14 @@ use Rattle.plcr_base.specs.Told.{Gains}
 use Rattle.plcr_machine.specs.declared.change.Change.{Change}
 use Rattle.plcr_machine.specs.Histories.{IsHistory}
 use Rattle.plcr_machine.specs.Changes.{TakesFirst, changes_of}
+use Rattle.plcr_machine.specs.Events.{events_of}
 use Rattle.plcr_nodes.specs.Entries.{among}
 use Rattle.plcr_imagelist.specs.States.{WriterState}
 use Rattle.plcr_script.specs.Scripts.{ScriptValue}
 use Rattle.plcr_script.specs.Meanings.{Meanings}
 use Rattle.plcr_script.specs.declared.statements.NumberedStatement.{NumberedStatement}
 use Rattle.plcr_script.specs.Run.{run_of, kept_by, MayHave, changes_after}
+use Rattle.plcr_script.specs.RunLaws.{Follows, state_behind}
 use Rattle.plcr_command.specs.Seen.{Seen}
 use Rattle.plcr_run.specs.Runs.{run_behind, IsDone, IsStopped}
 
@@ -26,7 +28,7 @@ pub record LeavesWhole (process : Meanings) (script : ScriptValue) (past : Optio
   pub all : HasMetAll script past writer
   pub may : MayHave process script writer.history writer.names
 
--- what happened on the list is lawful, and its changes are those of the first statements of the script: the first of those that the whole script makes
+-- what happened on the list is lawful; it goes on from what the first statements of the script mean, and its changes are those of these statements: the first of those that the whole script makes
 pub record LeavesPart (process : Meanings) (script : ScriptValue) (past : Option WriterState) : Type 0 where
   pub done : List NumberedStatement
   pub others : List NumberedStatement
@@ -35,6 +37,7 @@ pub record LeavesPart (process : Meanings) (script : ScriptValue) (past : Option
   pub all : HasMetAll script past writer
   pub legal : IsHistory script.nodes script.passes writer.history writer.names
   pub first : TakesFirst writer.history
+  pub went : Follows (state_behind process script done).events (events_of writer.names writer.history)
   pub made : changes_of writer.names writer.history ≡ changes_after process script done
   pub later : List Change
   pub changes : changes_after process script script.statements ≡ later ++ changes_of writer.names writer.history

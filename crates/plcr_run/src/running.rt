@@ -3,7 +3,7 @@ ghost use Rattle.std.specs.Prelude.{◌≡◌, length, OnOk, OnErr};
 ghost use Rattle.plcr_script.specs.Lawful.{IsLawful};
 ghost use Rattle.plcr_script.specs.Meanings.{meanings};
 ghost use Rattle.plcr_command.specs.Seen.{seen};
-ghost use Rattle.plcr_command.specs.inner.Endings.{GoesOn};
+ghost use Rattle.plcr_command.specs.Endings.{GoesOn};
 ghost use Rattle.plcr_run.specs.inner.Tokens.{AreTokens};
 ghost use Rattle.plcr_run.specs.inner.Running.{IsFresh, RunDone, RunStopped};
 

@@ -3,7 +3,7 @@ ghost use Rattle.std.specs.Prelude.{◌≡◌, None, IfOk, map};
 ghost use Rattle.plcr_script.specs.Lawful.{AreSizes, IsLawful};
 ghost use Rattle.plcr_script.specs.Meanings.{meanings};
 ghost use Rattle.plcr_command.specs.Seen.{seen};
-ghost use Rattle.plcr_command.specs.inner.Endings.{GoesOn};
+ghost use Rattle.plcr_command.specs.Endings.{GoesOn};
 ghost use Rattle.plcr_run.specs.declared.slots.Slot.TheVariants.{Out};
 ghost use Rattle.plcr_run.specs.Past.{RunIs};
 ghost use Rattle.plcr_run.specs.inner.Opening.{IsOpened, PlayIs};

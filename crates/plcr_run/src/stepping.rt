@@ -8,7 +8,7 @@ ghost use Rattle.plcr_script.specs.Meanings.{meanings};
 ghost use Rattle.plcr_script.specs.RunTurns.{turn_of};
 ghost use Rattle.plcr_script.specs.Log.{log_line};
 ghost use Rattle.plcr_command.specs.Seen.{seen};
-ghost use Rattle.plcr_command.specs.inner.Endings.{GoesOn};
+ghost use Rattle.plcr_command.specs.Endings.{GoesOn};
 ghost use Rattle.plcr_run.specs.inner.Slots.{slot_at, IsOutAt};
 ghost use Rattle.plcr_run.specs.inner.Tokens.{writer_of, AreTokens, Turns};
 ghost use Rattle.plcr_run.specs.inner.Changes.{WriterTurns};

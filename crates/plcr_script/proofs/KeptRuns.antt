@@ -1,29 +1,32 @@
 -- Each file that a run keeps has a report of the images of a lawful walk.
-use Rattle.std.proofs.Common.{◌≡◌, ℕ, ◌≤◌, Bool, true, false, List, [], ◌∷◌, ◌++◌, Option, Some, None, Result, Ok, Err, leb, refl, sym, ◌∙◌, subst, arith, length-append}
-use Rattle.std.specs.Prelude.{All, Contains, if◌then◌else◌}
+use Rattle.std.proofs.Common.{◌≡◌, ℕ, ◌≤◌, Bool, true, false, List, [], ◌∷◌, ◌++◌, Option, Some, None, Result, Ok, Err, leb, refl, sym, ap, ◌∙◌, subst, arith, append_assoc, length-append}
+use Rattle.std.specs.Prelude.{All, Contains, map, option_to_list, if◌then◌else◌}
+use Rattle.std.specs.List.{cons_option}
+use Rattle.std.proofs.lemmas.List.{map-append}
 use Rattle.std.proofs.lemmas.List.Elements.{All-nil, All-cons}
 use Rattle.plcr_machine.specs.declared.change.Named.{Named}
 use Rattle.plcr_machine.specs.declared.change.Change.{Change}
 use Rattle.plcr_machine.specs.Walks.{last_met, Meets, IsLawfulWalk}
 use Rattle.plcr_machine.specs.Changes.{load_of, list_after_changes}
-use Rattle.plcr_machine.specs.Events.{changes_in}
+use Rattle.plcr_machine.specs.declared.entry.Entry.TheVariants.{Leave, Retire}
+use Rattle.plcr_machine.specs.Events.{Event, Noted, changes_in}
 use Rattle.plcr_machine.proofs.Growing.{follow-same, meets-same}
 use Rattle.plcr_script.specs.declared.outcomes.Outcome.{Outcome}
 use Rattle.plcr_script.specs.declared.statements.Statement.{Statement}
 use Rattle.plcr_script.specs.declared.statements.Statement.TheVariants as statements
 use Rattle.plcr_script.specs.declared.statements.NumberedStatement.{NumberedStatement}
 use Rattle.plcr_script.specs.Meanings.{Meanings}
-use Rattle.plcr_script.specs.Reading.{file_of}
+use Rattle.plcr_script.specs.Reading.{file_of, files_of}
 use Rattle.plcr_script.specs.RunChanges.{Plan, planned_load, planned_unload}
-use Rattle.plcr_script.specs.RunStates.{Opened, steps_left, is_full, State, first_state, entered, entered_if_out, is_in, low_of, high_of}
+use Rattle.plcr_script.specs.RunStates.{Opened, steps_left, is_full, State, first_state, entered_if_out, leaves, low_of, high_of}
 use Rattle.plcr_script.specs.RunTurns.{Turn, comes_to, stepped_on, stepped_through, step_turn, with_opened, left_open, made_whole, unless_refused, without_opened, full, with_node, listed, reported, turn_of}
-use Rattle.plcr_script.specs.Run.{NumberedTurn, turns_from, state_after, run_of, changes_after, end_after}
-use Rattle.plcr_script.specs.RunLaws.{WasWalked, changes_before, IsLawfulReport, RunsKeepLawfully}
+use Rattle.plcr_script.specs.Run.{NumberedTurn, turns_from, state_after, run_of, kept_by}
+use Rattle.plcr_script.specs.RunLaws.{Follows, WasWalked, changes_before, IsLawfulReport, RunsKeepLawfully, RunsKeepTheirFiles, state_behind}
 use Rattle.plcr_script.proofs.NumberedChanges.{lists_stay}
 use Rattle.plcr_script.proofs.Turning.{looked, turn_keeps, enter_if_keeps}
 use Rattle.plcr_script.proofs.SoundRuns.{Sound, went_in, sound_walk, looks_sound, opening_sound, steps_sound, end_sound, enter_sound, walk_sound, leave_sound, first_sound}
 use Rattle.plcr_script.proofs.PacedRuns.{Paced, paced_now, looks_paced, opening_paced, steps_keep_pace, end_paced, enter_paced, walk_paced, leave_paced, first_paced}
-use Rattle.plcr_script.proofs.PrefixRuns.{will_be, goes_from_now, statements_go, ended_changes}
+use Rattle.plcr_script.proofs.HeldRuns.{none_follow, follow_on, changes_append, statements_follow}
 
 -- a lawful walk is one through other lists that are the same up to its end
 lawful_same : (lists others : ℕ → List Named) (a b : ℕ) (met : List Named) → a ≤ b → ((k : ℕ) → k ≤ b → lists k ≡ others k) → IsLawfulWalk load_of lists a b met → IsLawfulWalk load_of others a b met
@@ -105,14 +108,6 @@ turn_quiet process nodes passes s (statements.Walk pass most) none = refl
 turn_quiet process nodes passes s (statements.Leave pass) none = refl
 turn_quiet process nodes passes s (statements.Report pass file) none = absurd cc
 
--- the changes of a state in which a pass has gone in, if it was out
-entered_changes : (s : State) (p : ℕ) → changes_in (entered_if_out p s).events ≡ changes_in s.events
-entered_changes s p = of (is_in (s.places p))
-  where
-    of : (b : Bool) → changes_in (if b then s else entered p s).events ≡ changes_in s.events
-    of true = refl
-    of false = refl
-
 module _ (process : Meanings) (nodes passes : ℕ) where
   turn_sound : (s : State) (statement : Statement) → Sound s → Sound (turn_of process nodes passes s statement).state
   turn_sound = turn_keeps process nodes passes Sound (looks_sound nodes passes) opening_sound steps_sound end_sound enter_sound walk_sound leave_sound
@@ -121,11 +116,11 @@ module _ (process : Meanings) (nodes passes : ℕ) where
   turn_paced = turn_keeps process nodes passes Paced (looks_paced nodes passes) opening_paced steps_keep_pace end_paced enter_paced walk_paced leave_paced
 
   -- a report, by what was so far and what comes later
-  report_lawful : (s : State) (p : ℕ) (file : List ℕ) (later : List Change) → Sound s → Paced s →
+  report_lawful : (s : State) (p : ℕ) (file : List ℕ) (later : List Event) → Sound s → Paced s →
       let turn = turn_of process nodes passes s (statements.Report p file) in
-      All (IsLawfulReport process (later ++ changes_in (entered_if_out p s).events) turn) turn.kept
+      All (IsLawfulReport process (later ++ turn.state.events) turn) turn.kept
   unfolding turn_of
-  report_lawful s p file later h pace = All-cons (IsLawfulReport process whole turn) (file, process.report (listed met)) [] lawful (All-nil (IsLawfulReport process whole turn))
+  report_lawful s p file later h pace = All-cons (IsLawfulReport process happened turn) (file, process.report (listed met)) [] lawful (All-nil (IsLawfulReport process happened turn))
     where
       inside : State
       inside = entered_if_out p s
@@ -133,8 +128,8 @@ module _ (process : Meanings) (nodes passes : ℕ) where
       turn : Turn
       turn = turn_of process nodes passes s (statements.Report p file)
 
-      whole : List Change
-      whole = later ++ changes_in (entered_if_out p s).events
+      happened : List Event
+      happened = later ++ leaves p (entered_if_out p s).events
 
       met : List Named
       met = reported p (entered_if_out p s)
@@ -148,47 +143,76 @@ module _ (process : Meanings) (nodes passes : ℕ) where
       walked : WasWalked (changes_in (entered_if_out p s).events) (changes_before p (entered_if_out p s).events) (reported p (entered_if_out p s))
       walked = sound_walk (entered_if_out p s) p sound (went_in s p)
 
-      stays : (now : WasWalked (later ++ changes_in (entered_if_out p s).events) (changes_before p (entered_if_out p s).events) (reported p (entered_if_out p s))) × (now.end ≡ walked.end)
-      stays = walked_stays later (changes_in (entered_if_out p s).events) (changes_before p (entered_if_out p s).events) (reported p (entered_if_out p s)) walked
+      changes : changes_in (later ++ leaves p (entered_if_out p s).events) ≡ changes_in later ++ changes_in (entered_if_out p s).events
+      changes = changes_append later (leaves p (entered_if_out p s).events)
 
-      lawful : IsLawfulReport process (later ++ changes_in (entered_if_out p s).events) (turn_of process nodes passes s (statements.Report p file)) (file, process.report (listed (reported p (entered_if_out p s))))
+      stays : (now : WasWalked (changes_in (later ++ leaves p (entered_if_out p s).events)) (changes_before p (entered_if_out p s).events) (reported p (entered_if_out p s))) × (now.end ≡ walked.end)
+      stays = subst (λ (cs : List Change). (now : WasWalked cs (changes_before p (entered_if_out p s).events) (reported p (entered_if_out p s))) × (now.end ≡ walked.end)) (sym changes)
+          (walked_stays (changes_in later) (changes_in (entered_if_out p s).events) (changes_before p (entered_if_out p s).events) (reported p (entered_if_out p s)) walked)
+
+      lawful : IsLawfulReport process (later ++ leaves p (entered_if_out p s).events) (turn_of process nodes passes s (statements.Report p file)) (file, process.report (listed (reported p (entered_if_out p s))))
       lawful = record {
-        start = changes_before p (entered_if_out p s).events;
+        pass = p;
+        inside = (entered_if_out p s).events;
+        hold = (later ++ Noted (Retire p) ∷ [], sym (append_assoc later (Noted (Retire p) ∷ []) (Noted (Leave p) ∷ (entered_if_out p s).events)));
         met = reported p (entered_if_out p s);
+        walked = stays.0;
+        within = rw stays.1 walked.within;
+        bytes = refl;
         low = low_of p (entered_if_out p s);
         high = high_of (entered_if_out p s);
-        bytes = refl;
         told = refl;
-        walked = stays.0;
         first = paced.windows p;
-        last = rw stays.1 (omega (arith, walked.within, (paced_now (entered_if_out p s) paced).1));
+        last = paced_now (entered_if_out p s) paced;
       }
 
   -- each turn
-  turn_lawful : (s : State) (statement : Statement) (later : List Change) → Sound s → Paced s →
+  turn_lawful : (s : State) (statement : Statement) (later : List Event) → Sound s → Paced s →
       let turn = turn_of process nodes passes s statement in
-      All (IsLawfulReport process (later ++ changes_in s.events) turn) turn.kept
+      All (IsLawfulReport process (later ++ turn.state.events) turn) turn.kept
   unfolding turn_of
-  turn_lawful s (statements.Report p file) later h pace =
-      let turn = turn_of process nodes passes s (statements.Report p file) in
-      subst (λ (cs : List Change). All (IsLawfulReport process (later ++ cs) turn) turn.kept) (entered_changes s p) (report_lawful s p file later h pace)
-  turn_lawful s statement later h pace = rw (turn_quiet process nodes passes s statement refl) (All-nil (IsLawfulReport process (later ++ changes_in s.events) (turn_of process nodes passes s statement)))
+  turn_lawful s (statements.Report p file) later h pace = report_lawful s p file later h pace
+  turn_lawful s statement later h pace = rw (turn_quiet process nodes passes s statement refl) (All-nil (IsLawfulReport process (later ++ (turn_of process nodes passes s statement).state.events) (turn_of process nodes passes s statement)))
 
   -- and all turns behind a state
-  turns_lawful : (s : State) (xs : List NumberedStatement) (whole : List Change) → Sound s → Paced s
-      → whole ≡ will_be (state_after process nodes passes s xs).opened (state_after process nodes passes s xs).events
-      → All (λ (t : NumberedTurn). All (IsLawfulReport process whole t.turn) t.turn.kept) (turns_from process nodes passes s xs)
-  turns_lawful s [] whole h pace ends = All-nil (λ (t : NumberedTurn). All (IsLawfulReport process whole t.turn) t.turn.kept)
-  turns_lawful s (x ∷ xs) whole h pace ends =
+  turns_lawful : (s : State) (xs : List NumberedStatement) (happened : List Event) → Sound s → Paced s
+      → Follows (state_after process nodes passes s xs).events happened
+      → All (λ (t : NumberedTurn). All (IsLawfulReport process happened t.turn) t.turn.kept) (turns_from process nodes passes s xs)
+  turns_lawful s [] happened h pace ends = All-nil (λ (t : NumberedTurn). All (IsLawfulReport process happened t.turn) t.turn.kept)
+  turns_lawful s (x ∷ xs) happened h pace ends =
       let turn = turn_of process nodes passes s x.statement in
-      let go = statements_go (changes_in s.events) process nodes passes s (x ∷ xs) (goes_from_now s) in
-      let first : All (IsLawfulReport process whole turn) turn.kept = subst (λ (cs : List Change). All (IsLawfulReport process cs turn) turn.kept) (sym (ends ∙ go.1)) (turn_lawful s x.statement go.0 h pace) in
-      All-cons (λ (t : NumberedTurn). All (IsLawfulReport process whole t.turn) t.turn.kept) (record { line = x.line; turn = turn }) (turns_from process nodes passes turn.state xs) first
-      (turns_lawful turn.state xs whole (turn_sound s x.statement h) (turn_paced s x.statement pace) ends)
+      let last = state_after process nodes passes turn.state xs in
+      let on = follow_on turn.state.events last.events happened (statements_follow turn.state.events process nodes passes turn.state xs (none_follow turn.state.events)) ends in
+      let first : All (IsLawfulReport process happened turn) turn.kept = subst (λ (es : List Event). All (IsLawfulReport process es turn) turn.kept) (sym on.1) (turn_lawful s x.statement on.0 h pace) in
+      All-cons (λ (t : NumberedTurn). All (IsLawfulReport process happened t.turn) t.turn.kept) (record { line = x.line; turn = turn }) (turns_from process nodes passes turn.state xs) first
+      (turns_lawful turn.state xs happened (turn_sound s x.statement h) (turn_paced s x.statement pace) ends)
 
 -- each file that a run keeps
 pub run_keeps_lawfully : RunsKeepLawfully
-unfolding run_of end_after
-run_keeps_lawfully process script =
-    turns_lawful process script.nodes script.passes first_state script.statements (changes_after process script script.statements) first_sound first_paced
-    (ended_changes script.passes (state_after process script.nodes script.passes first_state script.statements))
+unfolding run_of
+run_keeps_lawfully process script later =
+    turns_lawful process script.nodes script.passes first_state script.statements (later ++ (state_behind process script script.statements).events) first_sound first_paced (later, refl)
+
+-- the names of the files that turns keep
+abbrev names : List (List ℕ × List ℕ) → List (List ℕ)
+names files = map (λ (file : List ℕ × List ℕ). file.0) files
+
+one_kept : (process : Meanings) (nodes passes : ℕ) (s : State) (statement : Statement) → names (turn_of process nodes passes s statement).kept ≡ option_to_list (file_of statement)
+unfolding turn_of
+one_kept process nodes passes s (statements.Report p file) = refl
+one_kept process nodes passes s statement = ap names (turn_quiet process nodes passes s statement refl)
+
+or_none : {A : Type 0} (o : Option A) (xs : List A) → option_to_list o ++ xs ≡ cons_option o xs
+or_none None xs = refl
+or_none (Some x) xs = refl
+
+names_kept : (process : Meanings) (nodes passes : ℕ) (s : State) (xs : List NumberedStatement) → names (kept_by (turns_from process nodes passes s xs)) ≡ files_of xs
+names_kept process nodes passes s [] = refl
+names_kept process nodes passes s (x ∷ xs) =
+    let turn = turn_of process nodes passes s x.statement in
+    map-append (λ (file : List ℕ × List ℕ). file.0) turn.kept (kept_by (turns_from process nodes passes turn.state xs))
+    ∙ rw (one_kept process nodes passes s x.statement, names_kept process nodes passes turn.state xs) (or_none (file_of x.statement) (files_of xs))
+
+pub run_keeps_its_files : RunsKeepTheirFiles
+unfolding run_of
+run_keeps_its_files process script = names_kept process script.nodes script.passes first_state script.statements

@@ -2,13 +2,12 @@
 use Rattle.std.proofs.Common.{◌≡◌, ℕ, ◌+◌, ◌<◌, ◌≤◌, ◌^◌, ◌⊎◌, false, ltb, List, [], ◌∷◌, ◌++◌, Option, Some, None, length, take, get_or, refl, sym, ◌∙◌, ap, subst, inl, inr, arith, length-append}
 use Rattle.std.specs.Prelude.{slice_get, IfSome, IsFalse}
 use Rattle.std.proofs.Math.Seq.{get_or-append_seam, take-append_seam}
-use Rattle.std.proofs.lemmas.Bool.{ltb-true, ltb-false, cases_Bool}
+use Rattle.std.proofs.lemmas.Bool.{ltb-true, ltb-false, or_parts, cases_Bool}
 use Rattle.std.proofs.lemmas.Option.{slice_get_within, slice_get-get_or, get_or_from_slice_get}
 use Rattle.std.proofs.lemmas.List.{get_or_append_left, take-append-le}
 use Rattle.std.proofs.lemmas.List.Elements.{All-nil, All-push}
 use Rattle.plcr_regs.specs.declared.arch.Arch.{Arch}
 use Rattle.plcr_encode.specs.Conditions.{IsWritable}
-use Rattle.plcr_script.proofs.Naming.{neither}
 use Rattle.plcr_script.specs.declared.keys.NumberKey.{NumberKey}
 use Rattle.plcr_script.specs.declared.keys.NumberKey.TheVariants.{Os, Timestamp, Address, Pid, Ppid, Crashed, User, Bits}
 use Rattle.plcr_script.specs.declared.keys.TextKey.{TextKey}
@@ -18,7 +17,8 @@ use Rattle.plcr_script.specs.declared.modes.Mode.TheVariants.{Single, Worker}
 use Rattle.plcr_script.specs.declared.statements.Statement.{Statement}
 use Rattle.plcr_script.specs.Places.{pass_of, is_misplaced, HasPass, AreInPlace}
 use Rattle.plcr_script.specs.declared.statements.NumberedStatement.{NumberedStatement}
-use Rattle.plcr_script.specs.Keys.{IsAllowed, with_number, with_text}
+use Rattle.plcr_script.specs.Keys.{with_number, with_text}
+use Rattle.plcr_script.specs.inner.Keys.{IsAllowed}
 use Rattle.plcr_script.specs.Scripts.{ScriptValue}
 use Rattle.plcr_script.specs.Sayings.{Saying, Sizes, Number, Words, States}
 use Rattle.plcr_script.specs.Reading.{DraftValue, no_lines, passes_of, is_out_of_place, with_saying, with_said}
@@ -105,12 +105,12 @@ lawful_at_first mode before = record { script = lawful_script_at_first mode befo
 -- one more line within its limits and in its place keeps it so
 lawful_script_with : (draft : DraftValue) (line : ℕ) (s : Saying) → IsLawfulDraft draft → IsFit (passes_of draft.mode draft.script.passes) s → is_out_of_place draft s ≡ false → IsLawful (with_saying draft.script line s)
 lawful_script_with draft line (Sizes nodes passes) h fits place =
-    let none : draft.script.statements ≡ [] = h.first (neither draft.begun _ place).0 in
+    let none : draft.script.statements ≡ [] = h.first (or_parts draft.begun _ place).0 in
     record { sizes = fits; places = rw none (λ i s is. absurd cc); statements = h.script.statements; writable = h.script.writable }
 lawful_script_with draft line (Number key n) h fits place = record { sizes = h.script.sizes; places = h.script.places; statements = h.script.statements; writable = λ arch. number_writable draft.script key n arch fits (h.script.writable arch) }
 lawful_script_with draft line (Words key text) h fits place = record { sizes = h.script.sizes; places = h.script.places; statements = h.script.statements; writable = λ arch. text_writable draft.script key text arch fits (h.script.writable arch) }
 lawful_script_with draft line (States statement) h fits place =
-    let placed = neither (is_misplaced draft.script.statements statement) _ (neither _ _ place).1 in
+    let placed = or_parts (is_misplaced draft.script.statements statement) _ (or_parts _ _ place).1 in
     let x : NumberedStatement = record { line = line; statement = statement } in
     record {
       sizes = h.script.sizes;

@@ -18,4 +18,5 @@ pub mod SoundRuns
 pub mod PrefixRuns
 pub mod PlacedRuns
 pub mod PacedRuns
+pub mod HeldRuns
 pub mod KeptRuns

@@ -17,11 +17,6 @@ pub cond_or : (b x : Bool) → cond b true x ≡ (b || x)
 cond_or true x = refl
 cond_or false x = refl
 
--- where not one of two holds, neither does
-pub neither : (a b : Bool) → (a || b) ≡ false → (a ≡ false) × (b ≡ false)
-neither true b h = absurd cc
-neither false b h = (refl, h)
-
 -- the last of some alternatives may stand first
 or_last : (a b : Bool) → (a || (b || false)) ≡ (b || a)
 or_last true true = refl

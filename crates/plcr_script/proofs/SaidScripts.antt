@@ -3,7 +3,7 @@ use Rattle.std.proofs.Common.{◌≡◌, ◌≢◌, ℕ, ◌+◌, ◌<◌, Bool,
 use Rattle.std.specs.Prelude.{All, AllPairs, IsFalse, drop, codes, if◌then◌else◌}
 use Rattle.std.specs.List.{filter_map, list_any, fold}
 use Rattle.std.specs.Str.{bytes_eq}
-use Rattle.std.proofs.lemmas.Bool.{both_ways}
+use Rattle.std.proofs.lemmas.Bool.{both_ways, or_parts}
 use Rattle.std.proofs.lemmas.List.{append-nil}
 use Rattle.std.proofs.lemmas.List.Elements.{All-nil, All-cons, All-push}
 use Rattle.std.proofs.lemmas.List.Folds.{list_any_at, list_any-append}
@@ -23,7 +23,7 @@ use Rattle.plcr_script.specs.Scripts.{ScriptValue}
 use Rattle.plcr_script.specs.Sayings.{Saying, Sizes, Number, Words, States, says_nothing, table_in, set_in, statement_in, saying_of, saying_in}
 use Rattle.plcr_script.specs.Reading.{DraftValue, no_lines, passes_of, with_said, is_out_of_place, is_named, is_taken, with_lines, script_in, file_of, files_of, written_by}
 use Rattle.plcr_script.specs.Laws.{NumberedSaying, said_by, sayings_from, statement_by, values_by, is_sizes, sizes_in, IsSaidBy}
-use Rattle.plcr_script.proofs.Naming.{neither, files_more}
+use Rattle.plcr_script.proofs.Naming.{files_more}
 use Rattle.plcr_script.proofs.StatementsRead.{statement_read}
 use Rattle.plcr_script.proofs.WholeScripts.{Turn, Silent, Said, lines_turn}
 
@@ -77,7 +77,7 @@ later_with draft out n (States statement) sayings h l = record {
 
 -- sizes aren't named behind the first saying, and nothing else changes them
 not_sizes : (draft : DraftValue) (s : Saying) → draft.begun ≡ true → is_out_of_place draft s ≡ false → is_sizes s ≡ false
-not_sizes draft (Sizes a b) begun out = absurd (true_false (sym begun ∙ (neither draft.begun _ out).0))
+not_sizes draft (Sizes a b) begun out = absurd (true_false (sym begun ∙ (or_parts draft.begun _ out).0))
   where
     true_false : true ≡ false → ⊥
     true_false h = cc
@@ -205,7 +205,7 @@ not_named names file h k d lt same =
 
 not_named_in : (file : List ℕ) (xs ys : List (List ℕ)) → is_named file (xs ++ ys) ≡ false → (is_named file xs ≡ false) × (is_named file ys ≡ false)
 unfolding is_named
-not_named_in file xs ys h = neither _ _ (sym (list_any-append (λ name. bytes_eq name file) xs ys) ∙ h)
+not_named_in file xs ys h = or_parts _ _ (sym (list_any-append (λ name. bytes_eq name file) xs ys) ∙ h)
 
 -- no two statements of a draft write one file, and none writes that of a script before
 abbrev Differs : List (List ℕ) → List ℕ → Type 0
@@ -235,7 +235,7 @@ said_apart : (draft : DraftValue) (n : ℕ) (s : Saying) → is_out_of_place dra
 said_apart draft n (Sizes a b) place h = h
 said_apart draft n (Number key number) place h = h
 said_apart draft n (Words key text) place h = h
-said_apart draft n (States statement) place h = statement_apart (written_by draft.before) draft.script.statements n statement (neither _ _ (neither _ _ place).1).1 h
+said_apart draft n (States statement) place h = statement_apart (written_by draft.before) draft.script.statements n statement (or_parts _ _ (or_parts _ _ place).1).1 h
 
 turn_apart : (draft next : DraftValue) (n : ℕ) (line : List ℕ) → Turn draft n line next → IsApart draft → IsApart next
 turn_apart draft next n line (Silent h same) apart = subst IsApart (sym same) apart

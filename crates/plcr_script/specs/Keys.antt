@@ -1,5 +1,5 @@
 -- The keys of descriptive values: their words, the limits of their numbers, and what each sets.
-use Rattle.std.specs.Prelude.{◌≤◌, ◌<◌, ℕ, ◌^◌, List, Option, Some, None, ◌==◌, if◌then◌else◌, codes}
+use Rattle.std.specs.Prelude.{ℕ, ◌^◌, List, Option, Some, None, ◌==◌, if◌then◌else◌, codes}
 use Rattle.std.specs.Str.{bytes_eq}
 use Rattle.plcr_script.specs.declared.keys.NumberKey.{NumberKey}
 use Rattle.plcr_script.specs.declared.keys.NumberKey.TheVariants.{Os, Timestamp, Address, Pid, Ppid, Crashed, User, Bits}
@@ -50,10 +50,6 @@ limit_of Ppid = 2 ^ 32
 limit_of Crashed = 2 ^ 32
 limit_of User = 2
 limit_of Bits = 65
-
--- the number is one of the key's
-abbrev pub IsAllowed : NumberKey → ℕ → Type 0
-IsAllowed key number = (least_of key ≤ number) × (number < limit_of key)
 
 -- the values with another number for a key; for `user` 1 is yes
 abbrev pub with_number : NumberKey → ℕ → DescriptiveValues → DescriptiveValues

@@ -15,10 +15,10 @@ use Rattle.plcr_script.specs.Contexts.{context_of}
 abbrev pub AreSizes : ℕ → ℕ → Type 0
 AreSizes nodes passes = (1 ≤ nodes) × (nodes ≤ MOST_NODES) × (1 ≤ passes) × (passes ≤ MOST_PASSES)
 
--- a statement's name has fewer than 2^32 bytes, and its file has a lawful name
+-- a header of an image that is loaded has 64 bits and its name fewer than 2^32 bytes, and a file has a lawful name
 abbrev pub IsFitStatement : Statement → Type 0
-IsFitStatement (Load header name) = length name < 2 ^ 32
-IsFitStatement (BeginLoad header name) = length name < 2 ^ 32
+IsFitStatement (Load header name) = (header < 2 ^ 64) × (length name < 2 ^ 32)
+IsFitStatement (BeginLoad header name) = (header < 2 ^ 64) × (length name < 2 ^ 32)
 IsFitStatement (Report pass file) = IsTrue (is_file_name file)
 IsFitStatement other = Unit {0}
 

@@ -1,5 +1,5 @@
 -- What the changes of an image list that were made so far say of the next one: why it is refused, or what it does. The newest change stands first.
-use Rattle.std.specs.Prelude.{ℕ, suc, ◌+◌, ◌/◌, Bool, List, [], ◌∷◌, Option, Some, None, Result, Ok, Err, ◌==◌, length, nat_le, nat_lt, ok_or, if◌then◌else◌}
+use Rattle.std.specs.Prelude.{ℕ, suc, ◌+◌, ◌/◌, Bool, List, [], ◌∷◌, Option, Some, None, Result, Err, ◌==◌, length, nat_le, nat_lt, ok_or, if◌then◌else◌}
 use Rattle.std.specs.Option.{option_map}
 use Rattle.plcr_base.specs.declared.limits.TheConstants.{IMAGE_NAME_BYTES}
 use Rattle.plcr_base.specs.Chains.{passed}
@@ -86,8 +86,3 @@ change_outcome (Unloads header) load = Unloaded load
 
 abbrev pub made_outcome : Plan → Outcome
 made_outcome plan = change_outcome plan.change plan.load
-
--- the outcome of a change that is made whole at once, or its refusal
-abbrev pub whole_outcome : Result Plan Outcome → Outcome
-whole_outcome (Ok plan) = made_outcome plan
-whole_outcome (Err refusal) = refusal

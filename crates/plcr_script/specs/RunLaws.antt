@@ -1,8 +1,8 @@
 -- What the runs of all scripts have in common. Each of these is the contract of a function of the crate.
-use Rattle.std.specs.Prelude.{◌≡◌, ℕ, suc, ◌≤◌, true, List, [], ◌∷◌, ◌++◌, All, length, ◌==◌, if◌then◌else◌}
+use Rattle.std.specs.Prelude.{◌≡◌, ℕ, suc, ◌≤◌, true, List, [], ◌∷◌, ◌++◌, All, length, map, ◌==◌, if◌then◌else◌}
 use Rattle.plcr_machine.specs.declared.change.Change.{Change}
 use Rattle.plcr_machine.specs.declared.change.Named.{Named}
-use Rattle.plcr_machine.specs.declared.entry.Entry.TheVariants.{Enter}
+use Rattle.plcr_machine.specs.declared.entry.Entry.TheVariants.{Enter, Leave}
 use Rattle.plcr_machine.specs.Changes.{load_of, list_after_changes}
 use Rattle.plcr_machine.specs.Walks.{IsWholeWalk, IsLawfulWalk}
 use Rattle.plcr_machine.specs.Events.{Event, Changed, Noted, changes_in}
@@ -10,11 +10,12 @@ use Rattle.plcr_script.specs.declared.statements.NumberedStatement.{NumberedStat
 use Rattle.plcr_script.specs.Scripts.{ScriptValue}
 use Rattle.plcr_script.specs.Contexts.{lent}
 use Rattle.plcr_script.specs.Places.{is_in_behind}
+use Rattle.plcr_script.specs.Reading.{files_of}
 use Rattle.plcr_script.specs.Meanings.{Meanings}
 use Rattle.plcr_script.specs.RunStates.{Place, is_in, has_ended, walk, walk_to_end, State, first_state, entered_if_out}
 use Rattle.plcr_script.specs.declared.outcomes.Outcome.TheVariants.{Reported}
 use Rattle.plcr_script.specs.RunTurns.{Turn, listed, reported}
-use Rattle.plcr_script.specs.Run.{NumberedTurn, state_after, turns_from, run_of, changes_after}
+use Rattle.plcr_script.specs.Run.{NumberedTurn, state_after, turns_from, run_of, kept_by, end_after, changes_after}
 
 -- the state of a script's run behind some statements
 abbrev pub state_behind : Meanings → ScriptValue → List NumberedStatement → State
@@ -65,18 +66,35 @@ abbrev pub StoppedRunsArePrefixes : Type 0
 StoppedRunsArePrefixes = (process : Meanings) (script : ScriptValue) (statements others : List NumberedStatement) → script.statements ≡ statements ++ others
     → (later : List Change) × (changes_after process script script.statements ≡ later ++ changes_after process script statements)
 
--- a file that a turn keeps has a report with the images of a lawful walk, through the lists that changes leave, and the turn's line tells of it. The walk begins between the changes that were counted before its pass entered and one more, which may have stood uncounted, and it ends with no more changes than were counted before the pass left, and one more
-pub record IsLawfulReport (process : Meanings) (changes : List Change) (turn : Turn) (file : List ℕ × List ℕ) : Type 0 where
-  pub start : ℕ
+-- these events, and maybe others after them
+abbrev pub Follows : List Event → List Event → Type 0
+Follows past events = (later : List Event) × (events ≡ later ++ past)
+
+-- A file that a turn keeps was written in one hold of a pass, in all that happened on a list. It has a report with the images of the hold's walk, which is lawful: from the list as the pass entered to one that stands no later than the pass left. The turn's line tells how many images there are, and how many changes were counted as the pass entered and as it left: as many as had been made, or one less where the last one stood uncounted
+pub record IsLawfulReport (process : Meanings) (happened : List Event) (turn : Turn) (file : List ℕ × List ℕ) : Type 0 where
+  pub pass : ℕ
+  -- what had happened when the pass left
+  pub inside : List Event
+  pub hold : Follows (Noted (Leave pass) ∷ inside) happened
   pub met : List Named
+  pub walked : WasWalked (changes_in happened) (changes_before pass inside) met
+  pub within : walked.end ≤ length (changes_in inside)
+  pub bytes : file.1 ≡ process.report (listed met)
   pub low : ℕ
   pub high : ℕ
-  pub bytes : file.1 ≡ process.report (listed met)
   pub told : turn.outcome ≡ Reported (lent file.0) (length file.1) (length met) low high
-  pub walked : WasWalked changes start met
-  pub first : (low ≤ start) × (start ≤ suc low)
-  pub last : walked.end ≤ suc high
+  pub first : (low ≤ changes_before pass inside) × (changes_before pass inside ≤ suc low)
+  pub last : (high ≤ length (changes_in inside)) × (length (changes_in inside) ≤ suc high)
 
--- each file of a run has such a report, by the changes of its list as it has them at the end
+-- each file of a run was written so, whatever happens after the run
 abbrev pub RunsKeepLawfully : Type 0
-RunsKeepLawfully = (process : Meanings) (script : ScriptValue) → All (λ (t : NumberedTurn). All (IsLawfulReport process (changes_after process script script.statements) t.turn) t.turn.kept) (run_of process script)
+RunsKeepLawfully = (process : Meanings) (script : ScriptValue) (later : List Event)
+    → All (λ (t : NumberedTurn). All (IsLawfulReport process (later ++ (state_behind process script script.statements).events) t.turn) t.turn.kept) (run_of process script)
+
+-- the end of a run comes after its statements
+abbrev pub EndsFollow : Type 0
+EndsFollow = (process : Meanings) (script : ScriptValue) (statements : List NumberedStatement) → Follows (state_behind process script statements).events (end_after process script statements)
+
+-- a run keeps the files that its script names, each once and in their order
+abbrev pub RunsKeepTheirFiles : Type 0
+RunsKeepTheirFiles = (process : Meanings) (script : ScriptValue) → map (λ (file : List ℕ × List ℕ). file.0) (kept_by (run_of process script)) ≡ files_of script.statements

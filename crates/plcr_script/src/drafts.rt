@@ -10,7 +10,8 @@ use crate::wording::Wording;
 use std::alloc::{AllocError, Global};
 use std::marker::Model;
 
-/// A script as far as it is read: what it is read for, the scripts before it, and whether a line has said anything.
+/// A script as far as it is read: what it is read for, the scripts before it, and whether a line
+/// has said anything.
 #[derive(Drop)]
 pub(crate) struct Draft<'a> {
     mode: Mode,

@@ -42,8 +42,8 @@ impl Kind {
 #[derive(Debug, Drop)]
 pub enum ScriptFault {
     /// The first refused line, from 1, and what is wrong with it: 1 for an unknown word or key, or
-    /// a bad file name, 2 for a bad number, 3 for too few words, 4 for too many, 5 for a pass that the
-    /// sizes don't have, 6 for a statement out of place.
+    /// a bad file name, 2 for a bad number, 3 for too few words, 4 for too many, 5 for a pass that
+    /// the sizes don't have, 6 for a statement out of place.
     Refused { line: u32, kind: u8 },
     /// Want of memory.
     Memory,

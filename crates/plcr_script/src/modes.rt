@@ -7,8 +7,8 @@ ghost use Rattle.plcr_script.specs.Reading as reading;
 pub enum Mode {
     /// One script that runs by itself.
     Single,
-    /// The script of one of several workers, which has one pass and leaves no change open. The first has the sizes and
-    /// values of all.
+    /// The script of one of several workers, which has one pass and leaves no change open. The
+    /// first has the sizes and values of all.
     Worker { first: bool },
 }
 

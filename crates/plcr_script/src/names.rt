@@ -11,8 +11,8 @@ use plcr_machine::MOST_PASSES;
 use std::alloc::{AllocError, Global};
 use std::collections::BTreeSet;
 
-/// What is looked up behind the lines so far: the files that the scripts before and the statements write, and which
-/// passes are in, by their numbers.
+/// What is looked up behind the lines so far: the files that the scripts before and the statements
+/// write, and which passes are in, by their numbers.
 #[derive(Drop)]
 pub(crate) struct Index<'a> {
     names: BTreeSet<&'a [u8]>,

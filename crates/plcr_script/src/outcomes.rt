@@ -19,8 +19,9 @@ const END_BYTES: usize = 8;
 /// The most numbers of an outcome.
 const NUMBERS: usize = 4;
 
-/// Room for what stands before a file, and for what stands behind it: the numbers of a script and a line with a
-/// word, and the numbers of an outcome with a last word and a newline, where each number has 20 digits at most.
+/// Room for what stands before a file, and for what stands behind it: the numbers of a script and a
+/// line with a word, and the numbers of an outcome with a last word and a newline, where each
+/// number has 20 digits at most.
 const PART_ROOM: usize = 96;
 
 /// What a statement came to.
@@ -77,8 +78,8 @@ pub enum Outcome<'a> {
         met: u32,
         ended: bool,
     },
-    /// The pass came out, having met so many images; and the numbers of counted changes before it entered and before
-    /// it left.
+    /// The pass came out, having met so many images; and the numbers of counted changes before it
+    /// entered and before it left.
     Left {
         pass: u32,
         met: u32,
@@ -126,7 +127,8 @@ pub fn write_outcome<K: Sink>(
     put_parts(sink, head.as_slice(), words.file, tail.as_slice())
 }
 
-/// What stands behind the place of a line: the word of its outcome, a file, numbers, and a last word.
+/// What stands behind the place of a line: the word of its outcome, a file, numbers, and a last
+/// word.
 #[derive(Drop)]
 struct OutcomeWords<'a> {
     word: &'a [u8],

@@ -26,7 +26,8 @@ pub trait Process {
     fn fault(&self, header: u64) -> Option<u8>
         ensures { result ≡ image_fault self.now header };
 
-    /// Writes a report, and gives its length. At `Err` the sink has a front of it, and not all. It takes no memory.
+    /// Writes a report, and gives its length. At `Err` the sink has a front of it, and not all. It
+    /// takes no memory.
     fn capture<I: Images, K: Sink>(
         &self,
         images: &mut I,

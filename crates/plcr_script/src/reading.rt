@@ -99,7 +99,8 @@ fn add_line<'a>(
     Ok(())
 }
 
-/// Whether this may not be said behind the lines so far. Where it may, the index is that of the lines with it.
+/// Whether this may not be said behind the lines so far. Where it may, the index is that of the
+/// lines with it.
 fn is_out_of_place<'a>(
     draft: &Draft<'a>,
     index: &mut Index<'a>,
@@ -122,7 +123,8 @@ fn is_out_of_place<'a>(
     }
 }
 
-/// Whether a statement may not stand behind the lines so far. Where it may, the index is that of the lines with it.
+/// Whether a statement may not stand behind the lines so far. Where it may, the index is that of
+/// the lines with it.
 fn is_misplaced<'a>(
     draft: &Draft<'a>,
     index: &mut Index<'a>,

@@ -1,5 +1,5 @@
 //! A script that was read.
-ghost use Rattle.std.specs.Prelude.{◌≡◌, ◌↔◌, ◌<◌, [], length, IsTrue, Some};
+ghost use Rattle.std.specs.Prelude.{◌≡◌, ◌<◌, ◌^◌, length, Some};
 
 use crate::statements::{NumberedStatement, Statement};
 use crate::values::DescriptiveValues;
@@ -55,13 +55,6 @@ impl Script {
         self.statements.len()
     }
 
-    /// Whether there is no statement.
-    pub fn is_empty(&self) -> bool
-        ensures { IsTrue result ↔ (self.now.statements ≡ []) }
-    {
-        self.statements.is_empty()
-    }
-
     /// The number of the line of the i-th statement, from 1.
     pub fn line(&self, i: usize) -> u32
         requires { i < length self.now.statements }
@@ -88,9 +81,11 @@ impl Script {
     /// The context of reports of a process of this architecture, with the script's descriptive
     /// values.
     pub fn context<'a>(&'a self, arch: Arch) -> Context<'a>
-        ensures { SaysSame result (context_of self.now arch) }
+        ensures same { SaysSame result (context_of self.now arch) }
+        ensures fits { (result.address < 2 ^ 64) × (result.pid < 2 ^ 32) × (result.ppid < 2 ^ 32) }
     {
         let values = &self.values;
+        let (address, pid, ppid) = (values.address, values.pid, values.ppid);
         Context {
             arch,
             os: values.os,
@@ -100,10 +95,10 @@ impl Script {
             version: values.version.as_slice(),
             signal: values.signal.as_slice(),
             code: values.code.as_slice(),
-            address: values.address,
+            address,
             process: values.process.as_slice(),
-            pid: values.pid,
-            ppid: values.ppid,
+            pid,
+            ppid,
             crashed: values.crashed,
             user: values.user,
             bits: values.bits,

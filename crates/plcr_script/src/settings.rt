@@ -4,7 +4,8 @@ ghost use Rattle.std.specs.Option.{option_copied};
 ghost use Rattle.plcr_script.specs.Splits.{words};
 ghost use Rattle.plcr_script.specs.Sayings.{table_in, set_in, value_in, number_for, number_to};
 ghost use Rattle.plcr_script.specs.inner.Fits.{IsFit};
-ghost use Rattle.plcr_script.specs.Keys.{IsAllowed, number_key_in, text_key_in};
+ghost use Rattle.plcr_script.specs.inner.Keys.{IsAllowed};
+ghost use Rattle.plcr_script.specs.Keys.{number_key_in, text_key_in};
 ghost use Rattle.plcr_script.specs.inner.Wording.{IsWorded, said};
 
 use crate::arguments::two_words;

@@ -25,8 +25,9 @@ pub struct DescriptiveValues {
 }
 
 impl DescriptiveValues {
-    ghost use Rattle.plcr_script.specs.Keys.{IsAllowed, with_number, with_text};
+    ghost use Rattle.plcr_script.specs.Keys.{with_number, with_text};
     ghost use Rattle.plcr_script.specs.Values.{default_values};
+    ghost use Rattle.plcr_script.specs.inner.Keys.{IsAllowed};
 
     /// The values of a script that sets none.
     pub fn defaults(alloc: Global) -> Result<DescriptiveValues, AllocError>

@@ -21,7 +21,8 @@ pub(crate) enum Wording<'a> {
     States(Stating<'a>),
 }
 
-/// What a line says, where statements may name this many passes, by all tests but those of its place.
+/// What a line says, where statements may name this many passes, by all tests but those of its
+/// place.
 pub(crate) fn wording_of(passes: u32, line: &[u8]) -> Result<Wording<'_>, Kind>
     requires { length line.now < 2 ^ 32 }
     ensures worded { IsWorded result (saying_in passes line.now) }

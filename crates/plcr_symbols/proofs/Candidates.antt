@@ -3,6 +3,7 @@ use Rattle.std.proofs.Common.{◌≡◌, ◌≤◌, ◌<◌, ℕ, ◌+◌, ◌-�
 use Rattle.std.specs.Prelude.{◌&&◌, if◌then◌else◌}
 use Rattle.std.specs.Int.Bits.{bit_and}
 use Rattle.std.proofs.lemmas.Bool.Decides.{nat_tests}
+use Rattle.std.proofs.lemmas.Bool.{le-leb, lt-ltb}
 use Rattle.plcr_loader.specs.declared.constants.TheConstants.{N_STAB, N_TYPE, N_SECT}
 use Rattle.plcr_loader.specs.declared.nlist_64.TheConstants as nlist_64
 use Rattle.plcr_loader.specs.Fields.{number}
@@ -11,7 +12,6 @@ use Rattle.plcr_macho.specs.declared.image.Image.{Image}
 use Rattle.plcr_symbols.specs.declared.symbol.SymbolAt.{SymbolAt}
 use Rattle.plcr_symbols.specs.Symbols.{address_in, candidate, defined_in, in_text, is_defined, said_by, where_its_address}
 use Rattle.plcr_symbols.specs.Laws.{IsCandidate}
-use Rattle.plcr_symbols.proofs.Greater.{le_is, lt_is}
 use Rattle.plcr_symbols.proofs.Zeros.{eq_from, eq_is}
 
 both : (a b : Bool) → (a && b) ≡ true → (a ≡ true) × (b ≡ true)
@@ -56,8 +56,8 @@ text_is image a h =
 
 text_from : (image : Image) (a : ℕ) → image.header ≤ a → a < image.header + image.text_size → in_text image a ≡ true
 text_from image a low high =
-    let one : nat_le image.header a ≡ true = le_is image.header a low in
-    let two : nat_lt (a - image.header) image.text_size ≡ true = lt_is (a - image.header) image.text_size (omega (arith, low, high)) in
+    let one : nat_le image.header a ≡ true = le-leb image.header a low in
+    let two : nat_lt (a - image.header) image.text_size ≡ true = lt-ltb (a - image.header) image.text_size (omega (arith, low, high)) in
     rw (one, two) refl
 
 pub candidate_is : (image : Image) (table : Symtab) (address : ℕ) (row : List ℕ) (u : SymbolAt) → candidate image table address row ≡ Some u → IsCandidate image address row × (said_by image table row ≡ u)
@@ -78,7 +78,7 @@ unfolding defined_in
 candidate_from image table address row h =
     let kind : is_defined row ≡ true = defined_from row h.no_stab h.section in
     let text : in_text image (address_in image row) ≡ true = text_from image (address_in image row) h.«from» h.to in
-    let low : nat_le (address_in image row) address ≡ true = le_is (address_in image row) address h.below in
+    let low : nat_le (address_in image row) address ≡ true = le-leb (address_in image row) address h.below in
     ap (λ (b : Bool). where_its_address (λ a. nat_le a address) (if b && in_text image (address_in image row) then Some (said_by image table row) else None)) kind
     ∙ ap (λ (b : Bool). where_its_address (λ a. nat_le a address) (if b then Some (said_by image table row) else None)) text
     ∙ rw low refl

@@ -1,11 +1,10 @@
 -- What the greatest of the symbols of rows is.
 use Rattle.std.proofs.Common.{◌≡◌, ◌≤◌, ◌<◌, ℕ, zero, suc, inl, inr, Bool, true, false, nat_lt, List, [], ◌∷◌, length, Option, Some, None, refl, sym, ap, ◌∙◌, arith}
 use Rattle.std.specs.Prelude.{if◌then◌else◌}
-use Rattle.std.proofs.lemmas.Bool.{cases_lt}
+use Rattle.std.proofs.lemmas.Bool.{cases_lt, lt-ltb, le-ltb}
 use Rattle.plcr_symbols.specs.declared.symbol.SymbolAt.{SymbolAt}
 use Rattle.plcr_symbols.specs.Symbols.{greater, greatest}
 use Rattle.plcr_symbols.specs.Laws.{row_of}
-use Rattle.plcr_symbols.proofs.Greater.{lt_is, lt_not}
 
 -- the symbol is that of the row at an index, which is the greatest, the first on a tie
 pub record IsBest (f : List ℕ → Option SymbolAt) (rows : List (List ℕ)) (i : ℕ) (u : SymbolAt) : Type 0 where
@@ -69,13 +68,13 @@ best_more f row rows (Some s) None u is h some none =
 best_more f row rows (Some s) (Some t) u is h some none =
     elim (cases_lt s.value t.value) [
       | inl lt ↦
-          let test : nat_lt s.value t.value ≡ true = lt_is s.value t.value lt in
+          let test : nat_lt s.value t.value ≡ true = lt-ltb s.value t.value lt in
           let later : ◌≡◌ {A = Option SymbolAt} (Some t) (Some u) = rw test at h in
           let same : t ≡ u = cc in
           let best = some u later in
           (suc best.0, there_best f row rows best.0 u best.1 (λ v e. let one : s ≡ v = cc in omega (arith, lt, ap (λ (x : SymbolAt). x.value) one, ap (λ (x : SymbolAt). x.value) same)))
       | inr ge ↦
-          let test : nat_lt s.value t.value ≡ false = lt_not s.value t.value ge in
+          let test : nat_lt s.value t.value ≡ false = le-ltb s.value t.value ge in
           let first : ◌≡◌ {A = Option SymbolAt} (Some s) (Some u) = rw test at h in
           let same : s ≡ u = cc in
           let best = some t refl in

@@ -2,11 +2,10 @@
 use Rattle.std.proofs.Common.{◌≡◌, ◌≤◌, ◌<◌, ◌⊎◌, ℕ, inl, inr, Bool, true, false, nat_le, nat_lt, List, [], ◌∷◌, Option, Some, None, refl, sym, ap, ◌∙◌, arith}
 use Rattle.std.specs.Prelude.{◌&&◌, if◌then◌else◌}
 use Rattle.std.specs.Option.{option_or}
-use Rattle.std.proofs.lemmas.Bool.{cases_lt}
+use Rattle.std.proofs.lemmas.Bool.{cases_lt, le-leb, lt-leb, lt-ltb, le-ltb}
 use Rattle.std.proofs.lemmas.Bool.Decides.{nat_tests}
 use Rattle.plcr_symbols.specs.declared.symbol.SymbolAt.{SymbolAt}
 use Rattle.plcr_symbols.specs.Symbols.{greater, greatest, where_its_address}
-use Rattle.plcr_symbols.proofs.Greater.{le_is, le_not, lt_is, lt_not}
 
 one_of : (a b : Option SymbolAt) (u : SymbolAt) → greater a b ≡ Some u → (a ≡ Some u) ⊎ (b ≡ Some u)
 one_of None b u h = inr h
@@ -38,13 +37,13 @@ greatest_passes test symbol (row ∷ rows) u h =
 low_first : (low : ℕ) (s : SymbolAt) (up down : Option SymbolAt) → s.value ≤ low → ((u : SymbolAt) → up ≡ Some u → low < u.value) → greater (Some s) (option_or up down) ≡ option_or up (greater (Some s) down)
 low_first low s None down le above = refl
 low_first low s (Some u) down le above =
-    let less : nat_lt s.value u.value ≡ true = lt_is s.value u.value (omega (arith, le, above u refl)) in
+    let less : nat_lt s.value u.value ≡ true = lt-ltb s.value u.value (omega (arith, le, above u refl)) in
     rw less refl
 
 up_first : (low : ℕ) (s : SymbolAt) (up down : Option SymbolAt) → low < s.value → ((d : SymbolAt) → down ≡ Some d → d.value ≤ low) → greater (Some s) (option_or up down) ≡ option_or (greater (Some s) up) down
 up_first low s None None lt below = refl
 up_first low s None (Some d) lt below =
-    let less : nat_lt s.value d.value ≡ false = lt_not s.value d.value (omega (arith, lt, below d refl)) in
+    let less : nat_lt s.value d.value ≡ false = le-ltb s.value d.value (omega (arith, lt, below d refl)) in
     rw less refl
 up_first low s (Some u) down lt below = chosen (nat_lt s.value u.value)
   where
@@ -70,20 +69,20 @@ split_here low high None up down le over under = refl
 split_here low high (Some s) up down le over under =
     elim (cases_lt low s.value) [
       | inl lt ↦
-          let more : nat_lt low s.value ≡ true = lt_is low s.value lt in
-          let not_low : nat_le s.value low ≡ false = le_not s.value low lt in
+          let more : nat_lt low s.value ≡ true = lt-ltb low s.value lt in
+          let not_low : nat_le s.value low ≡ false = lt-leb s.value low lt in
           elim (cases_lt high s.value) [
             | inl past ↦
-                let not_high : nat_le s.value high ≡ false = le_not s.value high past in
+                let not_high : nat_le s.value high ≡ false = lt-leb s.value high past in
                 rw (more, not_low, not_high) refl
             | inr within ↦
-                let is_high : nat_le s.value high ≡ true = le_is s.value high within in
+                let is_high : nat_le s.value high ≡ true = le-leb s.value high within in
                 rw (more, not_low, is_high) (up_first low s up down lt under)
           ]
       | inr at ↦
-          let not_more : nat_lt low s.value ≡ false = lt_not low s.value at in
-          let is_low : nat_le s.value low ≡ true = le_is s.value low at in
-          let is_high : nat_le s.value high ≡ true = le_is s.value high (omega (arith, at, le)) in
+          let not_more : nat_lt low s.value ≡ false = le-ltb low s.value at in
+          let is_low : nat_le s.value low ≡ true = le-leb s.value low at in
+          let is_high : nat_le s.value high ≡ true = le-leb s.value high (omega (arith, at, le)) in
           rw (not_more, is_low, is_high) (low_first low s up down at over)
     ]
 

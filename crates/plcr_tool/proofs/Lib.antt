@@ -1,7 +1,11 @@
 pub mod Captured
 pub mod Completed
+pub mod CoreStates
 pub mod Ended
+pub mod Fitting
+pub mod Headlined
 pub mod Shown
+pub mod Statused
 pub mod Stored
 pub mod Threaded
 pub mod Written

@@ -47,7 +47,7 @@ piece_there m a (suc n) xs bytes h =
     let small = known (λ b. b < 256) (byte_at m a) p.0 p.2 (among_small m.file m.regions a bytes) in
     subst (IsPiece (suc n)) (sym p.4) (record { length = ap (λ k. suc k) rest.length; bytes = front_bytes p.0 p.1 small rest.bytes })
 
-dropped_bytes : (n : ℕ) (xs : List ℕ) → IsBytes xs → IsBytes (drop n xs)
+pub dropped_bytes : (n : ℕ) (xs : List ℕ) → IsBytes xs → IsBytes (drop n xs)
 dropped_bytes n xs bytes i = subst (λ x. x < 256) (sym (get_or-drop n xs i 0)) (bytes (n + i))
 
 of_four : (a b c d : ℕ) → a < 256 → b < 256 → c < 256 → d < 256 → a + 256 * (b + 256 * (c + 256 * (d + 256 * 0))) < 2 ^ 32

@@ -34,7 +34,7 @@ use Rattle.plcr_encode.proofs.Named.{mapped_length}
 use Rattle.plcr_tool.specs.Laws.{IsHandedState, AreHandedStates, IsHandedSymbol, IsHandedFrame, IsHandedRegister, IsHandedThread, AreHandedThreads}
 
 -- what holds of each that a function gives
-all_mapped : {A B : Type 0} (P : B → Type 0) (f : A → B) → ((x : A) → P (f x)) → (xs : List A) → AllByRecursion P (map f xs)
+pub all_mapped : {A B : Type 0} (P : B → Type 0) (f : A → B) → ((x : A) → P (f x)) → (xs : List A) → AllByRecursion P (map f xs)
 all_mapped P f holds [] = tt
 all_mapped P f holds (x ∷ xs) = (holds x, all_mapped P f holds xs)
 

@@ -1,4 +1,5 @@
--- What is handed in for a report: each number has the width of its type, and names and uuids have lawful lengths.
+-- What is handed in for a report: each number has the width of its type, and names and uuids have
+-- lawful lengths.
 use Rattle.std.specs.Prelude.{◌≡◌, ◌^◌, ◌<◌, ◌≤◌, List, length, All, IfSome}
 use Rattle.std.specs.List.{AllByRecursion}
 use Rattle.plcr_base.specs.Limits.{IsImageName}

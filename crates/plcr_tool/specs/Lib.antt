@@ -1,7 +1,9 @@
 pub mod Complete
+pub mod Headline
 pub mod Laws
 pub mod Past
 pub mod Report
 pub mod Show
+pub mod Statuses
 pub mod Top
 pub mod inner

@@ -9,9 +9,10 @@ use Rattle.plcr_command.specs.Jobs.{IsJob}
 use Rattle.plcr_command.specs.Process.{meanings_of}
 use Rattle.plcr_command.specs.Endings.{HasRead}
 use Rattle.plcr_run.specs.Past.{LeavesWhole, LeavesPart}
+use Rattle.plcr_maker.specs.Make.{MakeLeaves}
 use Rattle.plcr_tool.specs.declared.report.TheConstants.{ALONE}
 use Rattle.plcr_tool.specs.Report.{report_files}
-use Rattle.plcr_tool.specs.Top.{Form, Report, Show, Usage, form_of}
+use Rattle.plcr_tool.specs.Top.{Form, Report, Show, Make, Usage, form_of}
 
 -- the job has one script, and this is known of the writer that its run on the core left
 pub record Left (Leaves : Meanings → ScriptValue → Option WriterState → Type 0) (past : Option WriterState) (job : Job) : Type 0 where
@@ -20,10 +21,13 @@ pub record Left (Leaves : Meanings → ScriptValue → Option WriterState → Ty
   pub leaves : Leaves (meanings_of job.core script) script past
 
 -- the same of the job that the files of the words hold
-abbrev pub FilesLeft : (Meanings → ScriptValue → Option WriterState → Type 0) → List ℕ → List ℕ → Seen → Seen → Option WriterState → Type 0
-FilesLeft Leaves core script old new past = HasRead (IsJob ALONE) (report_files core script) (λ job old new. Left Leaves past job) old new
+abbrev pub FilesLeft : (Meanings → ScriptValue → Option WriterState → Type 0)
+    → (core script : List ℕ) → (old new : Seen) → Option WriterState → Type 0
+FilesLeft Leaves core script old new past =
+    HasRead (IsJob ALONE) (report_files core script) (λ job old new. Left Leaves past job) old new
 
--- What `report CORE SCRIPT` leaves, by its status: the writer of the list that was opened for the run, which has met each pass of that list, and what has happened there; or none
+-- What `report CORE SCRIPT` leaves, by its status: the writer of the list that was opened for the
+-- run, which has met each pass of that list, and what has happened there; or none
 pub record ReportLeaves (core script : List ℕ) (old new : Seen) (past : Option WriterState) (status : ℕ) : Type 0 where
   -- just what the script means
   pub done : status ≡ 0 → FilesLeft LeavesWhole core script old new past
@@ -35,6 +39,7 @@ pub record ReportLeaves (core script : List ℕ) (old new : Seen) (past : Option
 abbrev pub FormLeaves : Form → Seen → Seen → Option WriterState → ℕ → Type 0
 FormLeaves (Report core script) old new past status = ReportLeaves core script old new past status
 FormLeaves (Show report) old new past status = past ≡ None
+FormLeaves (Make images core script) old new past status = MakeLeaves images past status
 FormLeaves Usage old new past status = past ≡ None
 
 -- what the program leaves for its words

@@ -24,7 +24,9 @@ pub record Ran (Ends : List NumberedTurn → Seen → Seen → Type 0) (job : Jo
 
 -- what `report CORE SCRIPT` did, where it ended so
 abbrev pub Reports : List ℕ → List ℕ → Seen → Seen → Ending → Type 0
-Reports core script old new ending = Did (IsJob ALONE) (JobMisread ALONE) (report_files core script) (Ran IsDone) (Ran IsStopped) old new ending
+Reports core script old new ending =
+    Did (IsJob ALONE) (JobMisread ALONE) (report_files core script) (Ran IsDone) (Ran IsStopped)
+        old new ending
 
 -- what `report CORE SCRIPT` does
 abbrev pub ReportDoes : List ℕ → List ℕ → Seen → Seen → ℕ → Type 0

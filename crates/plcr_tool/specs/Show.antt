@@ -54,7 +54,8 @@ pub record IsCut (value : Report) (old new : Seen) : Type 0 where
 
 -- what `show REPORT` did, where it ended so
 abbrev pub Shows : List ℕ → Seen → Seen → Ending → Type 0
-Shows report old new ending = Did IsReport ReportMisread (shown_files report) IsPrinted IsCut old new ending
+Shows report old new ending =
+    Did IsReport ReportMisread (shown_files report) IsPrinted IsCut old new ending
 
 -- what `show REPORT` does
 abbrev pub ShowDoes : List ℕ → Seen → Seen → ℕ → Type 0

@@ -1,11 +1,13 @@
 -- The words of the command line: the command that they choose, and what the program does for them.
-use Rattle.std.specs.Prelude.{◌≡◌, ℕ, List, [], ◌∷◌, codes, if◌then◌else◌}
+use Rattle.std.specs.Prelude.{◌≡◌, ℕ, List, [], ◌∷◌, Option, Some, None, codes, if◌then◌else◌}
 use Rattle.std.specs.Str.{bytes_eq}
 use Rattle.plcr_base.specs.Told.{Prints}
 use Rattle.plcr_command.specs.declared.endings.Ending.{Ending}
 use Rattle.plcr_command.specs.declared.endings.Ending.TheVariants.{Misused}
 use Rattle.plcr_command.specs.Seen.{Seen}
 use Rattle.plcr_command.specs.Endings.{Ended}
+use Rattle.plcr_maker.specs.Numerals.{images_in}
+use Rattle.plcr_maker.specs.Make.{Makes}
 use Rattle.plcr_tool.specs.Report.{Reports}
 use Rattle.plcr_tool.specs.Show.{Shows}
 
@@ -13,12 +15,19 @@ use Rattle.plcr_tool.specs.Show.{Shows}
 pub data Form : Type 0 where
   Report : (core script : List ℕ) → Form
   Show : (report : List ℕ) → Form
+  Make : (images : ℕ) → (core script : List ℕ) → Form
   Usage : Form
 
--- `report CORE SCRIPT`, `show REPORT`, and nothing else
+-- `make` of so many images, where the word tells how many
+abbrev pub make_form : Option ℕ → (core script : List ℕ) → Form
+make_form None core script = Usage
+make_form (Some images) core script = Make images core script
+
+-- `report CORE SCRIPT`, `show REPORT`, `make N CORE SCRIPT`, and nothing else
 abbrev pub form_of : List (List ℕ) → Form
 form_of (word ∷ report ∷ []) = if bytes_eq word (codes "show") then Show report else Usage
 form_of (word ∷ core ∷ script ∷ []) = if bytes_eq word (codes "report") then Report core script else Usage
+form_of (word ∷ number ∷ core ∷ script ∷ []) = if bytes_eq word (codes "make") then make_form (images_in number) core script else Usage
 form_of words = Usage
 
 -- the command forms, in one line
@@ -34,6 +43,7 @@ pub record IsMisused (old new : Seen) : Type 0 where
 abbrev pub Does : Form → Seen → Seen → Ending → Type 0
 Does (Report core script) old new ending = Reports core script old new ending
 Does (Show report) old new ending = Shows report old new ending
+Does (Make images core script) old new ending = Makes images core script old new ending
 Does Usage old new Misused = IsMisused old new
 Does Usage old new ending = ⊥
 

@@ -1,5 +1,6 @@
-//! Where the desk tells its files, they are within their limits and no count of faults rises, a command
-//! does all of its work or wants memory; and a status that refuses a file comes exactly where it is refused.
+//! Where the desk tells its files, they are within their limits and no count of faults rises, a
+//! command does all of its work or wants memory; and a status that refuses a file comes exactly
+//! where it is refused.
 ghost use Rattle.plcr_tool.specs.Complete.{
   ReportsAreComplete,
   CoreRefusalsAreExact,
@@ -12,10 +13,11 @@ ghost use Rattle.plcr_tool.specs.Complete.{
   WordsShow,
 };
 
-/// On a core and a script that can be taken, `report` has status 0 with all files and lines, or 7, where no
-/// output and no line fails. Where they can be taken, status 3 comes exactly for what is no core and 4 for
-/// what is no script behind a core, but for want of memory. The first file that is too long is refused with
-/// status 2 and its line, but for want of memory, where the files before it can be taken and no take fails.
+/// On a core and a script that can be taken, `report` has status 0 with all files and lines, or 7,
+/// where no output and no line fails. Where they can be taken, status 3 comes exactly for what is
+/// no core and 4 for what is no script behind a core, but for want of memory. The first file that
+/// is too long is refused with status 2 and its line, but for want of memory, where the files
+/// before it can be taken and no take fails.
 pub fn reports_are_complete()
     ensures complete { ReportsAreComplete }
     ensures no_core { CoreRefusalsAreExact }
@@ -24,9 +26,10 @@ pub fn reports_are_complete()
     ensures words { WordsReport }
 {}
 
-/// On a report that can be taken, `show` has status 0 with its text, or 7, where no line fails. Where the
-/// file can be taken, status 6 comes exactly for what is no report, but for want of memory. One that is too
-/// long is refused with status 2 and its line, but for want of memory, where its take doesn't fail.
+/// On a report that can be taken, `show` has status 0 with its text, or 7, where no line fails.
+/// Where the file can be taken, status 6 comes exactly for what is no report, but for want of
+/// memory. One that is too long is refused with status 2 and its line, but for want of memory,
+/// where its take doesn't fail.
 pub fn shown_reports_are_complete()
     ensures complete { ShownReportsAreComplete }
     ensures no_report { ReportRefusalsAreExact }

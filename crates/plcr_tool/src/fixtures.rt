@@ -1,13 +1,14 @@
 //! What the tests share: a core, its report, and desks and sinks in memory.
 
-ghost use Rattle.std.specs.Prelude.{◌≡◌, ◌+◌, ◌*◌, ◌<◌};
+ghost use Rattle.std.specs.Prelude.{◌≡◌, ◌+◌, ◌*◌, ◌<◌, ◌≤◌};
 
 use plcr_io::{MemDesk, MemFile, MemOut, NoMemory};
 use plcr_regs::Arch;
 use std::alloc::{AllocError, Global};
 use std::test::Fail;
 
-/// The report of one x86-64 thread, which was stopped with rsp 0x7000 and rip 0x100000f50, all else 0.
+/// The report of one x86-64 thread, which was stopped with rsp 0x7000 and rip 0x100000f50, all else
+/// 0.
 pub const REPORT: [u8; 271] = [
     0x70, 0x6c, 0x63, 0x72, 0x61, 0x73, 0x68, 0x01, 0x0a, 0x09, 0x08, 0x00, 0x12, 0x01, 0x30, 0x18,
     0x01, 0x20, 0x00, 0x12, 0x08, 0x0a, 0x03, 0x61, 0x70, 0x70, 0x12, 0x01, 0x31, 0x1a, 0xcd, 0x01,
@@ -28,8 +29,8 @@ pub const REPORT: [u8; 271] = [
     0x0a, 0x03, 0x61, 0x70, 0x70, 0x10, 0x00, 0x28, 0x00, 0x30, 0x01, 0x4a, 0x02, 0x08, 0x00,
 ];
 
-/// What is changed in a core of one segment at 0x7000 and one thread. With images it has eight, 0x4000 apart from
-/// 0x100000000 on.
+/// What is changed in a core of one segment at 0x7000 and one thread. With images it has eight,
+/// 0x4000 apart from 0x100000000 on.
 #[derive(Clone, Copy, Debug)]
 pub enum Core {
     Whole,
@@ -64,24 +65,26 @@ fn add_segment(bytes: &mut Vec<u8>, start: u64, size: u64) -> Result<(), AllocEr
 
 /// The address of an image.
 fn image_at(k: u32) -> u64
-    requires { k < 8 }
+    requires { k < 400 }
     ensures { result ≡ 4294967296 + 16384 * k }
 {
     0x1_0000_0000 + 0x4000 * u64::from(k)
 }
 
-/// The segment of an image, whose 128 bytes stand behind the load commands.
-fn add_image_segment(bytes: &mut Vec<u8>, k: u32) -> Result<(), AllocError>
-    requires { k < 8 }
+/// The segment of an image. The 128 bytes of each stand behind those of the one before, from a
+/// place on.
+fn add_image_segment(bytes: &mut Vec<u8>, start: u32, k: u32) -> Result<(), AllocError>
+    requires { k < 400 }
 {
+    let place = u64::from(start) + 128 * u64::from(k);
     add_u32s(bytes, &[0x19, 72, 0, 0, 0, 0])?;
-    add_u64s(bytes, &[image_at(k), 0x4000, 864 + 128 * u64::from(k), 128])?;
+    add_u64s(bytes, &[image_at(k), 0x4000, place, 128])?;
     add_u32s(bytes, &[5, 5, 0, 0])
 }
 
 /// An image: a header, a segment `__TEXT` and a uuid that ends with its number.
 fn add_image(bytes: &mut Vec<u8>, k: u32) -> Result<(), AllocError>
-    requires { k < 8 }
+    requires { k < 400 }
 {
     add_u32s(bytes, &[0xfeed_facf, 0x0100_0007, 3, 6, 2, 96, 0, 0])?;
     add_u32s(bytes, &[0x19, 72, 0x4554_5f5f, 0x5458, 0, 0])?;
@@ -109,18 +112,13 @@ fn core_bytes(alloc: Global, core: Core) -> Result<Vec<u8>, AllocError> {
         Core::Executable => (2, 2, 256),
         Core::Overlapping | Core::Wrapping => (4, 3, 328),
         Core::WithoutThread => (4, 1, 72),
-        Core::WithImages => (4, 10, 832),
+        Core::WithImages => return image_core(alloc, 8, 1),
         _ => (4, 2, 256),
     };
     add_u32s(
         &mut bytes,
         &[0xfeed_facf, 0x0100_0007, 3, filetype, commands, size, 0, 0],
     )?;
-    if matches!(core, Core::WithImages) {
-        for k in 0..8 {
-            add_image_segment(&mut bytes, k)?;
-        }
-    }
     add_segment(&mut bytes, 0x7000, 0x1000)?;
     match core {
         Core::Overlapping => add_segment(&mut bytes, 0x7800, 0x1000)?,
@@ -131,19 +129,36 @@ fn core_bytes(alloc: Global, core: Core) -> Result<Vec<u8>, AllocError> {
         Core::WithoutThread => {}
         _ => add_thread(&mut bytes)?,
     }
-    if matches!(core, Core::WithImages) {
-        for k in 0..8 {
-            add_image(&mut bytes, k)?;
-        }
-    }
     if matches!(core, Core::Cut) {
         bytes.truncate(100);
     }
     Ok(bytes)
 }
 
-/// The registers of a thread that was stopped with this pc and this frame pointer, and with its stack at 0x7000, all
-/// else 0.
+/// A core of so many images and of so many threads, all in one state, with a segment at 0x7000.
+pub fn image_core(alloc: Global, images: u32, threads: u32) -> Result<Vec<u8>, AllocError>
+    requires { (images ≤ 400) × (threads ≤ 16) }
+{
+    let mut bytes = Vec::new(alloc);
+    let commands = images + 1 + threads;
+    let size = 72 * (images + 1) + 184 * threads;
+    let head = [0xfeed_facf, 0x0100_0007, 3, 4, commands, size, 0, 0];
+    add_u32s(&mut bytes, &head)?;
+    for k in 0..images {
+        add_image_segment(&mut bytes, 32 + size, k)?;
+    }
+    add_segment(&mut bytes, 0x7000, 0x1000)?;
+    for _ in 0..threads {
+        add_thread(&mut bytes)?;
+    }
+    for k in 0..images {
+        add_image(&mut bytes, k)?;
+    }
+    Ok(bytes)
+}
+
+/// The registers of a thread that was stopped with this pc and this frame pointer, and with its
+/// stack at 0x7000, all else 0.
 fn add_registers(bytes: &mut Vec<u8>, arch: Arch, pc: u64, fp: u64) -> Result<(), AllocError> {
     let (count, places) = match arch {
         Arch::X86_64 => (21, [6, 7, 16]),
@@ -161,8 +176,8 @@ fn add_registers(bytes: &mut Vec<u8>, arch: Arch, pc: u64, fp: u64) -> Result<()
     Ok(())
 }
 
-/// A core of one thread with this pc and this frame pointer. These words stand at 0x7100; without any, a segment at
-/// 0x7000 has no file bytes.
+/// A core of one thread with this pc and this frame pointer. These words stand at 0x7100; without
+/// any, a segment at 0x7000 has no file bytes.
 pub fn thread_core(
     alloc: Global,
     arch: Arch,
@@ -191,8 +206,15 @@ pub fn thread_core(
     Ok(bytes)
 }
 
-/// A desk with the core `c` of these bytes and the script `s`, and one output.
-pub fn desk_with(alloc: Global, core: Vec<u8>, script: &[u8]) -> Result<MemDesk, Fail> {
+/// A desk with the core `c` of these bytes and the script `s`, and three outputs of so much room;
+/// the puts of these numbers to the first of them fail.
+pub fn desk_of(
+    alloc: Global,
+    core: Vec<u8>,
+    script: &[u8],
+    room: usize,
+    puts: Vec<u32>,
+) -> Result<MemDesk, Fail> {
     let core = MemFile {
         name: String::from_str(alloc, "c")?,
         bytes: core,
@@ -201,13 +223,16 @@ pub fn desk_with(alloc: Global, core: Vec<u8>, script: &[u8]) -> Result<MemDesk,
         name: String::from_str(alloc, "s")?,
         bytes: Vec::from_slice(alloc, script)?,
     };
-    let out = MemOut::new(alloc, 20_000, 300, Vec::new(alloc))?;
+    let one = MemOut::new(alloc, room, 300, puts)?;
+    let two = MemOut::new(alloc, room, 300, Vec::new(alloc))?;
+    let three = MemOut::new(alloc, room, 300, Vec::new(alloc))?;
     let files = vec![in alloc; core, script]?;
-    Ok(MemDesk::new(alloc, files, vec![in alloc; out]?, Vec::new(alloc))?)
+    let outs = vec![in alloc; one, two, three]?;
+    Ok(MemDesk::new(alloc, files, outs, Vec::new(alloc))?)
 }
 
-/// A desk with the core `c` and the script `s`, and two outputs; its calls of these numbers fail, and the
-/// puts of those numbers to the second output.
+/// A desk with the core `c` and the script `s`, and two outputs; its calls of these numbers fail,
+/// and the puts of those numbers to the second output.
 pub fn desk(
     alloc: Global,
     core: Core,

@@ -1,4 +1,4 @@
-use crate::fixtures::{desk_with, lines, thread_core};
+use crate::fixtures::{desk_of, lines, thread_core};
 use crate::report::report_command;
 use plcr_decode::decode;
 use plcr_regs::Arch;
@@ -13,7 +13,7 @@ fn an_arm64_thread_is_reported(rt: HostRuntime) -> Result<(), Fail> {
     let alloc = rt.alloc();
     let core = thread_core(alloc, Arch::Arm64, PC, 0, &[])?;
     assert_eq!(rt; core.len(), 392);
-    let mut desk = desk_with(alloc, core, b"report 0 a\n")?;
+    let mut desk = desk_of(alloc, core, b"report 0 a\n", 20_000, Vec::new(alloc))?;
     let mut lines = lines(alloc)?;
     assert_eq!(rt;
         report_command(alloc, "c", "s", &mut desk, &mut lines, &mut None),
@@ -23,14 +23,15 @@ fn an_arm64_thread_is_reported(rt: HostRuntime) -> Result<(), Fail> {
     Ok(())
 }
 
-// Behind the thread's number stand its frames: that of the state, and 0x2000. The one behind it is at 4,096. Against the
-// report of the same thread without a frame pointer, there are 5 bytes more for the frame, and 2 for the frame pointer.
+// Behind the thread's number stand its frames: that of the state, and 0x2000. The one behind it is
+// at 4,096. Against the report of the same thread without a frame pointer, there are 5 bytes more
+// for the frame, and 2 for the frame pointer.
 #[test]
 fn the_bytes_of_frames(rt: HostRuntime) -> Result<(), Fail> {
     let alloc = rt.alloc();
     let words = [0x7120, 0x2000, 0, 0, 0, 0x1000];
     let core = thread_core(alloc, Arch::Arm64, PC, 0x7100, &words)?;
-    let mut desk = desk_with(alloc, core, b"report 0 a\n")?;
+    let mut desk = desk_of(alloc, core, b"report 0 a\n", 20_000, Vec::new(alloc))?;
     let mut lines = lines(alloc)?;
     assert_eq!(rt;
         report_command(alloc, "c", "s", &mut desk, &mut lines, &mut None),
@@ -47,7 +48,8 @@ fn the_bytes_of_frames(rt: HostRuntime) -> Result<(), Fail> {
     Ok(())
 }
 
-// The pcs of the frames of the one thread in the report of this core, and the value of its register `pc`.
+// The pcs of the frames of the one thread in the report of this core, and the value of its register
+// `pc`.
 fn frames_told(
     alloc: Global,
     arch: Arch,
@@ -56,7 +58,7 @@ fn frames_told(
     words: &[u64],
 ) -> Result<(Vec<u64>, Option<u64>), Fail> {
     let core = thread_core(alloc, arch, pc, 0x7100, words)?;
-    let mut desk = desk_with(alloc, core, script)?;
+    let mut desk = desk_of(alloc, core, script, 20_000, Vec::new(alloc))?;
     let mut lines = lines(alloc)?;
     let status = report_command(alloc, "c", "s", &mut desk, &mut lines, &mut None);
     if status != 0 {
@@ -89,8 +91,9 @@ const PLAIN_BITS: &[u8] = b"report 0 a\n";
 
 const BITS_47: &[u8] = b"set bits 47\nreport 0 a\n";
 
-// Frames end where the next frame pointer doesn't rise, where it isn't mapped, and at the null page. What of an address
-// of code counts is told by `bits`, on arm64 alone; the register stays as it is.
+// Frames end where the next frame pointer doesn't rise, where it isn't mapped, and at the null
+// page. What of an address of code counts is told by `bits`, on arm64 alone; the register stays as
+// it is.
 #[test]
 fn frames_by_saved_frame_pointers(rt: HostRuntime) -> Result<(), Fail> {
     let alloc = rt.alloc();

@@ -101,7 +101,8 @@ fn values_stand_in_reports(rt: HostRuntime) -> Result<(), Fail> {
     Ok(())
 }
 
-// What is kept is shown: the values stand in the lines of the system and of the process, whose space is spelt out.
+// What is kept is shown: the values stand in the lines of the system and of the process, whose
+// space is spelt out.
 #[test]
 fn values_are_shown(rt: HostRuntime) -> Result<(), Fail> {
     let alloc = rt.alloc();

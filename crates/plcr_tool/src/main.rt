@@ -9,10 +9,15 @@ mod frame_tests;
 #[cfg(test)]
 mod image_tests;
 mod laws;
+#[cfg(test)]
+mod long_tests;
 mod report;
+#[cfg(test)]
+mod run_tests;
 mod show;
 #[cfg(test)]
 mod show_tests;
+mod statuses;
 #[cfg(test)]
 mod tests;
 mod top;
@@ -43,8 +48,8 @@ fn main(rt: HostRuntime) -> ExitCode {
     ))
 }
 
-/// The words behind the program's name. An error that isn't want of memory, as for a word that isn't text,
-/// stands for words that fit no form.
+/// The words behind the program's name. An error that isn't want of memory, as for a word that
+/// isn't text, stands for words that fit no form.
 fn words(rt: &HostRuntime) -> io::Result<Vec<String>> {
     let mut words = Vec::new(rt.alloc());
     for word in env::args(rt)?.skip(1) {

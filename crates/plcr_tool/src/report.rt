@@ -2,11 +2,11 @@
 ghost use Rattle.std.specs.Prelude.{◌≡◌, [], ◌∷◌, None, length};
 ghost use Rattle.plcr_command.specs.Seen.{seen};
 ghost use Rattle.plcr_command.specs.Jobs.{IsLawfulJob};
-ghost use Rattle.plcr_command.specs.Endings.{Goes};
-ghost use Rattle.plcr_command.specs.inner.Endings.{GoesOn};
+ghost use Rattle.plcr_command.specs.Endings.{Goes, GoesOn};
+ghost use Rattle.plcr_tool.specs.Headline.{ReportsTellTruly};
 ghost use Rattle.plcr_tool.specs.Past.{ReportLeaves};
 ghost use Rattle.plcr_tool.specs.Report.{ReportDoes, Reports};
-ghost use Rattle.plcr_tool.specs.inner.Report.{Leaves, RunEnds};
+ghost use Rattle.plcr_tool.specs.inner.Report.{Leaves, RunEnds, TrulyBy};
 
 use plcr_command::{CoreProcess, Ending, Job, Modes, read_job, refuse, status};
 use plcr_imagelist::Writer;
@@ -21,11 +21,11 @@ const ALONE: Modes = Modes {
     later: Mode::Single,
 };
 
-/// Runs a script on a core: keeps each report that it asks for, and prints the log. Gives the status:
-/// 0 done, 2 a file couldn't be taken, 3 no core, 4 no script, 5 a file not kept or a line not printed,
-/// 7 want of memory. All memory is taken before the first output is made and the first line printed.
-/// At 0 and 5 it leaves the writer of the image list that it opened in `past`, after each pass of that
-/// list has met it.
+/// Runs a script on a core: keeps each report that it asks for, and prints the log. Gives the
+/// status: 0 done, 2 a file couldn't be taken, 3 no core, 4 no script, 5 a file not kept or a line
+/// not printed, 7 want of memory. All memory is taken before the first output is made and the first
+/// line printed. At 0 and 5 it leaves the writer of the image list that it opened in `past`, after
+/// each pass of that list has met it.
 pub fn report_command<D: Desk, L: Sink>(
     alloc: Global,
     core: &str,
@@ -39,6 +39,9 @@ pub fn report_command<D: Desk, L: Sink>(
         (seen (D.told desk.old) (L.written lines.old) (L.faults lines.old))
         (seen (D.told desk.new) (L.written lines.new) (L.faults lines.new)) result }
     ensures past { ReportLeaves core.now script.now
+        (seen (D.told desk.old) (L.written lines.old) (L.faults lines.old))
+        (seen (D.told desk.new) (L.written lines.new) (L.faults lines.new)) past.new result }
+    ensures headline { ReportsTellTruly core.now script.now
         (seen (D.told desk.old) (L.written lines.old) (L.faults lines.old))
         (seen (D.told desk.new) (L.written lines.new) (L.faults lines.new)) past.new result }
     ensures mark { L.mark lines.new ≡ L.mark lines.old }
@@ -59,6 +62,9 @@ fn report<'a, D: Desk, L: Sink>(
         (seen (D.told desk.old) (L.written lines.old) (L.faults lines.old))
         (seen (D.told desk.new) (L.written lines.new) (L.faults lines.new)) result }
     ensures leaves { Leaves core.now script.now
+        (seen (D.told desk.old) (L.written lines.old) (L.faults lines.old))
+        (seen (D.told desk.new) (L.written lines.new) (L.faults lines.new)) past.new result }
+    ensures truly { TrulyBy core.now script.now
         (seen (D.told desk.old) (L.written lines.old) (L.faults lines.old))
         (seen (D.told desk.new) (L.written lines.new) (L.faults lines.new)) past.new result }
     ensures goes { Goes

@@ -13,9 +13,9 @@ use plcr_io::{Desk, PutFailed, Sink};
 use plcr_report::Report;
 use std::alloc::Global;
 
-/// Prints the text of a report. Gives the status: 0 done, 2 the file couldn't be taken, 5 the text wasn't
-/// printed whole, 6 no report, 7 want of memory. All memory is taken before the first line is printed, and
-/// nothing is made.
+/// Prints the text of a report. Gives the status: 0 done, 2 the file couldn't be taken, 5 the text
+/// wasn't printed whole, 6 no report, 7 want of memory. All memory is taken before the first line
+/// is printed, and nothing is made.
 pub fn show_command<D: Desk, L: Sink>(
     alloc: Global,
     report: &str,

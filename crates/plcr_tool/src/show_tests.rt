@@ -48,8 +48,8 @@ fn desk(alloc: Global, bytes: Vec<u8>, failing: u32) -> Result<MemDesk, Fail> {
     Ok(MemDesk::new(alloc, files, Vec::new(alloc), failing)?)
 }
 
-/// What `show` answers and prints for this file, to a sink whose put of this number fails and which takes so
-/// many bytes a put.
+/// What `show` answers and prints for this file, to a sink whose put of this number fails and which
+/// takes so many bytes a put.
 fn shown(alloc: Global, bytes: &[u8], most: usize, failing: u32) -> Result<(u8, MemOut), Fail> {
     let mut desk = desk(alloc, Vec::from_slice(alloc, bytes)?, 0)?;
     let mut lines = MemOut::new(alloc, 2000, most.max(1), vec![in alloc; failing]?)?;
@@ -57,8 +57,8 @@ fn shown(alloc: Global, bytes: &[u8], most: usize, failing: u32) -> Result<(u8, 
     Ok((status, lines))
 }
 
-/// The report of one thread in other words: its last field first, a field that isn't known, the system in two
-/// parts, and the application's version twice, the last of which counts.
+/// The report of one thread in other words: its last field first, a field that isn't known, the
+/// system in two parts, and the application's version twice, the last of which counts.
 fn in_other_words(alloc: Global) -> Result<Vec<u8>, AllocError> {
     let mut bytes = Vec::from_slice(alloc, &REPORT[..8])?;
     bytes.extend_from_slice(&[0x4a, 0x02, 0x08, 0x00])?;
@@ -133,7 +133,8 @@ fn names_the_fault(rt: HostRuntime) -> Result<(), Fail> {
     Ok(())
 }
 
-/// The line for the first so many bytes of the report of one thread; the text where they are a report.
+/// The line for the first so many bytes of the report of one thread; the text where they are a
+/// report.
 fn cut_line(alloc: Global, n: usize) -> Result<String, AllocError> {
     match n {
         0..=6 => String::from_str(alloc, "report magic\n"),

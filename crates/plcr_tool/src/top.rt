@@ -2,6 +2,7 @@
 ghost use Rattle.std.specs.Prelude.{◌≡◌, ◌≤◌, None, map, string_bytes};
 ghost use Rattle.plcr_base.specs.Told.{Prints};
 ghost use Rattle.plcr_command.specs.Seen.{seen};
+ghost use Rattle.plcr_tool.specs.Headline.{TopTellsTruly};
 ghost use Rattle.plcr_tool.specs.Past.{TopLeaves};
 ghost use Rattle.plcr_tool.specs.Top.{TopDoes, usage_line};
 
@@ -10,15 +11,16 @@ use crate::show::show_command;
 use plcr_command::{Ending, print_line, status};
 use plcr_imagelist::Writer;
 use plcr_io::{Desk, Sink};
+use plcr_maker::{images_of, make_command};
 use std::alloc::Global;
 
 /// The command forms, as the usage line tells them.
 const USAGE: &[u8] =
     b"usage: report CORE SCRIPT / show REPORT / make N CORE SCRIPT / threads CORE SCRIPT...\n";
 
-/// Does what the words of the command line ask for, on a desk and a sink for its lines, and gives the
-/// status: that of the command, or 1, behind the usage line, exactly where the words fit no form. A command
-/// that runs scripts leaves the writer of its image list in `past`.
+/// Does what the words of the command line ask for, on a desk and a sink for its lines, and gives
+/// the status: that of the command, or 1, behind the usage line, exactly where the words fit no
+/// form. A command that runs scripts leaves the writer of its image list in `past`.
 pub fn top<D: Desk, L: Sink>(
     alloc: Global,
     words: &[String],
@@ -31,6 +33,9 @@ pub fn top<D: Desk, L: Sink>(
         (seen (D.told desk.old) (L.written lines.old) (L.faults lines.old))
         (seen (D.told desk.new) (L.written lines.new) (L.faults lines.new)) result }
     ensures past { TopLeaves (map string_bytes words.now)
+        (seen (D.told desk.old) (L.written lines.old) (L.faults lines.old))
+        (seen (D.told desk.new) (L.written lines.new) (L.faults lines.new)) past.new result }
+    ensures headline { TopTellsTruly (map string_bytes words.now)
         (seen (D.told desk.old) (L.written lines.old) (L.faults lines.old))
         (seen (D.told desk.new) (L.written lines.new) (L.faults lines.new)) past.new result }
     ensures mark { L.mark lines.new ≡ L.mark lines.old }
@@ -46,6 +51,18 @@ pub fn top<D: Desk, L: Sink>(
         [word, core, script] => {
             if word.as_str() == "report" {
                 report_command(alloc, core.as_str(), script.as_str(), desk, lines, past)
+            } else {
+                misused(lines)
+            }
+        }
+        [word, number, core, script] => {
+            if word.as_str() == "make" {
+                match images_of(number.as_str()) {
+                    Some(n) => {
+                        make_command(alloc, n, core.as_str(), script.as_str(), desk, lines, past)
+                    }
+                    None => misused(lines),
+                }
             } else {
                 misused(lines)
             }

@@ -1,10 +1,10 @@
 -- What is read as a field is its spelling, long or short as its varints may be, and whatever spells a field is read as it.
-use Rattle.std.proofs.Common.{◌≡◌, inl, inr, ℕ, zero, suc, ◌+◌, ◌-◌, ◌*◌, ◌/◌, ◌%◌, ◌^◌, ◌<◌, ◌≤◌, ◌||◌, List, [], ◌∷◌, ◌++◌, length, take, drop, get_or, Option, Some, None, Result, Ok, Err, Bool, true, false, cond, nat_lt, eqb, refl, sym, ap, subst, ◌∙◌, append_assoc, length-append, length-take, take-append-drop, arith}
+use Rattle.std.proofs.Common.{◌≡◌, inl, inr, ℕ, zero, suc, ◌+◌, ◌-◌, ◌*◌, ◌/◌, ◌%◌, ◌^◌, ◌<◌, ◌||◌, List, [], ◌∷◌, ◌++◌, length, take, drop, Option, Some, None, Ok, Err, Bool, true, false, cond, nat_lt, refl, sym, ap, subst, ◌∙◌, length-append, length-take, take-append-drop, arith}
 use Rattle.std.proofs.lemmas.Bool.{cases_lt}
 use Rattle.std.proofs.lemmas.Bool.Decides.{nat_tests}
 use Rattle.std.proofs.lemmas.List.{take_at, drop_at}
 use Rattle.std.proofs.lemmas.Nat.{le_bytes_4, le_bytes_8}
-use Rattle.std.specs.Int.{w32, w64, byte_len, to_le_bytes, from_le_bytes}
+use Rattle.std.specs.Int.{w32, w64, to_le_bytes}
 use Rattle.plcr_base.specs.Bytes.{IsBytes}
 use Rattle.plcr_base.specs.Chains.{◌>>=◌}
 use Rattle.plcr_base.proofs.Chained.{bind_ok}
@@ -16,7 +16,7 @@ use Rattle.plcr_wire.specs.declared.fields.WireFault.TheVariants.{Truncated}
 use Rattle.plcr_wire.specs.declared.wires.Wire.{Wire}
 use Rattle.plcr_wire.specs.declared.wires.Wire.TheVariants as wires
 use Rattle.plcr_wire.proofs.Varints.{below, above}
-use Rattle.plcr_wire.proofs.Places.{chosen, ok_is, field_steps}
+use Rattle.plcr_wire.proofs.Places.{ok_is, field_steps}
 use Rattle.plcr_wire.proofs.ReadVarints.{number_was, number_reads}
 use Rattle.plcr_wire.proofs.ReadAgain.{fixed32_again, fixed64_again, wire_again, wire_small}
 

@@ -1,5 +1,5 @@
 -- How long a varint is, by the logarithm of its number.
-use Rattle.std.proofs.Common.{◌≡◌, ℕ, zero, suc, ◌+◌, ◌*◌, ◌/◌, ◌%◌, ◌^◌, ◌<◌, ◌≤◌, [], ◌∷◌, length, refl, ap, sym, ◌∙◌, arith}
+use Rattle.std.proofs.Common.{◌≡◌, ℕ, zero, suc, ◌+◌, ◌*◌, ◌/◌, ◌%◌, ◌^◌, ◌<◌, ◌≤◌, length, refl, arith}
 use Rattle.std.proofs.lemmas.Nat.{pow-add, pow_pos}
 use Rattle.plcr_wire.specs.Varint.{varint}
 use Rattle.plcr_wire.proofs.Varints.{varint_small, varint_large}

@@ -9,8 +9,6 @@ use Rattle.plcr_wire.specs.Varint.{varint, tag}
 use Rattle.plcr_wire.specs.Message.{Value, Number, Fixed64, Bytes, Fixed32, Field, value_wire, wire_type, value_spelling, field_spelling, FitsValue, FitsField}
 use Rattle.plcr_base.specs.Chains.{◌>>=◌}
 use Rattle.plcr_wire.specs.Reading.{varint_at, number_at, fixed_at, text_at, value_at, field_at, tag_wire, wire_named}
-use Rattle.plcr_wire.specs.declared.wires.Wire.{Wire}
-use Rattle.plcr_wire.specs.declared.wires.Wire.TheVariants as wires
 use Rattle.plcr_wire.proofs.Varints.{varint_small, varint_large, below, above}
 
 -- the group before the number that the others hold

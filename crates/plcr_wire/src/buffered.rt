@@ -34,7 +34,7 @@ pub struct Pieces<'a, K: Sink, const ROOM: usize> {
 }
 
 impl<'a, K: Sink, const ROOM: usize> Pieces<'a, K, ROOM> {
-    ghost use Rattle.plcr_wire.specs.Sinks.{sink_of};
+    ghost use Rattle.plcr_wire.specs.Sinks.{ended_sink, sink_of};
 
     /// Holds nothing yet.
     pub fn new(sink: &'a mut K) -> Pieces<'a, K, ROOM>
@@ -77,11 +77,11 @@ impl<'a, K: Sink, const ROOM: usize> Pieces<'a, K, ROOM> {
 
     /// Puts what is held, and ends. At `Ok` the sink has all the bytes given; at `Err` a front of them, not all.
     pub fn finish(self) -> Result<(), PutFailed>
-        ensures ok { OnOk result (Ended (⟦<Pieces<'a, K, ROOM> as Put>⟧.pen self.entry) (K.written self.exit.0.now)) }
-        ensures err { OnErr result (Lost (⟦<Pieces<'a, K, ROOM> as Put>⟧.pen self.entry) (K.written self.exit.0.now)) }
-        ensures later { (⟦<Pieces<'a, K, ROOM> as Put>⟧.pen self.entry).faults ≤ K.faults self.exit.0.now }
-        ensures cause { OnErr result (((⟦<Pieces<'a, K, ROOM> as Put>⟧.pen self.entry).failed ≡ true) ⊎ Rose (⟦<Pieces<'a, K, ROOM> as Put>⟧.pen self.entry).faults (K.faults self.exit.0.now)) }
-        ensures mark { K.mark self.exit.0.now ≡ (⟦<Pieces<'a, K, ROOM> as Put>⟧.pen self.entry).mark }
+        ensures ok { OnOk result (Ended (⟦<Pieces<'a, K, ROOM> as Put>⟧.pen self.entry) (K.written (ended_sink self.exit).now)) }
+        ensures err { OnErr result (Lost (⟦<Pieces<'a, K, ROOM> as Put>⟧.pen self.entry) (K.written (ended_sink self.exit).now)) }
+        ensures later { (⟦<Pieces<'a, K, ROOM> as Put>⟧.pen self.entry).faults ≤ K.faults (ended_sink self.exit).now }
+        ensures cause { OnErr result (((⟦<Pieces<'a, K, ROOM> as Put>⟧.pen self.entry).failed ≡ true) ⊎ Rose (⟦<Pieces<'a, K, ROOM> as Put>⟧.pen self.entry).faults (K.faults (ended_sink self.exit).now)) }
+        ensures mark { K.mark (ended_sink self.exit).now ≡ (⟦<Pieces<'a, K, ROOM> as Put>⟧.pen self.entry).mark }
     {
         let Pieces {
             sink,

@@ -5,8 +5,9 @@ ghost use Rattle.plcr_wire.specs.Pen.{Pen, IsShown, Puts, PutsProperFront};
 ghost use Rattle.plcr_wire.specs.Varint.{varint, tag};
 ghost use Rattle.plcr_wire.specs.Wires.{wire_number};
 ghost use Rattle.plcr_wire.specs.declared.varint.TheConstants.{VARINT_BYTES};
+ghost use Rattle.plcr_wire.specs.declared.wires.TheConstants.{WIRE_TYPES};
 
-use crate::varint::varint_len;
+use crate::varint::{BASE, varint_len};
 use crate::wires::{Wire, tag_number};
 use plcr_io::PutFailed;
 
@@ -32,9 +33,9 @@ pub fn put_varint<P: Put>(p: &mut P, value: u64) -> Result<(), PutFailed>
     ensures cause { OnErr result (Rose (P.pen p.old).faults (P.pen p.new).faults) }
 {
     let mut rest = value;
-    while rest >= 128 {
-        p.byte((rest % 128) as u8 + 128)?;
-        rest /= 128;
+    while rest >= BASE {
+        p.byte((rest % BASE + BASE) as u8)?;
+        rest /= BASE;
     }
     p.byte(rest as u8)?;
     Ok(())
@@ -45,7 +46,7 @@ pub fn put_varint<P: Put>(p: &mut P, value: u64) -> Result<(), PutFailed>
 pub fn put_tag<P: Put>(p: &mut P, field: u32, wire: u8) -> Result<(), PutFailed>
     requires some { 0 < field }
     requires within { field < 2 ^ 29 }
-    requires wire { wire < 8 }
+    requires wire { wire < WIRE_TYPES }
     ensures ok { OnOk result (Puts (P.pen p.old) (P.pen p.new) (tag field wire)) }
     ensures err { OnErr result (PutsProperFront (P.pen p.old) (P.pen p.new) (tag field wire)) }
     ensures cause { OnErr result (Rose (P.pen p.old).faults (P.pen p.new).faults) }

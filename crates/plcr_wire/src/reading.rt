@@ -12,8 +12,8 @@ ghost use Rattle.plcr_wire.specs.Reading as spec;
 
 use crate::fields::{Field, Value, WireFault};
 use crate::slices::{FieldSlice, ValueSlice};
-use crate::varint::VARINT_BYTES;
-use crate::wires::{Wire, tag_wire};
+use crate::varint::{BASE, VARINT_BYTES};
+use crate::wires::{WIRE_TYPES, Wire, tag_wire};
 
 // A varint whose first byte isn't its last, and what is left.
 #[inline(always)]
@@ -30,11 +30,11 @@ fn long_number_of(bytes: &[u8], end: usize) -> Result<(u64, &[u8]), WireFault>
         let Some((byte, after)) = first_of(rest) else {
             return Err(WireFault::Truncated { at: end });
         };
-        if byte < 128 {
+        if byte < BASE {
             return Ok((value + byte * scale, after));
         }
-        value += (byte - 128) * scale;
-        scale *= 128;
+        value += (byte - BASE) * scale;
+        scale *= BASE;
         rest = after;
     }
     let Some((byte, after)) = first_of(rest) else {
@@ -69,8 +69,8 @@ fn number_of(bytes: &[u8], end: usize) -> Result<(u64, &[u8]), WireFault>
     let Some((byte, rest)) = bytes.split_first() else {
         return Err(WireFault::Truncated { at: end });
     };
-    if *byte < 128 {
-        return Ok((*byte as u64, rest));
+    if u64::from(*byte) < BASE {
+        return Ok((u64::from(*byte), rest));
     }
     long_number_of(bytes, end)
 }
@@ -167,7 +167,7 @@ pub fn field_of(bytes: &[u8], end: usize) -> Result<FieldSlice<'_>, WireFault>
     };
     let (value, rest) = value_of(rest, end, wire)?;
     Ok(FieldSlice {
-        number: (tag / 8) as u32,
+        number: (tag / WIRE_TYPES) as u32,
         value,
         rest,
     })

@@ -6,6 +6,12 @@ ghost use Rattle.plcr_wire.specs.declared.varint.TheConstants.{VARINT_BYTES};
 
 use arrayvec::ArrayVec;
 
+/// Each byte of a varint has one of so many values of its number: the number is spelled to this base.
+pub(crate) const BASE: u64 = 128;
+
+/// Each byte has so many bits of the number.
+const GROUP_BITS: u64 = 7;
+
 /// The shortest varint of a number of 64 bits has at most so many bytes, and none that is read has more.
 pub const VARINT_BYTES: usize = 10;
 
@@ -15,10 +21,10 @@ pub fn varint_len(value: u64) -> u64
     ensures size { result ≡ length (varint value) }
     ensures short { result ≤ VARINT_BYTES }
 {
-    if value < 128 {
+    if value < BASE {
         return 1;
     }
-    value.ilog2() as u64 / 7 + 1
+    value.ilog2() as u64 / GROUP_BITS + 1
 }
 
 /// Appends the shortest varint of a number.
@@ -28,9 +34,9 @@ pub(crate) fn push_varint<const ROOM: usize>(held: &mut ArrayVec<u8, ROOM>, valu
     ensures { held.new.items ≡ held.old.items ++ varint value }
 {
     let mut rest = value;
-    while rest >= 128 {
-        held.push((rest % 128) as u8 + 128);
-        rest /= 128;
+    while rest >= BASE {
+        held.push((rest % BASE + BASE) as u8);
+        rest /= BASE;
     }
     held.push(rest as u8);
 }

@@ -2,6 +2,10 @@
 ghost use Rattle.std.specs.Prelude.{◌≡◌, ◌+◌, ◌*◌, ◌<◌};
 ghost use Rattle.plcr_wire.specs.Reading as spec;
 ghost use Rattle.plcr_wire.specs.Wires.{wire_number};
+ghost use Rattle.plcr_wire.specs.declared.wires.TheConstants.{WIRE_TYPES};
+
+/// The lowest bits of a tag tell the wire type, as one of so many numbers.
+pub const WIRE_TYPES: u64 = 8;
 
 /// A wire type in use.
 #[derive(Clone, Copy)]
@@ -20,7 +24,7 @@ impl Wire {
     // Its number in a tag.
     pub(crate) fn number(self) -> u8
         ensures number { result ≡ wire_number self }
-        ensures within { result < 8 }
+        ensures within { result < WIRE_TYPES }
     {
         match self {
             Wire::Number => 0,
@@ -33,10 +37,10 @@ impl Wire {
 
 // The number that is written as the tag of a field.
 pub(crate) fn tag_number(field: u32, wire: u8) -> u64
-    requires { wire < 8 }
-    ensures { result ≡ field * 8 + wire }
+    requires { wire < WIRE_TYPES }
+    ensures { result ≡ field * WIRE_TYPES + wire }
 {
-    field as u64 * 8 + wire as u64
+    u64::from(field) * WIRE_TYPES + u64::from(wire)
 }
 
 // The wire type that a tag names, where it is the tag of a field that may be.
@@ -44,10 +48,10 @@ pub(crate) fn tag_number(field: u32, wire: u8) -> u64
 pub(crate) fn tag_wire(tag: u64) -> Option<Wire>
     ensures { result ≡ spec.tag_wire tag }
 {
-    if tag < 8 || tag > u32::MAX as u64 {
+    if tag < WIRE_TYPES || tag > u32::MAX as u64 {
         return None;
     }
-    match tag % 8 {
+    match tag % WIRE_TYPES {
         0 => Some(Wire::Number),
         1 => Some(Wire::Fixed64),
         2 => Some(Wire::Bytes),

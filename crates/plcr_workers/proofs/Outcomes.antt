@@ -34,7 +34,7 @@ use Rattle.plcr_script.specs.declared.outcomes.Outcome.{Outcome}
 use Rattle.plcr_script.specs.declared.outcomes.Outcome.TheVariants as outcomes
 use Rattle.plcr_script.specs.Scripts.{ScriptValue}
 use Rattle.plcr_script.specs.Meanings.{Meanings}
-use Rattle.plcr_script.specs.RunChanges.{Plan, planned_load, planned_unload, whole_outcome}
+use Rattle.plcr_script.specs.RunChanges.{Plan, planned_load, planned_unload}
 use Rattle.plcr_run.proofs.Planned.{planned_worn, planned_long, planned_fine, plan_of, unplanned_worn, unplanned_none, unplanned_one}
 use Rattle.plcr_turns.specs.declared.lines.Asked.{Asked}
 use Rattle.plcr_turns.specs.declared.lines.Asked.TheVariants as asked
@@ -46,7 +46,7 @@ use Rattle.plcr_turns.specs.Journals.{change_made, changes_made}
 use Rattle.plcr_turns.proofs.Turned.{went_again, SameSizes, same_again, same_sizes}
 use Rattle.plcr_turns.proofs.Journaled.{grows_through, sizes_through, change_then, change_by_names, made_later, journal_is}
 use Rattle.plcr_workers.specs.Asking.{asked_in, statement_of, name_in, change_of, accepted_changes}
-use Rattle.plcr_workers.specs.Outcomes.{outcome_of, unloads_in, Looked, IsFullAfter, LoadComesTo, ComesTo, IsRunLine, JournalRuns}
+use Rattle.plcr_workers.specs.Outcomes.{outcome_of, whole_outcome, unloads_in, Looked, IsFullAfter, LoadComesTo, ComesTo, IsRunLine, JournalRuns}
 use Rattle.plcr_workers.specs.Known.{FaultTold, StatementFault, IsKnownLine, AreKnown, HasEnded}
 
 -- ---- a list that is full

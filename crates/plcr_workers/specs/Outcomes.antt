@@ -1,6 +1,6 @@
 -- What each line of the journal comes to, by the accepted lines before it alone. A load for which no node is free tells what
 -- its looks found.
-use Rattle.std.specs.Prelude.{◌≡◌, ℕ, zero, suc, ◌+◌, ◌*◌, ◌<◌, ◌≤◌, List, [], ◌∷◌, ◌++◌, Option, Some, Result, Ok, length, ◌==◌, if◌then◌else◌}
+use Rattle.std.specs.Prelude.{◌≡◌, ℕ, zero, suc, ◌+◌, ◌*◌, ◌<◌, ◌≤◌, List, [], ◌∷◌, ◌++◌, Option, Some, Result, Ok, Err, length, ◌==◌, if◌then◌else◌}
 use Rattle.plcr_machine.specs.declared.entry.Entry.{Entry}
 use Rattle.plcr_machine.specs.declared.entry.Entry.TheVariants.{Look}
 use Rattle.plcr_machine.specs.declared.change.Change.{Change}
@@ -17,7 +17,7 @@ use Rattle.plcr_script.specs.declared.outcomes.Outcome.{Outcome}
 use Rattle.plcr_script.specs.declared.outcomes.Outcome.TheVariants as outcomes
 use Rattle.plcr_script.specs.Scripts.{ScriptValue}
 use Rattle.plcr_script.specs.Meanings.{Meanings}
-use Rattle.plcr_script.specs.RunChanges.{Plan, planned_load, planned_unload, whole_outcome}
+use Rattle.plcr_script.specs.RunChanges.{Plan, planned_load, planned_unload, made_outcome}
 use Rattle.plcr_turns.specs.declared.lines.Said.{Said}
 use Rattle.plcr_turns.specs.declared.lines.Said.TheVariants.{NotImage, Worn, Long, Full, NotLoaded, Loaded, Unloaded}
 use Rattle.plcr_turns.specs.declared.lines.ChangeLine.{ChangeLine}
@@ -32,6 +32,11 @@ outcome_of (Full lives held seen) = outcomes.Full lives held seen
 outcome_of NotLoaded = outcomes.NotLoaded
 outcome_of (Loaded load) = outcomes.Loaded load
 outcome_of (Unloaded load) = outcomes.Unloaded load
+
+-- the outcome of a change that is made whole at once, or its refusal
+abbrev pub whole_outcome : Result Plan Outcome → Outcome
+whole_outcome (Ok plan) = made_outcome plan
+whole_outcome (Err refusal) = refusal
 
 -- how many of some changes are unloads
 abbrev pub unloads_in : List Change → ℕ

@@ -1,13 +1,20 @@
 -- What is known of a caller, as the code keeps it.
-use Rattle.std.specs.Prelude.{ℕ, ◌<◌, ℤ, pos, ◌-ℤ◌, Bool, true, false, List, [], ◌∷◌, All, Option, Some, None}
+use Rattle.std.specs.Prelude.{ℕ, ◌<◌, ℤ, pos, ◌-ℤ◌, Bool, true, false, List, [], ◌∷◌, slice_set, All, Option, Some, None}
+use Rattle.plcr_regs.specs.declared.frame.Frame.{Frame}
 use Rattle.plcr_regs.specs.declared.limits.TheConstants.{MOST_REGISTERS}
+use Rattle.plcr_regs.specs.Places.{pc_place}
 use Rattle.plcr_compact.specs.declared.caller.SavedWord.{SavedWord}
 use Rattle.plcr_compact.specs.declared.caller.Caller as kept
 use Rattle.plcr_compact.specs.declared.encoding.SavedRegister.{SavedRegister}
-use Rattle.plcr_compact.specs.Callers.{Caller, saved_place, saved_word}
+use Rattle.plcr_compact.specs.Callers.{Caller, kept_in, saved_place, saved_word}
 
-abbrev pub caller_of : kept.Caller → Caller
-caller_of caller = record { value = caller.value; stack = caller.stack; words = caller.words.items }
+-- the registers before the stack is read: those that functions keep, and the pc where it is known
+abbrev pub value_before : Frame → Option ℕ → List (Option ℕ)
+value_before frame None = kept_in frame
+value_before frame (Some back) = slice_set (kept_in frame) (pc_place frame.registers.arch) (Some back)
+
+abbrev pub caller_of : Frame → List SavedWord → kept.Caller → Caller
+caller_of frame words caller = record { value = value_before frame caller.back; stack = caller.stack; words = words }
 
 -- the word of a register, where one was saved
 abbrev pub field_word : ℤ → Option SavedRegister → List SavedWord

@@ -3,8 +3,11 @@ use Rattle.std.specs.Prelude.{if◌then◌else◌, Option, Some, None}
 use Rattle.plcr_memory.specs.Regions.{Contents}
 use Rattle.plcr_macho.specs.declared.image.Image.{Image}
 use Rattle.plcr_regs.specs.declared.frame.Frame.{Frame}
-use Rattle.plcr_cursor.specs.declared.given.Answer.{Answer}
-use Rattle.plcr_cursor.specs.Frames.{call_frame_answer, compact_answer, is_bad, saved_answer}
+use Rattle.plcr_regs.specs.Outcomes.{step_in}
+use Rattle.plcr_cursor.specs.declared.given.Given.{Given}
+use Rattle.plcr_cursor.specs.declared.given.Reader.{Reader}
+use Rattle.plcr_cursor.specs.declared.given.Told.{Told}
+use Rattle.plcr_cursor.specs.Frames.{Answer, call_frame_answer, compact_answer, is_bad, saved_answer}
 
 -- an answer, or the next one where it is Bad
 abbrev pub or_next : Answer → Answer → Answer
@@ -14,3 +17,11 @@ or_next answer next = if is_bad answer.step then next else answer
 abbrev pub answer_by : Contents → Frame → Option Image → Answer
 answer_by memory frame None = saved_answer memory frame
 answer_by memory frame (Some image) = or_next (or_next (compact_answer memory frame image) (call_frame_answer memory frame image)) (saved_answer memory frame)
+
+-- the answer that is told with a frame in room
+abbrev pub answer_in : Told → Frame → Answer
+answer_in told room = record { step = step_in told.outcome room; by = told.by }
+
+-- the frame in room as a reader gives it
+abbrev pub given_as : Frame → Reader → Given
+given_as room by = record { frame = room; by = by }

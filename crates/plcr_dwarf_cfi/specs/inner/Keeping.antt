@@ -19,11 +19,10 @@ abbrev pub Holds : Contents → Option KnownDescription → Type 0
 Holds memory None = Unit {0}
 Holds memory (Some known) = IsFound memory known.part known.address known.answer
 
-abbrev pub FrontHolds : Contents → Option KnownFront → Type 0
-FrontHolds memory None = Unit {0}
-FrontHolds memory (Some known) = All (IsRun (section_at memory known.part.at known.part.size)) known.runs
+abbrev pub FrontHolds : Contents → KnownFront → Type 0
+FrontHolds memory known = All (IsRun (section_at memory known.part.at known.part.size)) known.runs
 
 -- and so is what all slots have
-pub record HoldAll (memory : Contents) (answers : List (Option KnownDescription)) (heads : List (Option KnownFront)) : Type 0 where
+pub record HoldAll (memory : Contents) (answers : List (Option KnownDescription)) (heads : List KnownFront) : Type 0 where
   pub descriptions : All (Holds memory) answers
   pub fronts : All (FrontHolds memory) heads

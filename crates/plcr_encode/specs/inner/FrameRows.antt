@@ -1,5 +1,5 @@
 -- The rows in which the frames of a thread are kept.
-use Rattle.std.specs.Prelude.{◌<◌, ◌≤◌, ℕ, List, length, Option, Some, None, All, IsSome, IfSome, option_map, Result, Ok, Err}
+use Rattle.std.specs.Prelude.{◌≡◌, ◌<◌, ◌≤◌, ℕ, List, length, Option, Some, None, All, IsSome, IfSome, option_map, Result, Ok, Err}
 use Rattle.plcr_memory.specs.Regions.{Contents, bytes_at}
 use Rattle.plcr_regs.specs.declared.arch.Arch.{Arch}
 use Rattle.plcr_macho.specs.declared.image.Image.{Image}
@@ -44,6 +44,11 @@ symbol_by memory arch listed (Some i) address = symbol_within memory (image_at m
 -- the position in a row, where there is one, is in the list
 abbrev pub IsPlaced : List Listed → FrameRow → Type 0
 IsPlaced listed row = IfSome row.position (λ i. i < length listed)
+
+-- no image has the address of a row, and it has no symbol
+pub record IsBare (row : FrameRow) : Type 0 where
+  pub nowhere : row.position ≡ None
+  pub nameless : row.symbol ≡ None
 
 -- a symbol whose name is mapped and within its limit
 pub record IsNamed (memory : Contents) (symbol : SymbolAt) : Type 0 where

@@ -1,5 +1,5 @@
 -- What a change keeps between two steps, and how far it has come.
-use Rattle.std.specs.Prelude.{◌≡◌, ◌≢◌, ℕ, suc, ◌+◌, ◌<◌, ◌≤◌, List, length, slice_index_or, Some, ◌==◌}
+use Rattle.std.specs.Prelude.{◌≡◌, ◌≢◌, ℕ, zero, suc, ◌+◌, ◌<◌, ◌≤◌, List, ◌∷◌, length, slice_index_or, Some, ◌==◌}
 use Rattle.plcr_base.specs.Bytes.{IsBytes}
 use Rattle.plcr_base.specs.Limits.{IsImageName}
 use Rattle.plcr_machine.specs.Lists.{live, loads}
@@ -8,7 +8,7 @@ use Rattle.plcr_machine.specs.Histories.{IsHistory}
 use Rattle.plcr_machine.specs.Changes.{TakesFirst}
 use Rattle.plcr_machine.specs.declared.limits.TheConstants.{MOST_CHANGES}
 use Rattle.plcr_nodes.specs.declared.view.Store.{Store}
-use Rattle.plcr_nodes.specs.Names.{stored, stored_elsewhere}
+use Rattle.plcr_nodes.specs.Names.{store, stored, stored_elsewhere}
 use Rattle.plcr_imagelist.specs.declared.change.Task.{Task}
 use Rattle.plcr_imagelist.specs.declared.change.Task.TheVariants.{Load, Unload}
 use Rattle.plcr_imagelist.specs.Finding.{first_with}
@@ -25,6 +25,11 @@ doing_of (Unload at image) name = Unloads image
 -- so many steps of a load were made
 abbrev pub AreStored : ℕ → ℕ → List ℕ → ℕ → List Store → Type 0
 AreStored node header name made stores = (k : ℕ) → k < made → stored node (word_stored name k) stores ≡ Some (value_stored header name k)
+
+-- the stores in free nodes after so many steps of a load
+abbrev pub stores_after : ℕ → ℕ → List ℕ → ℕ → List Store → List Store
+stores_after node header name zero stores = stores
+stores_after node header name (suc made) stores = store node (word_stored name made) (value_stored header name made) ∷ stores_after node header name made stores
 
 -- until the change itself, a load only stores in its node, and an unload does nothing
 abbrev pub OnlyStores : Doing → ℕ → WriterState → WriterState → Type 0

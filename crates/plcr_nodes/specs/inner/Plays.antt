@@ -11,8 +11,9 @@ use Rattle.plcr_nodes.specs.declared.view.View.{View}
 use Rattle.plcr_nodes.specs.declared.words.TheConstants.{NODE_WORDS, PAYLOAD_WORDS}
 use Rattle.plcr_nodes.specs.Seeing.{GoesOn}
 use Rattle.plcr_nodes.specs.Names.{store, header_in, name_in, stored_elsewhere}
-use Rattle.plcr_nodes.specs.Words.{base, stamp_place}
-use Rattle.plcr_nodes.specs.Rule.{image_word, first_of, number_of}
+use Rattle.plcr_nodes.specs.inner.Words.{base, stamp_place}
+use Rattle.plcr_nodes.specs.Payload.{image_word}
+use Rattle.plcr_nodes.specs.inner.Rule.{first_of, number_of}
 use Rattle.plcr_nodes.specs.Owning.{Follows}
 
 -- the history so far, as a step lets a view take it in

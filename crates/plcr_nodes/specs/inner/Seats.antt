@@ -12,8 +12,8 @@ use Rattle.plcr_nodes.specs.declared.view.View.{View}
 use Rattle.plcr_nodes.specs.declared.words.TheConstants.{NODE_WORDS}
 use Rattle.plcr_nodes.specs.Entries.{among}
 use Rattle.plcr_nodes.specs.Names.{AreNames, stored}
-use Rattle.plcr_nodes.specs.Words.{stamp_place, table_words}
-use Rattle.plcr_nodes.specs.Rule.{number_of, owner_view}
+use Rattle.plcr_nodes.specs.inner.Words.{stamp_place, table_words}
+use Rattle.plcr_nodes.specs.inner.Rule.{number_of, owner_view}
 use Rattle.plcr_nodes.specs.Tokens.{PassState, OwnerState, NoteState}
 
 abbrev pub pass_state : TableId → View → PassState

@@ -6,7 +6,7 @@ use Rattle.plcr_script.specs.declared.statements.NumberedStatement.{NumberedStat
 use Rattle.plcr_script.specs.Meanings.{Meanings}
 use Rattle.plcr_script.specs.RunStates.{State, is_in, first_state}
 use Rattle.plcr_script.specs.Run.{run_of, kept_by}
-use Rattle.plcr_script.specs.RunLaws.{state_behind}
+use Rattle.plcr_script.specs.RunLaws.{state_behind, Follows}
 use Rattle.plcr_command.specs.Seen.{Seen}
 use Rattle.plcr_run.specs.declared.slots.Slot.{Slot}
 use Rattle.plcr_run.specs.declared.writing.Writing.{Writing}
@@ -29,7 +29,7 @@ pub record RunDone (process : Meanings) (script : ScriptValue) (old : Seen) (wri
   pub done : IsAll writing slots → IsDone (run_of process script) old new
   pub state : IsAll writing slots → StateIs writing slots (state_behind process script script.statements)
 
--- the run stopped behind some statements: their files were kept, and the list will have the changes that these make
+-- the run stopped behind some statements: their files were kept, what they made happen did, and the list will have the changes that these make
 pub record StoppedBehind (process : Meanings) (script : ScriptValue) (old : Seen) (writing : Writing) (slots : List Slot) (new : Seen) : Type 0 where
   pub done : List NumberedStatement
   pub others : List NumberedStatement
@@ -38,6 +38,7 @@ pub record StoppedBehind (process : Meanings) (script : ScriptValue) (old : Seen
   pub state : State
   pub is : StateIs writing slots state
   pub changes : will_change state ≡ will_change (state_behind process script done)
+  pub went : Follows (state_behind process script done).events state.events
 
 pub record RunStopped (process : Meanings) (script : ScriptValue) (old : Seen) (writing : Writing) (slots : List Slot) (new : Seen) : Type 0 where
   pub nodes : (writer_of writing).nodes ≡ script.nodes

@@ -9,6 +9,7 @@ use Rattle.plcr_script.specs.Places.{in_behind}
 use Rattle.plcr_script.specs.Meanings.{Meanings}
 use Rattle.plcr_script.specs.RunStates.{State, is_in, finished}
 use Rattle.plcr_script.specs.RunTurns.{Turn, report_turn, turn_of}
+use Rattle.plcr_script.specs.RunLaws.{Follows}
 use Rattle.plcr_command.specs.Seen.{Seen}
 use Rattle.plcr_command.specs.Endings.{HasKept, CannotWrite, CannotPrint}
 use Rattle.plcr_run.specs.declared.stepping.Stop.{Stop}
@@ -78,11 +79,11 @@ StepEnds (Err Unprinted) files line old new = CannotPrint files [] line old new
 abbrev pub will_change : State → List Change
 will_change state = changes_in (finished state.opened state.events)
 
--- the state that a step leaves: that of its turn; where its file wasn't kept, one with the same changes as before
+-- the state that a step leaves: that of its turn; where its file wasn't kept, one that goes on from the state before, with the same changes
 abbrev pub StepLeaves : Result (Unit {0}) Stop → State → State → Writing → List Slot → Type 0
 StepLeaves (Ok _) old next new news = StateIs new news next
 StepLeaves (Err Unprinted) old next new news = StateIs new news next
-StepLeaves (Err Unwritten) old next new news = (left : State) × StateIs new news left × (will_change left ≡ will_change old)
+StepLeaves (Err Unwritten) old next new news = (left : State) × StateIs new news left × (will_change left ≡ will_change old) × Follows old.events left.events
 
 -- what a step came to, where the writer has seen all afterwards
 pub record StepIs (turn : Turn) (number : ℕ) (state : State) (before after : Seen) (new : Writing) (news : List Slot) (result : Result (Unit {0}) Stop) : Type 0 where

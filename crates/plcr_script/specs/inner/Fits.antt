@@ -1,6 +1,6 @@
 -- What is true of what a line says, and of the bases of its numbers.
 use Rattle.std.specs.Prelude.{◌≡◌, ℕ, ◌≤◌, ◌<◌, ◌^◌, false, [], length}
-use Rattle.plcr_script.specs.Keys.{IsAllowed}
+use Rattle.plcr_script.specs.inner.Keys.{IsAllowed}
 use Rattle.plcr_script.specs.Sayings.{Saying, Sizes, Number, Words, States}
 use Rattle.plcr_script.specs.Places.{HasPass}
 use Rattle.plcr_script.specs.Lawful.{AreSizes, IsFitStatement, IsLawful}

@@ -6,5 +6,8 @@ use Rattle.plcr_compact.proofs.compact.caller_from.Goals as goal
 
 pub read_caller-requires : goal.read_caller-requires
 read_caller-requires c =
-    words_stand c.args.memory.now ((c.args.image.now.header + c.args.found.now.function) % 2 ^ 64) c.args.frame.now c.in_ok-encoding.encoding (caller_of c.in_ok-caller.caller)
-    (sym c.caller_by.ensures ∙ ap (result_map caller_of) c.in_ok-caller.was)
+    let frame = c.args.frame.now in
+    let words = c.caller_by.new.words.items in
+    rw c.as_slice.ensures.value
+    (words_stand c.args.memory.now ((c.args.image.now.header + c.args.found.now.function) % 2 ^ 64) frame c.in_ok-encoding.encoding (caller_of frame words c.in_ok-caller.caller)
+    (sym c.caller_by.ensures ∙ ap (result_map (caller_of frame words)) c.in_ok-caller.was))

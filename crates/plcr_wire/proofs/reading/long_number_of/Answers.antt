@@ -1,5 +1,5 @@
 -- Each group stands above those before it, and has room there.
-use Rattle.std.proofs.Common.{◌≡◌, ◌∷◌, ℕ, suc, zero, ◌+◌, ◌-◌, ◌*◌, ◌^◌, ◌<◌, ◌≤◌, List, length, refl, sym, ap, ◌∙◌, arith}
+use Rattle.std.proofs.Common.{◌≡◌, ◌∷◌, ℕ, suc, ◌+◌, ◌-◌, ◌*◌, length, refl, sym, ap, ◌∙◌, arith}
 use Rattle.plcr_wire.specs.Reading.{number_at, varint_at}
 use Rattle.plcr_wire.proofs.Groups.{plus, plus_start, none_left, last_group, next_group, tenth_group, tenth_bad, scale_more, group_room, group_fits, next_fits, tenth_fits}
 use Rattle.plcr_wire.proofs.reading.long_number_of.Goals as goal
@@ -16,14 +16,14 @@ returns-in_default-clause-reads c =
     sym l.invariant.read ∙ (ap (λ rest. plus l.value l.scale (varint_at c.args.end first (9 - l._group) rest)) none ∙ none_left l.value l.scale c.args.end first (9 - l._group))
 
 pub overflow_mul-result : goal.overflow_mul-result
-overflow_mul-result c = let l = c.loop-group in let fits = group_fits l.value l.scale c.in-Some.byte l._group l.invariant.scale c.loop-group-test.true l.invariant.small c.if-byte-lt128.true in omega (arith, fits)
+overflow_mul-result c = let l = c.loop-group in let fits = group_fits l.value l.scale c.in-Some.byte l._group l.invariant.scale c.loop-group-test.true l.invariant.small c.if-byte-lt-BASE.true in omega (arith, fits)
 
 pub overflow_add-result : goal.overflow_add-result
-overflow_add-result c = let l = c.loop-group in let fits = group_fits l.value l.scale c.in-Some.byte l._group l.invariant.scale c.loop-group-test.true l.invariant.small c.if-byte-lt128.true in omega (arith, fits)
+overflow_add-result c = let l = c.loop-group in let fits = group_fits l.value l.scale c.in-Some.byte l._group l.invariant.scale c.loop-group-test.true l.invariant.small c.if-byte-lt-BASE.true in omega (arith, fits)
 
-pub returns-then-byte-lt128-clause-reads : goal.returns-then-byte-lt128-clause-reads
+pub returns-then-byte-lt-BASE-clause-reads : goal.returns-then-byte-lt-BASE-clause-reads
 unfolding number_at
-returns-then-byte-lt128-clause-reads c =
+returns-then-byte-lt-BASE-clause-reads c =
     let l = c.loop-group in
     let first : ℕ = c.args.end - length c.args.bytes.now in
     let k : ℕ = 9 - (l._group + 1) in
@@ -32,10 +32,10 @@ returns-then-byte-lt128-clause-reads c =
     sym l.invariant.read
     ∙ (ap (λ rest. plus l.value l.scale (varint_at c.args.end first (9 - l._group) rest)) some
     ∙ (ap (λ n. plus l.value l.scale (varint_at c.args.end first n (c.in-Some.byte ∷ c.in-Some.after.now))) groups
-    ∙ last_group l.value l.scale c.args.end first k c.in-Some.byte c.in-Some.after.now c.if-byte-lt128.true))
+    ∙ last_group l.value l.scale c.args.end first k c.in-Some.byte c.in-Some.after.now c.if-byte-lt-BASE.true))
 
-pub returns-then-byte-lt128-clause-shorter : goal.returns-then-byte-lt128-clause-shorter
-returns-then-byte-lt128-clause-shorter c =
+pub returns-then-byte-lt-BASE-clause-shorter : goal.returns-then-byte-lt-BASE-clause-shorter
+returns-then-byte-lt-BASE-clause-shorter c =
     let some = ap length c.in-Some.ensures.0 in let shorter = c.loop-group.invariant.shorter in omega (arith, some, shorter)
 
 pub overflow_mul-value : goal.overflow_mul-value
@@ -62,7 +62,7 @@ loop-group-preserved c =
       read =
           sym (ap (λ rest. plus l.value l.scale (varint_at c.args.end first (9 - l._group) rest)) some
           ∙ (ap (λ n. plus l.value l.scale (varint_at c.args.end first n (c.in-Some.byte ∷ c.in-Some.after.now))) groups
-          ∙ next_group l.value l.scale c.args.end first k c.in-Some.byte c.in-Some.after.now c.if-byte-lt128.false))
+          ∙ next_group l.value l.scale c.args.end first k c.in-Some.byte c.in-Some.after.now c.if-byte-lt-BASE.false))
           ∙ l.invariant.read;
     }
 

@@ -1,20 +1,18 @@
-use Rattle.std.proofs.Common.{◌≡◌, ◌<◌, ◌+◌, List, ℕ, suc, ap, ◌∙◌, arith}
-use Rattle.plcr_imagelist.specs.States.{ChangeState, change_step, steps_of}
-use Rattle.plcr_imagelist.specs.inner.Making.{doing_of}
-use Rattle.plcr_imagelist.proofs.Finishing.{come_more}
+use Rattle.std.proofs.Common.{◌≡◌, ◌<◌, suc, ap, arith}
+use Rattle.plcr_imagelist.specs.States.{change_step, steps_of}
+use Rattle.plcr_imagelist.proofs.Finishing.{come_more, come_end}
 use Rattle.plcr_imagelist.proofs.change.Change.finish.Goals as goal
 
-pub loop-made-preserved : goal.loop-made-preserved
-loop-made-preserved c =
-    let so_far = c.loop-made.invariant in
+pub returns-clause-finished : goal.returns-clause-finished
+returns-clause-finished c =
+    let stored = c.store_all.new.self in
+    let changed = c.advance.new.self in
+    let come = c.store_all.ensures.come in
     let step = c.advance.ensures.step in
-    let task = c.change.inside.task in
-    let last : c.change_step-last.result ≡ change_step c.args.self.doing =
-    c.change_step-last.ensures ∙ ap (λ (name : List ℕ). change_step (doing_of task name)) c.deref.ensures.value ∙ ap (λ (s : ChangeState). change_step s.doing) c.change.view_is in
-    let same : change_step c.loop-made.change.doing ≡ change_step c.args.self.doing = ap change_step so_far.0.doing in
-    let test = c.loop-made-test.true in
-    let before = so_far.1 in
-    let after = step.made in
-    let early : suc c.loop-made.change.made < steps_of c.loop-made.change.doing = omega arith in
-    let more : c.advance.new.self.made ≡ c.loop-made.made + 1 = omega arith in
-    (come_more c.args.self c.loop-made.change c.advance.new.self so_far.0 early step, more)
+    let last = c.store_all.ensures.last in
+    let same : change_step stored.doing ≡ change_step c.args.self.doing = ap change_step come.doing in
+    let still : change_step changed.doing ≡ change_step stored.doing = ap change_step step.doing in
+    let made = step.made in
+    let early : suc stored.made < steps_of stored.doing = omega arith in
+    let end : suc changed.made ≡ steps_of changed.doing = omega arith in
+    come_end c.args.self changed c.count.result (come_more c.args.self stored changed come early step) end c.count.ensures.counted c.count.ensures.rest

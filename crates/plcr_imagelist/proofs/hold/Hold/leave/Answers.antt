@@ -21,7 +21,7 @@ invariant_of-result c =
     let out = (may_retire h.pass c.leave-high.result c.leave-high.new.self h.met.items h.ended h.low left c.self.invariant.0).1 in
     let nodes = ap (λ (s : PassState). s.nodes) left.entry.now in let nodes' = ap (λ (s : PassState). s.nodes) c.retire.ensures.entry.now in
     let room = c.self.invariant.1 in let spots = c.self.invariant.2 in
-    (out_retired c.leave-high.new.self c.retire.new.self c.retire.ensures.entry out, omega arith, omega arith)
+    (out_retired h.pass c.leave-high.new.self c.retire.new.self h.met.items h.ended h.low c.leave-high.result left c.retire.ensures.entry c.self.invariant.0 out, omega arith, omega arith)
 
 pub returns-clause-released : goal.returns-clause-released
 returns-clause-released c =

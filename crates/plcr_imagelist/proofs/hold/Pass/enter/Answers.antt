@@ -4,7 +4,7 @@ use Rattle.plcr_macho.proofs.Indexing.{settled_none}
 use Rattle.plcr_imagelist.specs.Holds.{WalkerState, IsHeld}
 use Rattle.plcr_imagelist.specs.inner.Holding.{IsHolding}
 use Rattle.plcr_imagelist.proofs.Walking.{holding_entered, hold_of}
-use Rattle.plcr_imagelist.proofs.Passing.{glanced_few, glanced_retired, glanced_outside, may_enter, held_entered}
+use Rattle.plcr_imagelist.proofs.Passing.{glanced_few, glanced_retired, glanced_outside, announced_made, may_enter, held_entered}
 use Rattle.plcr_imagelist.proofs.hold.Pass.enter.Goals as goal
 
 pub announce-requires-clause-retired : goal.announce-requires-clause-retired
@@ -21,10 +21,11 @@ enter-low-requires-clause-out c =
 pub invariant_of-result : goal.invariant_of-result
 invariant_of-result c =
     let entered = c.enter-low.ensures.entered in
+    let made = announced_made c.self.inside.pass c.glance-seen.new.self c.announce.new.self c.glance-seen.result c.glance-seen.ensures.seen c.announce.ensures.entry c.self.invariant.0.made in
     let nodes = ap (λ (s : PassState). s.nodes) c.glance-seen.ensures.seen.now in let nodes' = ap (λ (s : PassState). s.nodes) c.announce.ensures.entry.now in
     let nodes'' = ap (λ (s : PassState). s.nodes) entered.entry.now in
     let room = c.self.invariant.1 in let spots = c.self.invariant.2 in let cleared = c.clear.ensures.capacity in (
-      subst (λ (xs : List ℕ). IsHolding c.enter-low.new.self xs false c.enter-low.result) (sym c.clear.ensures.items) (holding_entered c.announce.new.self c.enter-low.result c.enter-low.new.self entered),
+      subst (λ (xs : List ℕ). IsHolding c.enter-low.new.self xs false c.enter-low.result) (sym c.clear.ensures.items) (holding_entered c.announce.new.self c.enter-low.result c.enter-low.new.self entered made),
       omega arith,
       omega arith,
       settled_none c.self.inside.spots.items,

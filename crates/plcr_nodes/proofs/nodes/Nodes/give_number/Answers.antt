@@ -1,6 +1,6 @@
 use Rattle.std.proofs.Common.{◌≡◌, ◌<◌, ◌+◌, ◌∷◌, [], ◌∙◌, ap, sym, refl, subst, arith}
 use Rattle.plcr_nodes.specs.declared.view.View.{View}
-use Rattle.plcr_nodes.specs.Rule.{owner_view, first_of}
+use Rattle.plcr_nodes.specs.inner.Rule.{owner_view, first_of}
 use Rattle.plcr_nodes.specs.inner.Plays.{given_view}
 use Rattle.plcr_nodes.specs.inner.Seats.{IsPassing}
 use Rattle.plcr_nodes.proofs.Opening.{numbers, gives, opened_passing}

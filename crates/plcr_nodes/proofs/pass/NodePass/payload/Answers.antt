@@ -2,7 +2,7 @@ use Rattle.std.proofs.Common.{◌≡◌, ◌<◌, ◌+◌, ℕ, true, sym, ap, �
 use mathlib.Core.Option.{none}
 use Rattle.atomic_table.specs.Table.{step}
 use Rattle.plcr_nodes.specs.Entries.{among}
-use Rattle.plcr_nodes.specs.Rule.{image_words}
+use Rattle.plcr_nodes.specs.Payload.{image_words}
 use Rattle.plcr_nodes.specs.declared.words.TheConstants.{PAYLOAD_WORDS}
 use Rattle.plcr_nodes.specs.Tokens.{PassState, IsRead}
 use Rattle.plcr_nodes.specs.inner.Seats.{pass_state, IsPassing}

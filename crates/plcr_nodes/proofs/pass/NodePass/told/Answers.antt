@@ -3,7 +3,7 @@ use mathlib.Core.Option.{none}
 use Rattle.atomic_table.specs.Table.{Me, step}
 use Rattle.plcr_nodes.specs.declared.view.View.{View}
 use Rattle.plcr_nodes.specs.Entries.{among}
-use Rattle.plcr_nodes.specs.Rule.{number_of}
+use Rattle.plcr_nodes.specs.inner.Rule.{number_of}
 use Rattle.plcr_nodes.specs.Tokens.{PassState, NoteState}
 use Rattle.plcr_nodes.specs.Telling.{IsPassTold}
 use Rattle.plcr_nodes.specs.inner.Seats.{pass_state, note_state, IsPassing}

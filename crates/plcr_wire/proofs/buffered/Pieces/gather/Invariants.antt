@@ -1,5 +1,4 @@
 use Rattle.std.proofs.Common.{◌≡◌, ◌+◌, length}
-use Rattle.plcr_wire.specs.Sinks.{sink_of}
 use Rattle.plcr_wire.proofs.Puttings.{PutsUpTo}
 use Rattle.plcr_wire.specs.Pen.{Pen, sink_pen}
 use Rattle.plcr_wire.proofs.buffered.Pieces.gather.Given as goal

@@ -1,0 +1,4 @@
+pub mod Numerals
+pub mod Make
+pub mod Laws
+pub mod inner
