@@ -1,11 +1,10 @@
 //! One statement of a worker.
-ghost use Rattle.std.specs.Prelude.{◌≡◌, ◌<◌, length, map, None, IsNone, IfSome};
+ghost use Rattle.std.specs.Prelude.{◌≡◌, ◌<◌, IsNone, None, IfSome};
 ghost use Rattle.crossbeam_queue.specs.Passes.{view, IsSamePass, IsPassOf, ruled_capacity};
 ghost use Rattle.plcr_imagelist.specs.Walk.{IsSameWalk};
 ghost use Rattle.plcr_turns.specs.Working.{IsWorking, HasNext, AppliesLine};
 ghost use Rattle.plcr_workers.specs.Asking.{asked_in};
 ghost use Rattle.plcr_workers.specs.inner.Places.{IsAt, walker_of, Asks, Advances};
-ghost use Rattle.plcr_workers.specs.inner.Places.{place_of};
 
 use crate::drafts::Draft;
 use crate::gate::Gate;
@@ -164,7 +163,6 @@ pub(crate) fn take_statement<R: Wait, P: Process, G: Gate, K: Sink>(
     ensures list { IsAt list.now result.0 }
     ensures working { IsWorking script list.now (view turns.new) }
     ensures advances { Advances script line (asked_in statement.now) (view turns.old) (view turns.new) }
-    ensures drafts { map place_of drafts.new ≡ map place_of drafts.old }
 {
     if let Some(request) = request_of(process, statement) {
         gate.before_change(script + 1, line);

@@ -12,7 +12,7 @@ use Rattle.plcr_turns.specs.Working.{IsWorking}
 use Rattle.plcr_workers.specs.declared.lines.PassLine.{PassLine}
 use Rattle.plcr_workers.specs.declared.worker.Worker.{Worker}
 use Rattle.plcr_workers.specs.Asking.{change_lines}
-use Rattle.plcr_workers.specs.inner.Places.{place_of, total_of}
+use Rattle.plcr_workers.specs.inner.Places.{total_of}
 
 -- the statements before a place were taken: of the lines that they ask for each was applied, in order, and no other
 pub record SoFar (script : ℕ) (list : TableId) (statements : List NumberedStatement) (at : ℕ) (v : View) : Type 0 where
@@ -34,7 +34,6 @@ pub record Goes {K : Type 0} (queue list : TableId) (script : ScriptValue) (old 
   pub pass : (new.turns.table_id ≡ queue) × (new.turns.me.1 ≡ [])
   pub count : ℕ
   pub so_far : SoFar new.script list script.statements count (view new.turns)
-  pub drafts : map place_of new.drafts.items ≡ map place_of old.drafts.items
   pub lines : All (λ (l : PassLine). l.at < length script.statements) new.lines.items
 
 -- its pass of the list is out

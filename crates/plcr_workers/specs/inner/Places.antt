@@ -11,7 +11,6 @@ use Rattle.plcr_turns.specs.declared.view.Share.{Share}
 use Rattle.plcr_turns.specs.declared.view.View.{View}
 use Rattle.plcr_turns.specs.Lines.{asked_by, lines_of, wanted_by}
 use Rattle.plcr_turns.specs.Turns.{name_in as name_of_request}
-use Rattle.plcr_workers.specs.declared.drafts.Draft.{Draft}
 use Rattle.plcr_workers.specs.declared.places.Place.{Place}
 use Rattle.plcr_workers.specs.declared.places.Place.TheVariants.{Out, In}
 use Rattle.plcr_workers.specs.Asking.{asked_in, name_in}
@@ -52,7 +51,3 @@ abbrev pub Advances : ℕ → ℕ → Option Asked → View → View → Type 0
 Advances script line None v w = w ≡ v
 Advances script line (Some asked) v w =
     (wanted_by (lines_of script w.journal) ≡ wanted_by (lines_of script v.journal) ++ record { line = line; asked = asked } ∷ []) × (total_of w.shares ≡ total_of v.shares)
-
--- the place of the statement of an output
-abbrev pub place_of : {K : Type 0} → Draft K → ℕ
-place_of draft = draft.at

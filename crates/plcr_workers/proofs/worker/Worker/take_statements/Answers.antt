@@ -1,7 +1,5 @@
 use Rattle.std.proofs.Common.{◌≡◌, ◌+◌, ◌≤◌, ◌<◌, All, length, drop, map, refl, ap, ◌∙◌, subst, sym, arith}
 use Rattle.crossbeam_queue.specs.Passes.{view}
-use Rattle.plcr_turns.proofs.Fronts.{take_front}
-use Rattle.plcr_workers.specs.inner.Places.{place_of}
 use Rattle.plcr_workers.specs.inner.Hired.{SoFar}
 use Rattle.plcr_run.proofs.Composed.{numbered_at}
 use Rattle.plcr_workers.proofs.Going.{left_if_asked, so_far_next}
@@ -19,7 +17,6 @@ returns-in-Unwritten-clause-goes g c = record {
   count = c.loop-at.at + 1;
   so_far = so_far_next c.loop-at.self.script c.args.list.now c.args.script.now.statements c.loop-at.at c.line.result c.statement.result.now (view c.loop-at.self.turns) (view c.take_statement-moved.new.turns) c.loop-at.invariant.so_far
       (numbered_at c.args.script.now c.loop-at.at c.line.result c.statement.result.now c.line.ensures c.statement.ensures) c.take_statement-moved.ensures.advances c.take_statement-moved.ensures.working;
-  drafts = ap (map place_of) (take_front _ c.take_statement-moved.new.drafts _ (let a = c.take_statement-moved.auto.drafts in let o = c.loop-at.self.drafts.ok.0 in omega arith)) ∙ c.take_statement-moved.ensures.drafts ∙ c.loop-at.invariant.drafts;
   lines = c.loop-at.invariant.lines;
 }
 
@@ -30,7 +27,6 @@ loop-at-preserved g c = record {
   so_far = so_far_next c.loop-at.self.script c.args.list.now c.args.script.now.statements c.loop-at.at c.line.result c.statement.result.now (view c.loop-at.self.turns) (view c.take_statement-moved.new.turns) c.loop-at.invariant.so_far
       (numbered_at c.args.script.now c.loop-at.at c.line.result c.statement.result.now c.line.ensures c.statement.ensures) c.take_statement-moved.ensures.advances c.take_statement-moved.ensures.working;
   place = c.take_statement-moved.ensures.list;
-  drafts = ap (map place_of) (take_front _ c.take_statement-moved.new.drafts _ (let a = c.take_statement-moved.auto.drafts in let o = c.loop-at.self.drafts.ok.0 in omega arith)) ∙ c.take_statement-moved.ensures.drafts ∙ c.loop-at.invariant.drafts;
   lines = c.add_line-next.ensures.lines (length c.args.script.now.statements) (let less = c.loop-at-test.true in omega arith) c.loop-at.invariant.lines;
   fits = (let l = c.add_line-next.ensures.len in let f = c.loop-at.invariant.fits in omega arith);
   room = (let l = c.add_line-next.ensures.capacity in let f = c.loop-at.invariant.room in omega arith);

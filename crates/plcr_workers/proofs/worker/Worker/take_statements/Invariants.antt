@@ -1,7 +1,7 @@
-use Rattle.std.proofs.Common.{◌≡◌, ◌≤◌, ◌<◌, [], All, length, map, vec_len, vec_capacity}
+use Rattle.std.proofs.Common.{◌≡◌, ◌≤◌, ◌<◌, [], All, length, vec_len, vec_capacity}
 use Rattle.crossbeam_queue.specs.Passes.{view}
 use Rattle.plcr_workers.specs.declared.lines.PassLine.{PassLine}
-use Rattle.plcr_workers.specs.inner.Places.{IsAt, place_of}
+use Rattle.plcr_workers.specs.inner.Places.{IsAt}
 use Rattle.plcr_workers.specs.inner.Hired.{SoFar}
 use Rattle.plcr_workers.proofs.worker.Worker.take_statements.Given as goal
 
@@ -11,7 +11,6 @@ invariant-loop-at g l = record {
   pass : (l.self.turns.table_id ≡ l.queue.table.shared.table_id) × (l.self.turns.me.1 ≡ []);
   so_far : SoFar l.self.script l.list l.script.statements l.at (view l.self.turns);
   place : IsAt l.list l.place;
-  drafts : map place_of l.self.drafts.items ≡ map place_of l.initial.self.drafts.items;
   lines : All (λ (x : PassLine). x.at < length l.script.statements) l.self.lines.items;
   fits : vec_len l.self.lines ≤ l.at;
   room : length l.script.statements ≤ vec_capacity l.self.lines;
