@@ -1,5 +1,5 @@
 -- What `make` did, by its status.
-use Rattle.std.proofs.Common.{inl, inr, ◌≡◌, ◌⊎◌, ℕ, List, Option, None, arith}
+use Rattle.std.proofs.Common.{inl, inr, ◌≡◌, ◌⊎◌, ℕ, List, Option, arith}
 use Rattle.plcr_base.specs.Causes.{Rose}
 use Rattle.plcr_imagelist.specs.States.{WriterState}
 use Rattle.plcr_command.specs.declared.endings.Ending.{Ending}
@@ -7,7 +7,7 @@ use Rattle.plcr_command.specs.declared.endings.Ending.TheVariants.{Done, Stopped
 use Rattle.plcr_command.specs.declared.refusals.Refusal.TheVariants.{CannotRead, TooLong, CoreRefused, ScriptRefused, ReportRefused, OutOfMemory}
 use Rattle.plcr_command.specs.Seen.{Seen}
 use Rattle.plcr_command.specs.Endings.{HasKept, status_of}
-use Rattle.plcr_maker.specs.Make.{StopsIn, HasMade, Makes, MadeLeft, MakeLeaves}
+use Rattle.plcr_maker.specs.Make.{StopsIn, HasMade, Makes, MakeLeaves}
 use Rattle.plcr_maker.specs.Laws.{MakeIs, MadeByStatus, MakesAreComplete}
 
 at : (images : ℕ) (core script : List ℕ) (old new : Seen) (past : Option WriterState) (status : ℕ) (ending : Ending) → status ≡ status_of ending → Makes images core script old new ending → MakeLeaves images past status → MakeIs images core script old new past status

@@ -149,7 +149,7 @@ whole_truly job script old new past alone h ran =
     }
 
 stop_failed : (run : List NumberedTurn) (old new : Seen) → IsStopped run old new → SinkFailed old new
-stop_failed run old new stop = elim stop.how [ | inl keep ↦ inl keep.stop.cause | inr log ↦ inr log.cause ]
+stop_failed run old new stop = elim stop.how [ inl keep ↦ inl keep.stop.cause | inr log ↦ inr log.cause ]
 
 part_truly : (job : Job) (script : ScriptValue) (old new : Seen) (past : Option WriterState) → job.scripts ≡ script ∷ [] → Handed job.core script → RanPart (meanings_of job.core script) script old new past → RanTruly past 5 job old new
 part_truly job script old new past alone h ran =

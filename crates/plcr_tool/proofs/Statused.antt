@@ -11,8 +11,8 @@ use Rattle.plcr_command.specs.declared.endings.Ending.TheVariants.{Done, Stopped
 use Rattle.plcr_command.specs.declared.refusals.Refusal.{Refusal}
 use Rattle.plcr_command.specs.declared.refusals.Refusal.TheVariants.{CannotRead, TooLong, CoreRefused, ScriptRefused, ReportRefused, OutOfMemory}
 use Rattle.plcr_command.specs.Seen.{Seen}
-use Rattle.plcr_command.specs.Files.{File}
-use Rattle.plcr_command.specs.Taking.{TookSome}
+use Rattle.plcr_command.specs.Files.{File, named}
+use Rattle.plcr_command.specs.Taking.{IsUnreadable, IsTooLong, TookSome}
 use Rattle.plcr_command.specs.Refusals as refusals
 use Rattle.plcr_command.specs.Refusals.{IsMisread}
 use Rattle.plcr_command.specs.Jobs.{JobMisread}
@@ -65,23 +65,23 @@ job_report [] fault is = is
 job_report (core ∷ contents) fault is = is
 
 report_at : (core script : List ℕ) (old new : Seen) (past : Option WriterState) (status : ℕ) (ending : Ending) → status ≡ status_of ending → Reports core script old new ending → ReportLeaves core script old new past status → ReportIs core script old new past status
-report_at core script old new past status Done is did left = inl (is, did, left.done is)
-report_at core script old new past status Stopped is did left = inr (inr (inr (inr (inl (is, did, left.stopped is)))))
+report_at core script old new past status Done is did left = inl (is, (did, left.done is))
+report_at core script old new past status Stopped is did left = inr (inr (inr (inr (inl (is, (did, left.stopped is))))))
 report_at core script old new past status (Refused (CannotRead word)) is did left =
     let none = left.others (λ e. omega (arith, is, e)) (λ e. omega (arith, is, e)) in
-    let unreadable = elim did.cause [ | inl un ↦ un | inr m ↦ absurd (job_read m.contents word m.misread) ] in
+    let unreadable : IsUnreadable (report_files core script) (named word) old.desk new.desk = elim did.cause [ inl un ↦ un | inr m ↦ absurd (job_read m.contents word m.misread) ] in
     inr (inl (is, record { word = word; how = inl (unreadable, refuses (JobMisread ALONE) (report_files core script) old new (CannotRead word) did) }, none))
 report_at core script old new past status (Refused (TooLong word)) is did left =
     let none = left.others (λ e. omega (arith, is, e)) (λ e. omega (arith, is, e)) in
-    let long = elim did.cause [ | inl un ↦ un | inr m ↦ absurd (job_long m.contents word m.misread) ] in
+    let long : IsTooLong (report_files core script) (named word) old.desk new.desk = elim did.cause [ inl un ↦ un | inr m ↦ absurd (job_long m.contents word m.misread) ] in
     inr (inl (is, record { word = word; how = inr (long, refuses (JobMisread ALONE) (report_files core script) old new (TooLong word) did) }, none))
 report_at core script old new past status (Refused (CoreRefused fault)) is did left =
     let none = left.others (λ e. omega (arith, is, e)) (λ e. omega (arith, is, e)) in
-    inr (inr (inl (is, (fault, is_none (JobMisread ALONE) (report_files core script) old new (CoreRefused fault) (λ cause. elim cause [ | inl un ↦ absurd un | inr m ↦ m ]) did), none)))
+    inr (inr (inl (is, (fault, is_none (JobMisread ALONE) (report_files core script) old new (CoreRefused fault) (λ cause. elim cause [ inl un ↦ absurd un | inr m ↦ m ]) did), none)))
 report_at core script old new past status (Refused (ScriptRefused number line kind)) is did left =
     let none = left.others (λ e. omega (arith, is, e)) (λ e. omega (arith, is, e)) in
-    inr (inr (inr (inl (is, (number, line, kind, is_none (JobMisread ALONE) (report_files core script) old new (ScriptRefused number line kind) (λ cause. elim cause [ | inl un ↦ absurd un | inr m ↦ m ]) did), none))))
-report_at core script old new past status (Refused (ReportRefused fault)) is did left = absurd (elim did.cause [ | inl un ↦ un | inr m ↦ job_report m.contents fault m.misread ])
+    inr (inr (inr (inl (is, (number, line, kind, is_none (JobMisread ALONE) (report_files core script) old new (ScriptRefused number line kind) (λ cause. elim cause [ inl un ↦ absurd un | inr m ↦ m ]) did), none))))
+report_at core script old new past status (Refused (ReportRefused fault)) is did left = let no : ⊥ = elim did.cause [ inl un ↦ un | inr m ↦ job_report m.contents fault m.misread ] in absurd no
 report_at core script old new past status (Refused OutOfMemory) is did left =
     let none = left.others (λ e. omega (arith, is, e)) (λ e. omega (arith, is, e)) in
     inr (inr (inr (inr (inr (is, wants (JobMisread ALONE) (report_files core script) old new did, none)))))
@@ -115,15 +115,15 @@ show_at : (report : List ℕ) (old new : Seen) (status : ℕ) (ending : Ending) 
 show_at report old new status Done is did = inl (is, did)
 show_at report old new status Stopped is did = inr (inr (inl (is, did)))
 show_at report old new status (Refused (CannotRead word)) is did =
-    let unreadable = elim did.cause [ | inl un ↦ un | inr m ↦ absurd (shown_read m.contents word m.misread) ] in
+    let unreadable : IsUnreadable (shown_files report) (named word) old.desk new.desk = elim did.cause [ inl un ↦ un | inr m ↦ absurd (shown_read m.contents word m.misread) ] in
     inr (inl (is, record { word = word; how = inl (unreadable, refuses ReportMisread (shown_files report) old new (CannotRead word) did) }))
 show_at report old new status (Refused (TooLong word)) is did =
-    let long = elim did.cause [ | inl un ↦ un | inr m ↦ absurd (shown_long m.contents word m.misread) ] in
+    let long : IsTooLong (shown_files report) (named word) old.desk new.desk = elim did.cause [ inl un ↦ un | inr m ↦ absurd (shown_long m.contents word m.misread) ] in
     inr (inl (is, record { word = word; how = inr (long, refuses ReportMisread (shown_files report) old new (TooLong word) did) }))
-show_at report old new status (Refused (CoreRefused fault)) is did = absurd (elim did.cause [ | inl un ↦ un | inr m ↦ shown_core m.contents fault m.misread ])
-show_at report old new status (Refused (ScriptRefused number line kind)) is did = absurd (elim did.cause [ | inl un ↦ un | inr m ↦ shown_script m.contents number line kind m.misread ])
+show_at report old new status (Refused (CoreRefused fault)) is did = let no : ⊥ = elim did.cause [ inl un ↦ un | inr m ↦ shown_core m.contents fault m.misread ] in absurd no
+show_at report old new status (Refused (ScriptRefused number line kind)) is did = let no : ⊥ = elim did.cause [ inl un ↦ un | inr m ↦ shown_script m.contents number line kind m.misread ] in absurd no
 show_at report old new status (Refused (ReportRefused fault)) is did =
-    inr (inr (inr (inl (is, (fault, is_none ReportMisread (shown_files report) old new (ReportRefused fault) (λ cause. elim cause [ | inl un ↦ absurd un | inr m ↦ m ]) did)))))
+    inr (inr (inr (inl (is, (fault, is_none ReportMisread (shown_files report) old new (ReportRefused fault) (λ cause. elim cause [ inl un ↦ absurd un | inr m ↦ m ]) did)))))
 show_at report old new status (Refused OutOfMemory) is did = inr (inr (inr (inr (is, wants ReportMisread (shown_files report) old new did))))
 show_at report old new status Misused is did = absurd did
 

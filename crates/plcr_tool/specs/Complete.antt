@@ -26,7 +26,7 @@ ReportsAreComplete =
     → ¬ Rose old.line_faults new.line_faults
     → ReportDoes core script old new status
     → ((status ≡ 0) × TookAll (report_files core script) contents old.desk new.desk
-        × Ran IsDone job old new)
+    × Ran IsDone job old new)
     ⊎ (status ≡ 7)
 
 -- `show` on a report: it is taken, nothing is made, and its text is printed, or memory is wanting
@@ -39,7 +39,7 @@ ShownReportsAreComplete =
     → ¬ Rose old.line_faults new.line_faults
     → ShowDoes report old new status
     → ((status ≡ 0) × TookAll (shown_files report) contents old.desk new.desk
-        × IsPrinted value old new)
+    × IsPrinted value old new)
     ⊎ (status ≡ 7)
 
 -- `report` refuses the core exactly where it is none

@@ -26,7 +26,7 @@ pub record Ran (Ends : List NumberedTurn → Seen → Seen → Type 0) (job : Jo
 abbrev pub Reports : List ℕ → List ℕ → Seen → Seen → Ending → Type 0
 Reports core script old new ending =
     Did (IsJob ALONE) (JobMisread ALONE) (report_files core script) (Ran IsDone) (Ran IsStopped)
-        old new ending
+    old new ending
 
 -- what `report CORE SCRIPT` does
 abbrev pub ReportDoes : List ℕ → List ℕ → Seen → Seen → ℕ → Type 0

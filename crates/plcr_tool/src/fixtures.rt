@@ -206,6 +206,23 @@ pub fn thread_core(
     Ok(bytes)
 }
 
+/// The words of a command line.
+pub fn words(alloc: Global, words: &[&str]) -> Result<Vec<String>, Fail> {
+    let mut owned = Vec::new(alloc);
+    for word in words {
+        owned.push(String::from_str(alloc, word)?)?;
+    }
+    Ok(owned)
+}
+
+/// A file of this name.
+pub fn file_of(alloc: Global, name: &str, bytes: &[u8]) -> Result<MemFile, Fail> {
+    Ok(MemFile {
+        name: String::from_str(alloc, name)?,
+        bytes: Vec::from_slice(alloc, bytes)?,
+    })
+}
+
 /// A desk with the core `c` of these bytes and the script `s`, and three outputs of so much room;
 /// the puts of these numbers to the first of them fail.
 pub fn desk_of(

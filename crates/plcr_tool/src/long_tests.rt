@@ -7,11 +7,7 @@ use std::alloc::Global;
 use std::test::Fail;
 
 /// Runs a script on a core of so many images and threads, and gives the desk and the lines.
-fn run(
-    alloc: Global,
-    core: Vec<u8>,
-    script: &[u8],
-) -> Result<(MemDesk, MemOut), Fail> {
+fn run(alloc: Global, core: Vec<u8>, script: &[u8]) -> Result<(MemDesk, MemOut), Fail> {
     let mut desk = desk_of(alloc, core, script, 300_000, Vec::new(alloc))?;
     let mut lines = MemOut::new(alloc, 4_000_000, 300, Vec::new(alloc))?;
     let mut past = None;
@@ -59,8 +55,7 @@ fn add_statements(alloc: Global, script: &mut Vec<u8>, i: u32) -> Result<(), Fai
     let one = 0x1_0000_0000 + 0x4000 * u64::from(i % 8);
     let other = 0x1_0000_0000 + 0x4000 * u64::from((i % 8 + 3) % 8);
     let pass = i % 1024;
-    let loads =
-        format!(in alloc; "load {one} n\nload {other} m\nbegin load {other} n\nstep 2\n")?;
+    let loads = format!(in alloc; "load {one} n\nload {other} m\nbegin load {other} n\nstep 2\n")?;
     let walk = format!(in alloc; "enter {pass}\nwalk {pass} 1\nend\n")?;
     let begun = format!(in alloc; "begin unload {one}\nstep 1\nend\n")?;
     let unload = format!(in alloc; "unload {other}\nleave {pass}\n")?;

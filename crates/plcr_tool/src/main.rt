@@ -11,6 +11,8 @@ mod image_tests;
 mod laws;
 #[cfg(test)]
 mod long_tests;
+#[cfg(test)]
+mod make_tests;
 mod report;
 #[cfg(test)]
 mod run_tests;

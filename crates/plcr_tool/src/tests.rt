@@ -1,4 +1,4 @@
-use crate::fixtures::{Core, REPORT, desk, lines};
+use crate::fixtures::{Core, REPORT, desk, lines, words};
 use crate::report::report_command;
 use crate::top::top;
 use plcr_io::MemOut;
@@ -31,11 +31,8 @@ fn reports_one_thread(rt: HostRuntime) -> Result<(), Fail> {
 }
 
 /// What `top` answers and prints for the first of these words, on a desk with a core and a script.
-fn said(alloc: Global, script: &[u8], words: &[&str]) -> Result<(u8, MemOut), Fail> {
-    let mut owned = Vec::new(alloc);
-    for word in words {
-        owned.push(String::from_str(alloc, word)?)?;
-    }
+fn said(alloc: Global, script: &[u8], said: &[&str]) -> Result<(u8, MemOut), Fail> {
+    let owned = words(alloc, said)?;
     let mut desk = desk(alloc, Core::Whole, script, Vec::new(alloc), Vec::new(alloc))?;
     let mut lines = lines(alloc)?;
     let status = top(alloc, owned.as_slice(), &mut desk, &mut lines, &mut None);
