@@ -1,0 +1,18 @@
+use Rattle.std.proofs.Common.{◌≡◌, ◌≤◌, ◌<◌, [], All, length, vec_len, vec_capacity}
+use Rattle.crossbeam_queue.specs.Passes.{view}
+use Rattle.plcr_workers.specs.declared.lines.PassLine.{PassLine}
+use Rattle.plcr_workers.specs.inner.Places.{IsAt}
+use Rattle.plcr_workers.specs.inner.Hired.{SoFar}
+use Rattle.plcr_workers.proofs.worker.Worker.take_statements.Given as goal
+
+abbrev pub invariant-loop-at : goal.invariant-loop-at
+invariant-loop-at g l = record {
+  number : l.self.script ≡ l.initial.self.script;
+  pass : (l.self.turns.table_id ≡ l.queue.table.shared.table_id) × (l.self.turns.me.1 ≡ []);
+  so_far : SoFar l.self.script l.list l.script.statements l.at (view l.self.turns);
+  place : IsAt l.list l.place;
+  lines : All (λ (x : PassLine). x.at < length l.script.statements) l.self.lines.items;
+  fits : vec_len l.self.lines ≤ l.at;
+  room : length l.script.statements ≤ vec_capacity l.self.lines;
+  next : l.next ≤ l.at;
+}

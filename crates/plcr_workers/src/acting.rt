@@ -1,0 +1,194 @@
+//! One statement of a worker.
+ghost use Rattle.std.specs.Prelude.{◌≡◌, ◌<◌, IsNone, None, IfSome};
+ghost use Rattle.crossbeam_queue.specs.Passes.{view, IsSamePass, IsPassOf, ruled_capacity};
+ghost use Rattle.plcr_imagelist.specs.Walk.{IsSameWalk};
+ghost use Rattle.plcr_turns.specs.Working.{IsWorking, HasNext, AppliesLine};
+ghost use Rattle.plcr_workers.specs.Asking.{asked_in};
+ghost use Rattle.plcr_workers.specs.inner.Places.{IsAt, walker_of, Asks, Advances};
+
+use crate::drafts::Draft;
+use crate::gate::Gate;
+use crate::lines::PassSaid;
+use crate::places::{Place, enter, move_pass};
+use plcr_command::MOST_SCRIPTS;
+use plcr_encode::Context;
+use plcr_imagelist::{Hold, ImageList, Pass};
+use plcr_io::{PutFailed, Sink};
+use plcr_run::walk_to_end;
+use plcr_script::{Process, Statement};
+use plcr_turns::{Request, ScriptLine, TurnPass, TurnQueue, apply_inside, apply_outside};
+use std::sync::Wait;
+
+/// What a statement came to for its worker.
+#[derive(Clone, Copy, Debug, PartialEq, Eq)]
+pub enum Took {
+    /// It says nothing here: its line stands in the journal.
+    Silent,
+    /// Its line is one of the script's other lines.
+    Said(PassSaid),
+    /// The output of its report failed, which ends the script.
+    Unwritten,
+}
+
+/// What a statement asks of the writer, if it does.
+pub(crate) fn request_of<'a, P: Process>(
+    process: &P,
+    statement: &'a Statement,
+) -> Option<Request<'a>>
+    ensures some { IfSome result (Asks (P.image_fault process.now) statement.now) }
+    ensures none { IsNone result → asked_in statement.now ≡ None }
+{
+    match statement {
+        Statement::Load { header, name } => Some(Request::Load {
+            header: *header,
+            name: name.as_slice(),
+            fault: process.fault(*header),
+        }),
+        Statement::Unload { header } => Some(Request::Unload { header: *header }),
+        _ => None,
+    }
+}
+
+/// Applies a line once the worker has the turn: its pass and the writer then know what the other had seen.
+pub(crate) fn apply<R: Wait>(
+    rt: &R,
+    queue: &TurnQueue,
+    list: &ImageList,
+    turns: &mut TurnPass,
+    line: &ScriptLine,
+    place: Place,
+) -> Place
+    requires queue { IsPassOf queue.now turns.old × (ruled_capacity queue.now ≡ 1) }
+    requires list { IsAt list.now place }
+    requires working { IsWorking line.now.script list.now (view turns.old) }
+    requires left { HasNext (view turns.old) }
+    ensures queue { IsSamePass turns.old turns.new }
+    ensures list { IsAt list.now result }
+    ensures applies { AppliesLine line.now (view turns.old) (walker_of place).history (view turns.new) (walker_of result).history (walker_of result).names }
+    ensures working { IsWorking line.now.script list.now (view turns.new) }
+{
+    match place {
+        Place::Out(pass) => {
+            let mut pass = pass;
+            apply_outside(rt, queue, list, turns, line, &mut pass);
+            Place::Out(pass)
+        }
+        Place::In(hold) => {
+            let mut hold = hold;
+            apply_inside(rt, queue, list, turns, line, &mut hold);
+            Place::In(hold)
+        }
+    }
+}
+
+/// The pass goes in, if it is out, walks to its end, and comes out; before it does, the report of the process with the
+/// images that it met is written.
+pub(crate) fn report<P: Process, G: Gate, K: Sink>(
+    process: &P,
+    context: &Context,
+    list: &ImageList,
+    gate: &G,
+    script: u32,
+    line: u32,
+    place: Place,
+    draft: &mut Draft<K>,
+) -> (Pass, Took)
+    requires context { P.accepts process.now context.now }
+    requires list { IsAt list.now place }
+    requires few { script < MOST_SCRIPTS }
+    ensures list { result.0.table ≡ list.now }
+    ensures draft { draft.new.at ≡ draft.old.at }
+{
+    let mut hold = match place {
+        Place::Out(pass) => enter(list, gate, script, line, pass),
+        Place::In(hold) => hold,
+    };
+    walk_to_end(&mut hold, list);
+    let captured = write_walk(process, context, list, &mut hold, draft);
+    let images = hold.met();
+    let (pass, window) = hold.leave(list);
+    let took = match captured {
+        Ok(bytes) => Took::Said(PassSaid::Reported {
+            bytes,
+            images,
+            low: window.low,
+            high: window.high,
+        }),
+        Err(PutFailed) => Took::Unwritten,
+    };
+    (pass, took)
+}
+
+/// Writes the report with the images that a hold met.
+fn write_walk<P: Process, K: Sink>(
+    process: &P,
+    context: &Context,
+    list: &ImageList,
+    hold: &mut Hold,
+    draft: &mut Draft<K>,
+) -> Result<u64, PutFailed>
+    requires context { P.accepts process.now context.now }
+    requires list { hold.old.walker.table ≡ list.now }
+    ensures list { hold.new.walker.table ≡ list.now }
+    ensures same { IsSameWalk hold.old hold.new }
+    ensures draft { draft.new.at ≡ draft.old.at }
+{
+    let mut images = hold.images(list);
+    draft.write(process, context, &mut images)
+}
+
+/// Takes a statement of a script. The script's number counts from 0, and `next` is the number of its next output.
+pub(crate) fn take_statement<R: Wait, P: Process, G: Gate, K: Sink>(
+    rt: &R,
+    queue: &TurnQueue,
+    list: &ImageList,
+    process: &P,
+    context: &Context,
+    gate: &G,
+    script: u32,
+    line: u32,
+    statement: &Statement,
+    turns: &mut TurnPass,
+    place: Place,
+    drafts: &mut [Draft<K>],
+    next: usize,
+) -> (Place, Took)
+    requires context { P.accepts process.now context.now }
+    requires queue { IsPassOf queue.now turns.old × (ruled_capacity queue.now ≡ 1) }
+    requires list { IsAt list.now place }
+    requires few { script < MOST_SCRIPTS }
+    requires working { IsWorking script list.now (view turns.old) }
+    requires left { IfSome (asked_in statement.now) (λ asked. HasNext (view turns.old)) }
+    ensures queue { IsSamePass turns.old turns.new }
+    ensures list { IsAt list.now result.0 }
+    ensures working { IsWorking script list.now (view turns.new) }
+    ensures advances { Advances script line (asked_in statement.now) (view turns.old) (view turns.new) }
+{
+    if let Some(request) = request_of(process, statement) {
+        gate.before_change(script + 1, line);
+        let asked = ScriptLine {
+            script,
+            line,
+            request,
+        };
+        let place = apply(rt, queue, list, turns, &asked, place);
+        return (place, Took::Silent);
+    }
+    match statement {
+        Statement::Report { .. } => match drafts.get_mut(next) {
+            Some(draft) => {
+                let (pass, took) = report(process, context, list, gate, script, line, place, draft);
+                (Place::Out(pass), took)
+            }
+            None => (place, Took::Silent),
+        },
+        _ => {
+            let (place, said) = move_pass(list, gate, script, line, statement, place);
+            let took = match said {
+                Some(said) => Took::Said(said),
+                None => Took::Silent,
+            };
+            (place, took)
+        }
+    }
+}
