@@ -16,6 +16,7 @@ PROMISES = [
     ("the program", "plcr_tool", "top", "top"),
     ("`report`", "plcr_tool", "report", "report_command"),
     ("`show`", "plcr_tool", "show", "show_command"),
+    ("`make`", "plcr_maker", "command", "make_command"),
     ("a capture", "plcr_encode", "report", "capture"),
     ("reading a report file", "plcr_decode", "reader", "decode"),
     ("a load of the image list", "plcr_imagelist", "writer", "Writer::load"),

@@ -6,11 +6,10 @@ use Rattle.std.specs.Char.{digit_value}
 use Rattle.std.specs.Fmt.{digits, digits_onto, digit_glyph}
 use Rattle.std.specs.Str.Parse.{AllDigits, digits_value}
 use Rattle.std.proofs.Math.Seq.{take-append_seam}
-use Rattle.std.proofs.lemmas.Bool.{lt-ltb, eq-eqb, eqb-true}
+use Rattle.std.proofs.lemmas.Bool.{lt-ltb, eq-eqb, eqb-true, or_parts}
 use Rattle.std.proofs.lemmas.Fmt.{digits_is_IsNumeral, decimal_is_IsNumeral}
 use Rattle.std.proofs.lemmas.List.Elements.{All-nil, All-cons}
 use Rattle.std.proofs.lemmas.List.Splits.{slice_split_at, slice_split_none}
-use Rattle.plcr_script.proofs.Naming.{neither}
 use Rattle.plcr_script.proofs.Cutting.{lines_cut}
 use Rattle.plcr_script.proofs.Digits.{numeral_read}
 use Rattle.plcr_script.specs.Splits.{lines, words, cut_in, first_word}
@@ -32,7 +31,7 @@ free-append byte (x ∷ xs) ys f g = (f.0, free-append byte xs ys f.1 g)
 -- so it is where a test computes so
 pub free_by : (byte : ℕ) (xs : List ℕ) → list_any (λ b. eqb b byte) xs ≡ false → IsFree byte xs
 free_by byte [] h = tt
-free_by byte (x ∷ xs) h = let both = neither (eqb x byte) (list_any (λ b. eqb b byte) xs) h in (both.0, free_by byte xs both.1)
+free_by byte (x ∷ xs) h = let both = or_parts (eqb x byte) (list_any (λ b. eqb b byte) xs) h in (both.0, free_by byte xs both.1)
 
 free_all : (byte : ℕ) (xs : List ℕ) → IsFree byte xs → All (λ b. eqb b byte ≡ false) xs
 free_all byte [] f = All-nil (λ b. eqb b byte ≡ false)
