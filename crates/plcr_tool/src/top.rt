@@ -8,11 +8,14 @@ ghost use Rattle.plcr_tool.specs.Top.{TopDoes, usage_line};
 
 use crate::report::report_command;
 use crate::show::show_command;
-use plcr_command::{Ending, print_line, status};
+use plcr_command::{Ending, MOST_SCRIPTS, print_line, status};
 use plcr_imagelist::Writer;
 use plcr_io::{Desk, Sink};
 use plcr_maker::{images_of, make_command};
+use plcr_workers::{Gate, threads_command};
 use std::alloc::Global;
+use std::sync::Wait;
+use std::thread::Threads;
 
 /// The command forms, as the usage line tells them.
 const USAGE: &[u8] =
@@ -21,13 +24,17 @@ const USAGE: &[u8] =
 /// Does what the words of the command line ask for, on a desk and a sink for its lines, and gives
 /// the status: that of the command, or 1, behind the usage line, exactly where the words fit no
 /// form. A command that runs scripts leaves the writer of its image list in `past`.
-pub fn top<D: Desk, L: Sink>(
+pub fn top<R: Threads + Wait + Sync, D: Desk, L: Sink, G: Gate>(
+    rt: &R,
     alloc: Global,
     words: &[String],
     desk: &mut D,
     lines: &mut L,
+    gate: &G,
     past: &mut Option<Writer>,
 ) -> u8
+where
+    D::Out: Send,
     requires { past.old ≡ None }
     ensures does { TopDoes (map string_bytes words.now)
         (seen (D.told desk.old) (L.written lines.old) (L.faults lines.old))
@@ -40,6 +47,9 @@ pub fn top<D: Desk, L: Sink>(
         (seen (D.told desk.new) (L.written lines.new) (L.faults lines.new)) past.new result }
     ensures mark { L.mark lines.new ≡ L.mark lines.old }
 {
+    if let Some((core, scripts)) = threads_words(words) {
+        return threads_command(rt, alloc, core, scripts, desk, lines, gate, past);
+    }
     match words {
         [word, report] => {
             if word.as_str() == "show" {
@@ -68,6 +78,19 @@ pub fn top<D: Desk, L: Sink>(
             }
         }
         _ => misused(lines),
+    }
+}
+
+/// The core and the scripts of words of the form `threads CORE SCRIPT...`, which has 64 scripts at most.
+fn threads_words(words: &[String]) -> Option<(&str, &[String])> {
+    if words.len() < 3 || words.len() > 2 + MOST_SCRIPTS {
+        return None;
+    }
+    let (front, scripts) = words.split_at(2);
+    if front[0].as_str() == "threads" {
+        Some((front[1].as_str(), scripts))
+    } else {
+        None
     }
 }
 

@@ -17,7 +17,7 @@ use Rattle.plcr_turns.specs.Lines.{asked_by, lines_of, wanted_by}
 use Rattle.plcr_turns.specs.Working.{IsWorking, HasNext, AppliesLine}
 use Rattle.plcr_workers.specs.Asking.{asked_in, change_lines}
 use Rattle.plcr_workers.specs.inner.Places.{total_of, Advances}
-use Rattle.plcr_workers.specs.inner.Hired.{SoFar}
+use Rattle.plcr_workers.specs.inner.Hired.{SoFar, asks_one}
 
 -- the line of a statement, if it has one
 abbrev own_lines : ℕ → Option Asked → List Wanted
@@ -96,3 +96,24 @@ left_if_asked script list statements at line statement v s e = of (asked_in stat
 pub next_of : (asked : Option Asked) (a : Asked) (v : View) → asked ≡ Some a → IfSome asked (λ x. HasNext v) → HasNext v
 next_of None a v e h = absurd cc
 next_of (Some b) a v e h = h
+-- a statement by its place alone
+pub stands_at : (statements : List NumberedStatement) (at : ℕ) (statement : Statement) → Some statement ≡ option_map (λ (s : NumberedStatement). s.statement) (slice_get statements at)
+    → (line : ℕ) × (slice_get statements at ≡ Some (record { line = line; statement = statement }))
+stands_at statements at statement e = of (slice_get statements at) refl e
+  where
+    of : (o : Option NumberedStatement) → slice_get statements at ≡ o → Some statement ≡ option_map (λ (s : NumberedStatement). s.statement) o → (line : ℕ) × (slice_get statements at ≡ Some (record { line = line; statement = statement }))
+    of None is h = absurd cc
+    of (Some s) is h = let same : s.statement ≡ statement = cc in (s.line, is ∙ ap (λ (x : Statement). Some (record { line = s.line; statement = x })) same)
+
+own_count : (line : ℕ) (asked : Option Asked) → length (own_lines line asked) ≡ asks_one asked
+own_count line None = refl
+own_count line (Some asked) = refl
+
+-- the lines of the first statements are counted one by one
+pub counted_next : (statements : List NumberedStatement) (at : ℕ) (statement : Statement) → Some statement ≡ option_map (λ (s : NumberedStatement). s.statement) (slice_get statements at)
+    → length (change_lines (take (at + 1) statements)) ≡ length (change_lines (take at statements)) + asks_one (asked_in statement)
+counted_next statements at statement e =
+    let there = stands_at statements at statement e in
+    let long = ap length (lines_next statements at there.0 statement there.1) ∙ length-append (change_lines (take at statements)) (own_lines there.0 (asked_in statement)) in
+    let own = own_count there.0 (asked_in statement) in
+    omega arith

@@ -1,3 +1,5 @@
 pub mod Outcomes
 pub mod Printed
 mod Going
+mod Hires
+mod Opened

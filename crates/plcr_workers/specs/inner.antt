@@ -1,3 +1,4 @@
 -- Definitions that only private functions' contracts cite.
 pub mod Places
 pub mod Hired
+pub mod Outputs

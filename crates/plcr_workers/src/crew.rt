@@ -1,22 +1,117 @@
-//! The workers of all scripts, which run on threads.
-ghost use Rattle.std.specs.Prelude.{◌≡◌, All};
-ghost use Rattle.crossbeam_queue.specs.Passes.{ruled_capacity};
-ghost use Rattle.plcr_workers.specs.inner.Hired.{IsHired, IsGone};
+//! The workers of all scripts: hired, run on threads, and taken in again.
+ghost use Rattle.std.specs.Prelude.{◌≡◌, ◌+◌, ◌≤◌, All, length, vec_len, vec_capacity, IfOk, OnOk, None, Some};
+ghost use Rattle.crossbeam_queue.specs.Passes.{view, IsSamePass, IsPassOf, ruled_capacity};
+ghost use Rattle.plcr_imagelist.specs.Holds.{WalkerState};
+ghost use Rattle.plcr_turns.specs.Gathering.{HasHanded};
+ghost use Rattle.plcr_turns.specs.declared.view.Role.TheVariants.{Chief};
+ghost use Rattle.plcr_workers.specs.Asking.{asked_in, change_lines};
+ghost use Rattle.plcr_workers.specs.inner.Hired.{IsHired, IsGone, totals_in, asks_one};
 
+use crate::drafts::Draft;
 use crate::gate::Gate;
+use crate::lines::PassLine;
 use crate::worker::Worker;
 use plcr_command::MOST_SCRIPTS;
 use plcr_encode::Context;
-use plcr_imagelist::ImageList;
+use plcr_imagelist::{ImageList, Pass};
 use plcr_io::Sink;
-use plcr_script::{Process, Script};
-use plcr_turns::TurnQueue;
+use plcr_script::{Process, Script, Statement};
+use plcr_turns::{TurnPass, TurnQueue, hand_out, take_in};
+use std::alloc::{AllocError, Global};
 use std::sync::Wait;
 use std::thread;
 use std::thread::Threads;
 
+/// What workers leave: their passes of the list; for each script the outputs of its reports, the first script and the first
+/// report last; and the other lines of each script, in the order of the scripts.
+#[derive(Drop)]
+pub(crate) struct Left<K> {
+    pub(crate) images: Vec<Pass>,
+    pub(crate) drafts: Vec<Vec<Draft<K>>>,
+    pub(crate) others: Vec<Vec<PassLine>>,
+}
+
+/// How many loads and unloads each script has.
+pub(crate) fn totals_of(alloc: Global, scripts: &[Script]) -> Result<Vec<u32>, AllocError>
+    ensures { IfOk result (λ totals. totals.items ≡ totals_in scripts.now) }
+{
+    let mut totals = Vec::with_capacity(alloc, scripts.len())?;
+    for script in scripts {
+        totals.push_reserved(changes_of(script)?);
+    }
+    Ok(totals)
+}
+
+/// How many loads and unloads a script has.
+fn changes_of(script: &Script) -> Result<u32, AllocError>
+    ensures { IfOk result (λ count. count ≡ length (change_lines script.now.statements)) }
+{
+    let mut count = 0u32;
+    for at in 0..script.len() {
+        count = match count.checked_add(asks(script.statement(at))) {
+            Some(more) => more,
+            None => return Err(AllocError),
+        };
+    }
+    Ok(count)
+}
+
+/// How many changes a statement asks for: one or none.
+fn asks(statement: &Statement) -> u32
+    ensures { result ≡ asks_one (asked_in statement.now) }
+{
+    match statement {
+        Statement::Load { .. } | Statement::Unload { .. } => 1,
+        _ => 0,
+    }
+}
+
+/// A worker for each script, with room for all its outputs and lines.
+pub(crate) fn hire<K: Sink + Drop>(
+    alloc: Global,
+    queue: &TurnQueue,
+    list: &ImageList,
+    chief: &mut TurnPass,
+    scripts: &[Script],
+    images: Vec<Pass>,
+) -> Result<Vec<Worker<K>>, AllocError>
+    requires queue { IsPassOf queue.now chief.old }
+    requires handed { HasHanded 0 list.now (totals_in scripts.now) (view chief.old) }
+    requires few { length scripts.now ≤ MOST_SCRIPTS }
+    requires images { All (λ (i : WalkerState). i.table ≡ list.now) images.items }
+    ensures queue { OnOk result (IsSamePass chief.old chief.new) }
+    ensures chief { OnOk result (((view chief.new).role ≡ Chief) × ((view chief.new).turn ≡ None) × ((view chief.new).list ≡ Some list.now)) }
+    ensures hired { IfOk result (λ workers. All (λ w. IsHired queue.now.table.shared.table_id list.now scripts.now w) workers.items) }
+{
+    let _ = list;
+    let mut images = images;
+    images.reverse();
+    let mut workers = Vec::with_capacity(alloc, scripts.len())?;
+    for script in 0..scripts.len() {
+        let Some(image) = images.pop() else {
+            break;
+        };
+        let drafts = Vec::with_capacity(alloc, scripts[script].len())?;
+        let lines = Vec::with_capacity(alloc, scripts[script].len())?;
+        let turns = hand_out(queue, chief);
+        workers.push_reserved(Worker {
+            script: script as u32,
+            turns,
+            image: Some(image),
+            drafts,
+            lines,
+        });
+    }
+    Ok(workers)
+}
+
 /// All workers run, each on a thread of its own where one can be made.
-pub(crate) fn run_all<R: Threads + Wait + Sync, P: Process + Sync, G: Gate, K: Sink + Drop + Send>(
+pub(crate) fn run_all<
+    R: Threads + Wait + Sync,
+    P: Process + Sync,
+    G: Gate,
+    K: Sink + Drop + Send,
+>(
     rt: &R,
     queue: &TurnQueue,
     list: &ImageList,
@@ -43,4 +138,68 @@ pub(crate) fn run_all<R: Threads + Wait + Sync, P: Process + Sync, G: Gate, K: S
             worker.run(rt, queue, list, script, process, context, gate)
         },
     );
+}
+
+/// Room for what workers leave.
+pub(crate) fn room_for<K: Sink + Drop>(
+    alloc: Global,
+    scripts: &[Script],
+) -> Result<Left<K>, AllocError>
+    ensures images { IfOk result (λ left. (vec_len left.images ≡ 0) × (length scripts.now ≤ vec_capacity left.images)) }
+    ensures drafts { IfOk result (λ left. (vec_len left.drafts ≡ 0) × (length scripts.now ≤ vec_capacity left.drafts)) }
+    ensures others { IfOk result (λ left. (vec_len left.others ≡ 0) × (length scripts.now ≤ vec_capacity left.others)) }
+{
+    let images = Vec::with_capacity(alloc, scripts.len())?;
+    let others = Vec::with_capacity(alloc, scripts.len())?;
+    let drafts = Vec::with_capacity(alloc, scripts.len())?;
+    Ok(Left {
+        images,
+        drafts,
+        others,
+    })
+}
+
+/// The workers are taken in, the last one first.
+pub(crate) fn gather<K: Sink + Drop>(
+    queue: &TurnQueue,
+    list: &ImageList,
+    scripts: &[Script],
+    chief: &mut TurnPass,
+    workers: Vec<Worker<K>>,
+    room: Left<K>,
+) -> Left<K>
+    requires queue { IsPassOf queue.now chief.old }
+    requires chief { ((view chief.old).role ≡ Chief) × ((view chief.old).turn ≡ None) × ((view chief.old).list ≡ Some list.now) }
+    requires gone { All (λ w. IsGone queue.now.table.shared.table_id list.now scripts.now w) workers.items }
+    requires images_room { vec_len room.images + vec_len workers ≤ vec_capacity room.images }
+    requires drafts_room { vec_len room.drafts + vec_len workers ≤ vec_capacity room.drafts }
+    requires others_room { vec_len room.others + vec_len workers ≤ vec_capacity room.others }
+    requires none { vec_len room.images ≡ 0 }
+    ensures queue { IsSamePass chief.old chief.new }
+    ensures chief { ((view chief.new).role ≡ Chief) × ((view chief.new).turn ≡ None) × ((view chief.new).list ≡ Some list.now) }
+    ensures images { All (λ (i : WalkerState). i.table ≡ list.now) result.images.items }
+{
+    let _ = list;
+    let _ = scripts;
+    let mut left = room;
+    let mut workers = workers;
+    while let Some(worker) = workers.pop() {
+        let Worker {
+            script: _,
+            turns,
+            image,
+            drafts,
+            lines,
+        } = worker;
+        take_in(queue, chief, turns);
+        if let Some(image) = image {
+            left.images.push_reserved(image);
+        }
+        left.others.push_reserved(lines);
+        let mut drafts = drafts;
+        drafts.reverse();
+        left.drafts.push_reserved(drafts);
+    }
+    left.others.reverse();
+    left
 }

@@ -3,15 +3,19 @@
 #![tactic(auto)]
 
 mod acting;
+mod command;
 mod crew;
 mod drafts;
 mod gate;
 mod laws;
 mod lines;
 mod log;
+mod making;
+mod opening;
 mod places;
 mod worker;
 
+pub use command::threads_command;
 pub use gate::{Gate, NoGate};
 pub use laws::known_journals_run;
 pub use lines::{PassLine, PassSaid};

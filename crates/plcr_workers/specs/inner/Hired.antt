@@ -6,6 +6,7 @@ use Rattle.plcr_imagelist.specs.Holds.{WalkerState}
 use Rattle.plcr_command.specs.declared.limits.TheConstants.{MOST_SCRIPTS}
 use Rattle.plcr_script.specs.declared.statements.NumberedStatement.{NumberedStatement}
 use Rattle.plcr_script.specs.Scripts.{ScriptValue}
+use Rattle.plcr_turns.specs.declared.lines.Asked.{Asked}
 use Rattle.plcr_turns.specs.declared.view.View.{View}
 use Rattle.plcr_turns.specs.Lines.{lines_of, wanted_by}
 use Rattle.plcr_turns.specs.Working.{IsWorking}
@@ -49,6 +50,15 @@ pub record IsReady {K : Type 0} (queue list : TableId) (script : ScriptValue) (w
 pub record HasRun {K : Type 0} (queue list : TableId) (script : ScriptValue) (old new : Worker K) : Type 0 where
   pub goes : Goes queue list script old new
   pub image : HasImage list new
+
+-- how many lines a statement gives the journal
+abbrev pub asks_one : Option Asked → ℕ
+asks_one None = 0
+asks_one (Some asked) = 1
+
+-- how many load and unload lines scripts have
+abbrev pub totals_in : List ScriptValue → List ℕ
+totals_in scripts = map (λ (script : ScriptValue). length (change_lines script.statements)) scripts
 
 -- a worker is ready to run the script of its number
 pub record IsHired {K : Type 0} (queue list : TableId) (scripts : List ScriptValue) (w : Worker K) : Type 0 where

@@ -1,0 +1,161 @@
+//! The outputs of all reports: made before the workers start, and kept or given up after they have ended.
+ghost use Rattle.std.specs.Prelude.{◌≡◌, ◌≤◌, ◌<◌, length, IsTrue};
+ghost use Rattle.plcr_script.specs.Sayings.{is_file_name};
+
+use crate::drafts::{Draft, Progress};
+use crate::worker::Worker;
+use plcr_io::{Desk, MakeFailed};
+use plcr_script::{Script, Statement};
+
+/// A report whose file was not made or not kept: the number of its script and the place of its statement there, from 0.
+#[derive(Clone, Copy, Debug, PartialEq, Eq)]
+pub(crate) struct Unwritten {
+    pub(crate) script: u32,
+    pub(crate) at: usize,
+}
+
+/// Makes the outputs of all workers' reports, in the order of script and line.
+///
+/// # Errors
+///
+/// The report whose output was not made.
+pub(crate) fn make_all<D: Desk>(
+    scripts: &[Script],
+    desk: &mut D,
+    workers: &mut [Worker<D::Out>],
+) -> Result<(), Unwritten> {
+    for script in 0..scripts.len() {
+        let drafts = &mut workers[script].drafts;
+        if let Err(at) = make_drafts(&scripts[script], script as u32, desk, drafts) {
+            return Err(Unwritten {
+                script: script as u32,
+                at,
+            });
+        }
+    }
+    Ok(())
+}
+
+/// Makes the outputs of a script's reports, in order.
+///
+/// # Errors
+///
+/// The place of the statement whose output was not made.
+fn make_drafts<D: Desk>(
+    script: &Script,
+    number: u32,
+    desk: &mut D,
+    drafts: &mut Vec<Draft<D::Out>>,
+) -> Result<(), usize> {
+    for at in 0..script.len() {
+        if let Statement::Report { pass: _, file } = script.statement(at) {
+            match desk.make(file_name(file.as_slice())) {
+                Ok(out) => drafts.push_reserved(Draft {
+                    script: number,
+                    at,
+                    out,
+                    progress: Progress::Waiting,
+                }),
+                Err(MakeFailed) => return Err(at),
+            }
+        }
+    }
+    Ok(())
+}
+
+/// Keeps the files of all scripts, of which the last is the first, up to the first that was not written whole or is not
+/// kept; the others are given up.
+///
+/// # Errors
+///
+/// The report whose file was not kept.
+pub(crate) fn keep_all<D: Desk>(
+    scripts: &[Script],
+    desk: &mut D,
+    all: Vec<Vec<Draft<D::Out>>>,
+) -> Result<(), Unwritten> {
+    let mut all = all;
+    while let Some(drafts) = all.pop() {
+        if let Err(unwritten) = keep_each(scripts, desk, drafts) {
+            abandon_all(desk, all);
+            return Err(unwritten);
+        }
+    }
+    Ok(())
+}
+
+/// The same of one script.
+fn keep_each<D: Desk>(
+    scripts: &[Script],
+    desk: &mut D,
+    drafts: Vec<Draft<D::Out>>,
+) -> Result<(), Unwritten> {
+    let mut drafts = drafts;
+    while let Some(draft) = drafts.pop() {
+        let Draft {
+            script,
+            at,
+            out,
+            progress,
+        } = draft;
+        if !keep(&scripts[script as usize], at, out, progress, desk) {
+            abandon_each(desk, drafts);
+            return Err(Unwritten { script, at });
+        }
+    }
+    Ok(())
+}
+
+/// Keeps an output that was written whole, and gives up another. Says whether it was kept.
+fn keep<D: Desk>(
+    script: &Script,
+    at: usize,
+    out: D::Out,
+    progress: Progress,
+    desk: &mut D,
+) -> bool {
+    match progress {
+        Progress::Written => desk.keep(report_file(script, at), out).is_ok(),
+        Progress::Waiting | Progress::Failed => {
+            desk.abandon(out);
+            false
+        }
+    }
+}
+
+/// Gives up the outputs of all scripts.
+pub(crate) fn abandon_all<D: Desk>(desk: &mut D, all: Vec<Vec<Draft<D::Out>>>) {
+    let mut all = all;
+    while let Some(drafts) = all.pop() {
+        abandon_each(desk, drafts);
+    }
+}
+
+/// Gives up the outputs of one script.
+fn abandon_each<D: Desk>(desk: &mut D, drafts: Vec<Draft<D::Out>>) {
+    let mut drafts = drafts;
+    while let Some(draft) = drafts.pop() {
+        desk.abandon(draft.out);
+    }
+}
+
+/// The name of the file of a report; none for another statement.
+pub(crate) fn report_file(script: &Script, at: usize) -> &str
+    requires { at < length script.now.statements }
+{
+    match script.statement(at) {
+        Statement::Report { pass: _, file } => file_name(file.as_slice()),
+        _ => "",
+    }
+}
+
+/// The name of a file as text: it has visible characters of ASCII alone.
+fn file_name(file: &[u8]) -> &str
+    requires { IsTrue (is_file_name file.now) }
+    ensures { result.now ≡ file.now }
+{
+    match str::from_utf8(file) {
+        Ok(name) => name,
+        Err(_) => unreachable!(),
+    }
+}
