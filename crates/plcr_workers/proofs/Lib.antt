@@ -4,3 +4,4 @@ mod Going
 mod Hires
 mod Opened
 mod Settled
+mod Met

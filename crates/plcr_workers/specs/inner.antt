@@ -2,3 +2,5 @@
 pub mod Places
 pub mod Hired
 pub mod Outputs
+pub mod Drafts
+pub mod Stages
