@@ -2,3 +2,4 @@
 pub mod Places
 pub mod Hired
 pub mod Outputs
+pub mod Drafts

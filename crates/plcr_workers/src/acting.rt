@@ -1,12 +1,17 @@
 //! One statement of a worker.
-ghost use Rattle.std.specs.Prelude.{◌≡◌, ◌<◌, IsNone, None, IfSome};
+ghost use Rattle.std.specs.Prelude.{◌≡◌, ◌<◌, IsNone, None, IfOk, IfSome, OnOk, OnErr, length};
+ghost use Rattle.std.specs.Io.KnownBytes.{append_known};
+ghost use Rattle.plcr_base.specs.Causes.{Rose};
 ghost use Rattle.crossbeam_queue.specs.Passes.{view, IsSamePass, IsPassOf, ruled_capacity};
-ghost use Rattle.plcr_imagelist.specs.Walk.{IsSameWalk};
+ghost use Rattle.plcr_imagelist.specs.Walk.{IsSameWalk, images_of};
+ghost use Rattle.plcr_nodes.specs.Entries.{WentOn};
+ghost use Rattle.plcr_script.specs.Reading.{file_of};
 ghost use Rattle.plcr_turns.specs.Working.{IsWorking, HasNext, AppliesLine};
 ghost use Rattle.plcr_workers.specs.Asking.{asked_in};
+ghost use Rattle.plcr_workers.specs.inner.Drafts.{IsOutput, TakesOutputs};
 ghost use Rattle.plcr_workers.specs.inner.Places.{IsAt, walker_of, Asks, Advances};
 
-use crate::drafts::Draft;
+use crate::drafts::{Draft, Progress};
 use crate::gate::Gate;
 use crate::lines::PassSaid;
 use crate::places::{Place, enter, move_pass};
@@ -97,7 +102,7 @@ pub(crate) fn report<P: Process, G: Gate, K: Sink>(
     requires list { IsAt list.now place }
     requires few { script < MOST_SCRIPTS }
     ensures list { result.0.table ≡ list.now }
-    ensures draft { draft.new.at ≡ draft.old.at }
+    ensures output { IsOutput K.faults result.1 draft.old draft.new }
 {
     let mut hold = match place {
         Place::Out(pass) => enter(list, gate, script, line, pass),
@@ -131,7 +136,12 @@ fn write_walk<P: Process, K: Sink>(
     requires list { hold.old.walker.table ≡ list.now }
     ensures list { hold.new.walker.table ≡ list.now }
     ensures same { IsSameWalk hold.old hold.new }
-    ensures draft { draft.new.at ≡ draft.old.at }
+    ensures place { (draft.new.script ≡ draft.old.script) × (draft.new.at ≡ draft.old.at) }
+    ensures ok { OnOk result (draft.new.progress ≡ Progress.Written) }
+    ensures written { OnOk result (K.written draft.new.out ≡ append_known (K.written draft.old.out) (P.report process.now context.now (images_of hold.old))) }
+    ensures length { IfOk result (λ n. n ≡ length (P.report process.now context.now (images_of hold.old))) }
+    ensures err { OnErr result (draft.new.progress ≡ Progress.Failed) }
+    ensures cause { OnErr result (Rose (K.faults draft.old.out) (K.faults draft.new.out)) }
 {
     let mut images = hold.images(list);
     draft.write(process, context, &mut images)
@@ -159,10 +169,12 @@ pub(crate) fn take_statement<R: Wait, P: Process, G: Gate, K: Sink>(
     requires few { script < MOST_SCRIPTS }
     requires working { IsWorking script list.now (view turns.old) }
     requires left { IfSome (asked_in statement.now) (λ asked. HasNext (view turns.old)) }
+    requires next { IfSome (file_of statement.now) (λ file. next < length drafts.old) }
     ensures queue { IsSamePass turns.old turns.new }
     ensures list { IsAt list.now result.0 }
     ensures working { IsWorking script list.now (view turns.new) }
     ensures advances { Advances script line (asked_in statement.now) (view turns.old) (view turns.new) }
+    ensures outputs { TakesOutputs K.faults next (file_of statement.now) result.1 drafts.old drafts.new }
 {
     if let Some(request) = request_of(process, statement) {
         gate.before_change(script + 1, line);
@@ -175,13 +187,11 @@ pub(crate) fn take_statement<R: Wait, P: Process, G: Gate, K: Sink>(
         return (place, Took::Silent);
     }
     match statement {
-        Statement::Report { .. } => match drafts.get_mut(next) {
-            Some(draft) => {
-                let (pass, took) = report(process, context, list, gate, script, line, place, draft);
-                (Place::Out(pass), took)
-            }
-            None => (place, Took::Silent),
-        },
+        Statement::Report { .. } => {
+            let draft = &mut drafts[next];
+            let (pass, took) = report(process, context, list, gate, script, line, place, draft);
+            (Place::Out(pass), took)
+        }
         _ => {
             let (place, said) = move_pass(list, gate, script, line, statement, place);
             let took = match said {

@@ -1,6 +1,7 @@
 //! Where a worker's pass of the list is, and the statements that move it.
-ghost use Rattle.std.specs.Prelude.{◌≡◌, ◌<◌};
+ghost use Rattle.std.specs.Prelude.{◌≡◌, ◌<◌, IfSome};
 ghost use Rattle.plcr_imagelist.specs.Holds.{IsWalking};
+ghost use Rattle.plcr_workers.specs.inner.Drafts.{IsNoReportSaid};
 ghost use Rattle.plcr_workers.specs.inner.Places.{IsAt};
 
 use crate::gate::Gate;
@@ -54,6 +55,7 @@ pub(crate) fn move_pass<G: Gate>(
     requires list { IsAt list.now place }
     requires few { script < MOST_SCRIPTS }
     ensures list { IsAt list.now result.0 }
+    ensures said { IfSome result.1 IsNoReportSaid }
 {
     match place {
         Place::Out(pass) => match statement {
@@ -83,6 +85,7 @@ fn walk_on(list: &ImageList, hold: Hold, most: u32) -> (Hold, PassSaid)
     requires walking { IsWalking hold }
     ensures list { result.0.walker.table ≡ list.now }
     ensures walking { IsWalking result.0 }
+    ensures said { IsNoReportSaid result.1 }
 {
     let mut hold = hold;
     walk(&mut hold, list, most);
@@ -95,6 +98,7 @@ fn walk_on(list: &ImageList, hold: Hold, most: u32) -> (Hold, PassSaid)
 fn leave(list: &ImageList, hold: Hold) -> (Pass, PassSaid)
     requires list { hold.walker.table ≡ list.now }
     ensures list { result.0.table ≡ list.now }
+    ensures said { IsNoReportSaid result.1 }
 {
     let met = hold.met();
     let (pass, window) = hold.leave(list);
