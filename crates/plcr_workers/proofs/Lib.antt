@@ -3,3 +3,4 @@ pub mod Printed
 mod Going
 mod Hires
 mod Opened
+mod Outputs

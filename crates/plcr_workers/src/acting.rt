@@ -4,12 +4,11 @@ ghost use Rattle.std.specs.Io.KnownBytes.{append_known};
 ghost use Rattle.plcr_base.specs.Causes.{Rose};
 ghost use Rattle.crossbeam_queue.specs.Passes.{view, IsSamePass, IsPassOf, ruled_capacity};
 ghost use Rattle.plcr_imagelist.specs.Walk.{IsSameWalk, images_of};
-ghost use Rattle.plcr_nodes.specs.Entries.{WentOn};
 ghost use Rattle.plcr_script.specs.Reading.{file_of};
 ghost use Rattle.plcr_turns.specs.Working.{IsWorking, HasNext, AppliesLine};
 ghost use Rattle.plcr_workers.specs.Asking.{asked_in};
 ghost use Rattle.plcr_workers.specs.inner.Drafts.{IsOutput, TakesOutputs};
-ghost use Rattle.plcr_workers.specs.inner.Places.{IsAt, walker_of, Asks, Advances};
+ghost use Rattle.plcr_workers.specs.inner.Places.{IsAt, PassGoes, walker_of, Asks, Advances};
 
 use crate::drafts::{Draft, Progress};
 use crate::gate::Gate;
@@ -69,6 +68,7 @@ pub(crate) fn apply<R: Wait>(
     requires left { HasNext (view turns.old) }
     ensures queue { IsSamePass turns.old turns.new }
     ensures list { IsAt list.now result }
+    ensures goes { PassGoes (walker_of place) (walker_of result) }
     ensures applies { AppliesLine line.now (view turns.old) (walker_of place).history (view turns.new) (walker_of result).history (walker_of result).names }
     ensures working { IsWorking line.now.script list.now (view turns.new) }
 {
@@ -102,6 +102,7 @@ pub(crate) fn report<P: Process, G: Gate, K: Sink>(
     requires list { IsAt list.now place }
     requires few { script < MOST_SCRIPTS }
     ensures list { result.0.table ≡ list.now }
+    ensures goes { PassGoes (walker_of place) result.0 }
     ensures output { IsOutput K.faults result.1 draft.old draft.new }
 {
     let mut hold = match place {
@@ -172,6 +173,7 @@ pub(crate) fn take_statement<R: Wait, P: Process, G: Gate, K: Sink>(
     requires next { IfSome (file_of statement.now) (λ file. next < length drafts.old) }
     ensures queue { IsSamePass turns.old turns.new }
     ensures list { IsAt list.now result.0 }
+    ensures goes { PassGoes (walker_of place) (walker_of result.0) }
     ensures working { IsWorking script list.now (view turns.new) }
     ensures advances { Advances script line (asked_in statement.now) (view turns.old) (view turns.new) }
     ensures outputs { TakesOutputs K.faults next (file_of statement.now) result.1 drafts.old drafts.new }

@@ -2,7 +2,8 @@
 ghost use Rattle.std.specs.Prelude.{◌≡◌, ◌+◌, ◌^◌, ◌<◌, ◌≤◌, ℕ, All, vec_len, vec_capacity};
 ghost use Rattle.plcr_workers.specs.declared.lines.PassLine.{PassLine as Line};
 ghost use Rattle.crossbeam_queue.specs.Passes.{ruled_capacity};
-ghost use Rattle.plcr_workers.specs.inner.Places.{IsAt};
+ghost use Rattle.plcr_workers.specs.inner.Places.{IsAt, PassGoes, walker_of};
+ghost use Rattle.plcr_workers.specs.inner.Drafts.{HasOutputs, HasTaken, next_after};
 ghost use Rattle.plcr_workers.specs.inner.Hired.{IsReady, HasRun, Begins, Goes};
 
 use crate::acting::{Took, take_statement};
@@ -43,7 +44,9 @@ impl<K: Sink> Worker<K> {
         requires context { P.accepts process.now context.now }
         requires queue { ruled_capacity queue.now ≡ 1 }
         requires ready { IsReady queue.now.table.shared.table_id list.now script.now self.old }
+        requires outputs { HasOutputs K.faults script.now self.old }
         ensures run { HasRun queue.entry.now.table.shared.table_id list.entry.now script.entry.now self.old self.new }
+        ensures taken { HasTaken K.faults self.old self.new }
     {
         let Some(pass) = self.image.take() else {
             return;
@@ -68,9 +71,12 @@ impl<K: Sink> Worker<K> {
         requires context { P.accepts process.now context.now }
         requires queue { ruled_capacity queue.now ≡ 1 }
         requires begins { Begins queue.now.table.shared.table_id list.now script.now self.old }
+        requires outputs { HasOutputs K.faults script.now self.old }
         requires place { IsAt list.now place }
         ensures goes { Goes queue.entry.now.table.shared.table_id list.entry.now script.entry.now self.old self.new }
         ensures place { IsAt list.entry.now result }
+        ensures image { PassGoes (walker_of place) (walker_of result) }
+        ensures taken { HasTaken K.faults self.old self.new }
     {
         let mut place = place;
         let mut next = 0;
@@ -91,32 +97,34 @@ impl<K: Sink> Worker<K> {
                 next,
             );
             place = moved;
-            if let Took::Unwritten = took {
-                return place;
+            match add_line(&mut self.lines, at, took, next) {
+                Some(more) => next = more,
+                None => return place,
             }
-            next = add_line(&mut self.lines, at, took, next);
         }
         place
     }
 }
 
-/// Adds the line of a statement, if it has one here. Gives the number of the script's next output, behind this one.
-fn add_line(lines: &mut Vec<PassLine>, at: usize, took: Took, next: usize) -> usize
+/// Adds the line of a statement, if it has one here. Gives the number of the script's next output, behind this one; none
+/// where an output failed.
+fn add_line(lines: &mut Vec<PassLine>, at: usize, took: Took, next: usize) -> Option<usize>
     requires room { vec_len lines.old < vec_capacity lines.old }
     requires small { next + 1 < 2 ^ 64 }
     ensures lines { (n : ℕ) → at < n → All (λ (l : Line). l.at < n) lines.old.items → All (λ (l : Line). l.at < n) lines.new.items }
     ensures len { vec_len lines.new ≤ vec_len lines.old + 1 }
     ensures capacity { vec_capacity lines.new ≡ vec_capacity lines.old }
-    ensures next { result ≤ next + 1 }
+    ensures next { result ≡ next_after took next }
 {
     match took {
         Took::Said(said) => {
             lines.push_reserved(PassLine { at, said });
             match said {
-                PassSaid::Reported { .. } => next + 1,
-                _ => next,
+                PassSaid::Reported { .. } => Some(next + 1),
+                _ => Some(next),
             }
         }
-        Took::Silent | Took::Unwritten => next,
+        Took::Silent => Some(next),
+        Took::Unwritten => None,
     }
 }

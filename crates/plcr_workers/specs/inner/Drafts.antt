@@ -55,6 +55,15 @@ pub record AreUpTo {K : Type 0} (faults : K → ℕ) (next : ℕ) (drafts : List
   pub written : (k : ℕ) (other : Draft K) → k < length drafts → k < next → (slice_index_or drafts k other).progress ≡ Written
   pub waiting : (k : ℕ) (other : Draft K) → k < length drafts → next ≤ k → faults (slice_index_or drafts k other).out ≡ 0
 
+-- the number of the next output behind a statement; none where an output failed, which ends the script
+abbrev pub next_after : Took → ℕ → Option ℕ
+next_after Silent next = Some next
+next_after (Said Entered) next = Some next
+next_after (Said (Walked met ended)) next = Some next
+next_after (Said (Left met low high)) next = Some next
+next_after (Said (Reported bytes images low high)) next = Some (next + 1)
+next_after Unwritten next = None
+
 -- outputs of the same statements, in the same order
 pub record AreSamePlaces {K : Type 0} (old new : List (Draft K)) : Type 0 where
   pub count : length new ≡ length old
@@ -65,7 +74,17 @@ pub record HasOutputs {K : Type 0} (faults : K → ℕ) (script : ScriptValue) (
   pub count : vec_len w.drafts ≡ length (files_of script.statements)
   pub waiting : All (λ (d : Draft K). faults d.out ≡ 0) w.drafts.items
 
+-- an output failed
+abbrev pub HasFailed : {K : Type 0} → List (Draft K) → Type 0
+HasFailed {K = K} drafts = (k : ℕ) × (k < length drafts) × ((other : Draft K) → (slice_index_or drafts k other).progress ≡ Failed)
+
 -- the worker took the reports of its script, up to the first whose output failed
 pub record HasTaken {K : Type 0} (faults : K → ℕ) (old new : Worker K) : Type 0 where
+  pub number : new.script ≡ old.script
   pub places : AreSamePlaces old.drafts.items new.drafts.items
   pub done : AreDone faults new.drafts.items
+
+-- each of these workers did, at its place
+pub record HaveTaken {K : Type 0} (faults : K → ℕ) (old new : List (Worker K)) : Type 0 where
+  pub count : length new ≡ length old
+  pub each : (k : ℕ) (other : Worker K) → k < length old → HasTaken faults (slice_index_or old k other) (slice_index_or new k other)

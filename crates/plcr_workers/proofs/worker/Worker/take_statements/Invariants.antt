@@ -1,8 +1,10 @@
 use Rattle.std.proofs.Common.{◌≡◌, ◌≤◌, ◌<◌, [], All, length, vec_len, vec_capacity}
 use Rattle.crossbeam_queue.specs.Passes.{view}
+use Rattle.plcr_script.specs.Reading.{files_of}
 use Rattle.plcr_workers.specs.declared.lines.PassLine.{PassLine}
 use Rattle.plcr_workers.specs.inner.Places.{IsAt}
 use Rattle.plcr_workers.specs.inner.Hired.{SoFar}
+use Rattle.plcr_workers.proofs.Outputs.{AreNext}
 use Rattle.plcr_workers.proofs.worker.Worker.take_statements.Given as goal
 
 abbrev pub invariant-loop-at : goal.invariant-loop-at
@@ -14,5 +16,6 @@ invariant-loop-at g l = record {
   lines : All (λ (x : PassLine). x.at < length l.script.statements) l.self.lines.items;
   fits : vec_len l.self.lines ≤ l.at;
   room : length l.script.statements ≤ vec_capacity l.self.lines;
-  next : l.next ≤ l.at;
+  all : vec_len l.self.drafts ≡ length (files_of l.script.statements);
+  outputs : AreNext g.K.Sink.faults l.script.statements l.at l.next l.initial.self.drafts.items l.self.drafts.items;
 }
