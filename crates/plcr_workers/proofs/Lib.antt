@@ -4,3 +4,5 @@ mod Going
 mod Hires
 mod Opened
 mod Outputs
+mod Crews
+mod Owned

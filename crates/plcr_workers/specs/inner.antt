@@ -3,3 +3,4 @@ pub mod Places
 pub mod Hired
 pub mod Outputs
 pub mod Drafts
+pub mod Own

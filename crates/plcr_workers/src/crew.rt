@@ -1,5 +1,6 @@
 //! The workers of all scripts: hired, run on threads, and taken in again.
-ghost use Rattle.std.specs.Prelude.{◌≡◌, ◌+◌, ◌≤◌, All, [], length, vec_len, vec_capacity, IfOk, OnOk, None, Some};
+ghost use Rattle.std.specs.Prelude.{◌≡◌, ◌+◌, ◌<◌, ◌≤◌, ◌++◌, All, [], ◌∷◌, length, vec_len, vec_capacity, IfOk, IfSome, OnOk, None, Some};
+ghost use Rattle.plcr_imagelist.specs.Holds.{WalkerState};
 ghost use Rattle.crossbeam_queue.specs.Passes.{view, IsSamePass, IsPassOf, ruled_capacity};
 ghost use Rattle.plcr_turns.specs.Gathering.{AreWorking, HasHanded, HasGathered};
 ghost use Rattle.plcr_turns.specs.Views.{HasAll};
@@ -204,9 +205,7 @@ pub(crate) fn gather<K: Sink + Drop>(
             lines,
         } = worker;
         take_in(queue, chief, turns);
-        if let Some(image) = image {
-            left.images.push_reserved(image);
-        }
+        add_image(&mut left.images, image);
         left.others.push_reserved(lines);
         let mut drafts = drafts;
         drafts.reverse();
@@ -214,4 +213,16 @@ pub(crate) fn gather<K: Sink + Drop>(
     }
     left.others.reverse();
     left
+}
+
+/// Adds the pass of a worker.
+fn add_image(images: &mut Vec<Pass>, image: Option<Pass>)
+    requires room { vec_len images.old < vec_capacity images.old }
+    ensures added { IfSome image (λ (i : WalkerState). images.new.items ≡ images.old.items ++ i ∷ []) }
+    ensures capacity { vec_capacity images.new ≡ vec_capacity images.old }
+    ensures len { vec_len images.new ≤ vec_len images.old + 1 }
+{
+    if let Some(image) = image {
+        images.push_reserved(image);
+    }
 }
