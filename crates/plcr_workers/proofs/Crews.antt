@@ -1,8 +1,8 @@
 -- Workers in the order of their scripts.
-use Rattle.std.proofs.Common.{◌≡◌, ℕ, zero, suc, ◌+◌, ◌-◌, ◌<◌, ◌≤◌, List, [], ◌∷◌, ◌++◌, length, reverse, get_or, slice_index_or, All, Option, Some, None, refl, sym, ap, ◌∙◌, subst, append_assoc, append-nil, length-append, arith}
+use Rattle.std.proofs.Common.{◌≡◌, ℕ, zero, suc, ◌+◌, ◌-◌, ◌<◌, ◌≤◌, List, [], ◌∷◌, ◌++◌, length, map, reverse, get_or, slice_index_or, All, Option, Some, None, refl, sym, ap, ◌∙◌, subst, append_assoc, append-nil, length-append, arith}
 use Rattle.std.specs.Prelude.{Vec}
 use Rattle.std.specs.declared.alloc.Global.{Global}
-use Rattle.std.proofs.lemmas.List.{get_or_append_left, get_or-reverse, length-reverse, reverse-append, reverse-reverse}
+use Rattle.std.proofs.lemmas.List.{get_or_append_left, get_or-reverse, length-reverse, reverse-append, reverse-reverse, map-append}
 use Rattle.atomic_table.specs.Seated.{TableId}
 use Rattle.crossbeam_queue.specs.Passes.{view}
 use Rattle.plcr_imagelist.specs.Holds.{WalkerState}
@@ -16,7 +16,7 @@ use Rattle.plcr_workers.specs.declared.drafts.Draft.{Draft}
 use Rattle.plcr_workers.specs.declared.lines.PassLine.{PassLine}
 use Rattle.plcr_workers.specs.declared.worker.Worker.{Worker}
 use Rattle.plcr_workers.specs.inner.Outputs.{in_order, outputs_of}
-use Rattle.plcr_workers.specs.inner.Hired.{IsNew, AreNew, AreNumbered, AreInOrder, AreFromTheLast, IsGone, views_of, lines_left}
+use Rattle.plcr_workers.specs.inner.Hired.{IsNew, AreNew, AreNumbered, AreInOrder, AreFromTheLast, IsGone, views_of, lines_left, passes_left}
 
 -- the element behind a front
 pub at_end : {A : Type 0} (xs : List A) (x d : A) → get_or (xs ++ x ∷ []) (length xs) d ≡ x
@@ -61,12 +61,13 @@ pub record AreIn {K : Type 0} (count : ℕ) (list : TableId) (all left taken : L
   pub many : length images + length left ≡ count
   pub drafts_are : in_order drafts ≡ outputs_of taken
   pub others_are : others ≡ reverse (lines_left taken)
+  pub passes_are : map Some images ≡ reverse (passes_left taken)
 
 pub one_in : {K : Type 0} (queue : TableId) (count : ℕ) (list : TableId) (scripts : List ScriptValue) (all left taken : List (Worker K)) (w : Worker K) (chief next : View) (images : List WalkerState) (image : WalkerState) (drafts : List (Vec (Draft K) Global)) (own : Vec (Draft K) Global) (others : List (Vec PassLine Global))
     → AreIn count list all (left ++ w ∷ []) taken chief images drafts others → IsGone queue list scripts w → HasGathered count list (view w.turns ∷ views_of taken) next
-    → image.table ≡ list → image.number ≡ w.script → own.items ≡ reverse w.drafts.items
+    → w.image ≡ Some image → image.table ≡ list → image.number ≡ w.script → own.items ≡ reverse w.drafts.items
     → AreIn count list all left (w ∷ taken) next (images ++ image ∷ []) (drafts ++ own ∷ []) (others ++ w.lines ∷ [])
-one_in queue count list scripts all left taken w chief next images image drafts own others s gone gathered at number own_is =
+one_in queue count list scripts all left taken w chief next images image drafts own others s gone gathered has at number own_is =
     let long = length-append left (w ∷ []) in
     let more = length-append images (image ∷ []) in
     let many = s.many in
@@ -83,6 +84,7 @@ one_in queue count list scripts all left taken w chief next images image drafts 
       many = omega (arith, many, long, more);
       drafts_are = in_order_more drafts own ∙ ap (λ l. l ++ in_order drafts) (ap reverse own_is ∙ reverse-reverse w.drafts.items) ∙ ap (λ l. w.drafts.items ++ l) s.drafts_are;
       others_are = ap (λ l. l ++ w.lines ∷ []) s.others_are ∙ sym (reverse-append (w.lines ∷ []) (lines_left taken));
+      passes_are = map-append Some images (image ∷ []) ∙ (λ i. s.passes_are i ++ sym has i ∷ []) ∙ sym (reverse-append (w.image ∷ []) (passes_left taken));
     }
 
 pub nobody_in : {K : Type 0} (count : ℕ) (list : TableId) (all : List (Worker K)) (chief : View) → length all ≡ count → AreNumbered all → HasGathered count list [] chief → AreIn count list all all [] chief [] [] []
@@ -95,6 +97,7 @@ nobody_in count list all chief many numbers gathered = record {
   many = omega (arith, many);
   drafts_are = refl;
   others_are = refl;
+  passes_are = refl;
 }
 
 views_count : {K : Type 0} (workers : List (Worker K)) → length (views_of workers) ≡ length workers

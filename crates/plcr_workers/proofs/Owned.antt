@@ -15,7 +15,7 @@ use Rattle.plcr_turns.specs.declared.lines.ChangeLine.{ChangeLine}
 use Rattle.plcr_turns.specs.declared.lines.Request.{Request}
 use Rattle.plcr_turns.specs.declared.lines.Request.TheVariants as requests
 use Rattle.plcr_turns.specs.declared.view.View.{View}
-use Rattle.plcr_turns.specs.Lines.{asked_by, lines_of}
+use Rattle.plcr_turns.specs.Lines.{asked_by, lines_of, wanted_by}
 use Rattle.plcr_turns.specs.Turns.{FaultSaid, NameSaid, line_of}
 use Rattle.plcr_turns.specs.Turns.{name_in as name_of_request}
 use Rattle.plcr_turns.specs.Working.{AppliesLine}
@@ -103,3 +103,8 @@ own_next process statements at line statement script v w names more apart e went
     of (Some asked) is a = subst (AreOwn process statements more) (sym a.lines)
         (own_and process statements more (lines_of script v.journal) (line_of script line asked a.said) (own_later process statements names more (lines_of script v.journal) went own)
         (record { statement = statement; stands = apart at (record { line = line; statement = statement }) e; asks = is; came = a.came }))
+
+-- of a script of which nothing was applied there is no line
+pub nothing_own : (process : Meanings) (statements : List NumberedStatement) (names : List (List ℕ)) (lines : List ChangeLine) → wanted_by lines ≡ [] → AreOwn process statements names lines
+nothing_own process statements names [] e = tt
+nothing_own process statements names (line ∷ lines) e = absurd cc

@@ -4,10 +4,12 @@ ghost use Rattle.std.specs.Io.KnownBytes.{append_known};
 ghost use Rattle.plcr_base.specs.Causes.{Rose};
 ghost use Rattle.crossbeam_queue.specs.Passes.{view, IsSamePass, IsPassOf, ruled_capacity};
 ghost use Rattle.plcr_imagelist.specs.Walk.{IsSameWalk, images_of};
+ghost use Rattle.plcr_script.specs.Meanings.{meanings};
 ghost use Rattle.plcr_script.specs.Reading.{file_of};
 ghost use Rattle.plcr_turns.specs.Working.{IsWorking, HasNext, AppliesLine};
 ghost use Rattle.plcr_workers.specs.Asking.{asked_in};
 ghost use Rattle.plcr_workers.specs.inner.Drafts.{IsOutput, TakesOutputs};
+ghost use Rattle.plcr_workers.specs.inner.Own.{AddsOwn};
 ghost use Rattle.plcr_workers.specs.inner.Places.{IsAt, PassGoes, walker_of, Asks, Advances};
 
 use crate::drafts::{Draft, Progress};
@@ -161,7 +163,7 @@ pub(crate) fn take_statement<R: Wait, P: Process, G: Gate, K: Sink>(
     statement: &Statement,
     turns: &mut TurnPass,
     place: Place,
-    drafts: &mut [Draft<K>],
+    drafts: &mut Vec<Draft<K>>,
     next: usize,
 ) -> (Place, Took)
     requires context { P.accepts process.now context.now }
@@ -170,13 +172,14 @@ pub(crate) fn take_statement<R: Wait, P: Process, G: Gate, K: Sink>(
     requires few { script < MOST_SCRIPTS }
     requires working { IsWorking script list.now (view turns.old) }
     requires left { IfSome (asked_in statement.now) (λ asked. HasNext (view turns.old)) }
-    requires next { IfSome (file_of statement.now) (λ file. next < length drafts.old) }
+    requires next { IfSome (file_of statement.now) (λ file. next < length drafts.old.items) }
     ensures queue { IsSamePass turns.old turns.new }
     ensures list { IsAt list.now result.0 }
     ensures goes { PassGoes (walker_of place) (walker_of result.0) }
     ensures working { IsWorking script list.now (view turns.new) }
     ensures advances { Advances script line (asked_in statement.now) (view turns.old) (view turns.new) }
-    ensures outputs { TakesOutputs K.faults next (file_of statement.now) result.1 drafts.old drafts.new }
+    ensures outputs { TakesOutputs K.faults next (file_of statement.now) result.1 drafts.old.items drafts.new.items }
+    ensures own { AddsOwn (meanings (P.image_fault process.now) (P.report process.now context.now)) script line statement.now (asked_in statement.now) (view turns.old) (view turns.new) (walker_of result.0).names }
 {
     if let Some(request) = request_of(process, statement) {
         gate.before_change(script + 1, line);

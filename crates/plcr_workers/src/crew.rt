@@ -1,12 +1,14 @@
 //! The workers of all scripts: hired, run on threads, and taken in again.
-ghost use Rattle.std.specs.Prelude.{◌≡◌, ◌+◌, ◌<◌, ◌≤◌, ◌++◌, All, [], ◌∷◌, length, vec_len, vec_capacity, IfOk, IfSome, OnOk, None, Some};
+ghost use Rattle.std.specs.Prelude.{◌≡◌, ◌+◌, ◌<◌, ◌≤◌, ◌++◌, All, [], ◌∷◌, length, map, reverse, vec_len, vec_capacity, IfOk, IfSome, OnOk, None, Some};
 ghost use Rattle.plcr_imagelist.specs.Holds.{WalkerState};
 ghost use Rattle.crossbeam_queue.specs.Passes.{view, IsSamePass, IsPassOf, ruled_capacity};
 ghost use Rattle.plcr_turns.specs.Gathering.{AreWorking, HasHanded, HasGathered};
+ghost use Rattle.plcr_script.specs.Meanings.{meanings};
 ghost use Rattle.plcr_turns.specs.Views.{HasAll};
 ghost use Rattle.plcr_workers.specs.Asking.{asked_in, change_lines};
 ghost use Rattle.plcr_workers.specs.inner.Drafts.{HasOutputs, HasTaken, HaveTaken};
-ghost use Rattle.plcr_workers.specs.inner.Hired.{IsHired, IsReadyToRun, IsGone, AreNew, AreNumbered, AreInOrder, AreFromTheLast, totals_in, asks_one, lines_left, views_of};
+ghost use Rattle.plcr_workers.specs.inner.Hired.{IsHired, IsReadyToRun, IsGone, AreNew, AreNumbered, AreInOrder, AreFromTheLast, totals_in, asks_one, lines_left, passes_left, views_of};
+ghost use Rattle.plcr_workers.specs.inner.Own.{KnowsOwnOf};
 ghost use Rattle.plcr_workers.specs.inner.Outputs.{in_order, outputs_of};
 
 use crate::drafts::Draft;
@@ -130,6 +132,7 @@ pub(crate) fn run_all<
     requires queue { ruled_capacity queue.now ≡ 1 }
     requires ready { All (λ w. IsReadyToRun K.faults queue.now.table.shared.table_id list.now scripts.now w) workers.old }
     ensures taken { HaveTaken K.faults workers.old workers.new }
+    ensures own { All (λ w. KnowsOwnOf (meanings (P.image_fault process.now) (P.report process.now context.now)) scripts.now w) workers.new }
     ensures gone { All (λ w. IsGone queue.now.table.shared.table_id list.now scripts.now w) workers.new }
 {
     thread::for_each_mut(
@@ -138,7 +141,7 @@ pub(crate) fn run_all<
         MOST_SCRIPTS,
         &|_, worker: &mut Worker<K>|
             requires { P.accepts process.now context.now × (ruled_capacity queue.now ≡ 1) × IsReadyToRun K.faults queue.now.table.shared.table_id list.now scripts.now worker.old }
-            ensures { IsGone queue.entry.now.table.shared.table_id list.entry.now scripts.entry.now worker.new × HasTaken K.faults worker.old worker.new }
+            ensures { IsGone queue.entry.now.table.shared.table_id list.entry.now scripts.entry.now worker.new × HasTaken K.faults worker.old worker.new × KnowsOwnOf (meanings (P.image_fault process.entry.now) (P.report process.entry.now context.entry.now)) scripts.entry.now worker.new }
         {
             let script = &scripts[worker.script as usize];
             worker.run(rt, queue, list, script, process, context, gate)
@@ -188,6 +191,7 @@ pub(crate) fn gather<K: Sink + Drop>(
     ensures working { AreWorking 0 list.now (views_of workers.items) }
     ensures all { HasAll (view chief.new) }
     ensures images { AreFromTheLast (length scripts.now) list.now result.images.items }
+    ensures passes { map Some result.images.items ≡ reverse (passes_left workers.items) }
     ensures met { vec_len result.images ≡ length scripts.now }
     ensures drafts { in_order result.drafts.items ≡ outputs_of workers.items }
     ensures others { result.others.items ≡ lines_left workers.items }

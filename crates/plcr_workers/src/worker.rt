@@ -1,7 +1,10 @@
 //! A worker, which runs one script.
 ghost use Rattle.std.specs.Prelude.{◌≡◌, ◌+◌, ◌^◌, ◌<◌, ◌≤◌, ℕ, All, vec_len, vec_capacity};
 ghost use Rattle.plcr_workers.specs.declared.lines.PassLine.{PassLine as Line};
-ghost use Rattle.crossbeam_queue.specs.Passes.{ruled_capacity};
+ghost use Rattle.crossbeam_queue.specs.Passes.{ruled_capacity, view};
+ghost use Rattle.plcr_script.specs.Meanings.{meanings};
+ghost use Rattle.plcr_turns.specs.Lines.{lines_of};
+ghost use Rattle.plcr_workers.specs.inner.Own.{AreOwn, HaveOwnLines, KnowsOwn};
 ghost use Rattle.plcr_workers.specs.inner.Places.{IsAt, PassGoes, walker_of};
 ghost use Rattle.plcr_workers.specs.inner.Drafts.{HasOutputs, HasTaken, next_after};
 ghost use Rattle.plcr_workers.specs.inner.Hired.{IsReady, HasRun, Begins, Goes};
@@ -45,8 +48,10 @@ impl<K: Sink> Worker<K> {
         requires queue { ruled_capacity queue.now ≡ 1 }
         requires ready { IsReady queue.now.table.shared.table_id list.now script.now self.old }
         requires outputs { HasOutputs K.faults script.now self.old }
+        requires apart { HaveOwnLines script.now.statements }
         ensures run { HasRun queue.entry.now.table.shared.table_id list.entry.now script.entry.now self.old self.new }
         ensures taken { HasTaken K.faults self.old self.new }
+        ensures own { KnowsOwn (meanings (P.image_fault process.entry.now) (P.report process.entry.now context.entry.now)) script.entry.now.statements self.new }
     {
         let Some(pass) = self.image.take() else {
             return;
@@ -72,11 +77,13 @@ impl<K: Sink> Worker<K> {
         requires queue { ruled_capacity queue.now ≡ 1 }
         requires begins { Begins queue.now.table.shared.table_id list.now script.now self.old }
         requires outputs { HasOutputs K.faults script.now self.old }
+        requires apart { HaveOwnLines script.now.statements }
         requires place { IsAt list.now place }
         ensures goes { Goes queue.entry.now.table.shared.table_id list.entry.now script.entry.now self.old self.new }
         ensures place { IsAt list.entry.now result }
         ensures image { PassGoes (walker_of place) (walker_of result) }
         ensures taken { HasTaken K.faults self.old self.new }
+        ensures own { AreOwn (meanings (P.image_fault process.entry.now) (P.report process.entry.now context.entry.now)) script.entry.now.statements (walker_of result).names (lines_of self.new.script (view self.new.turns).journal) }
     {
         let mut place = place;
         let mut next = 0;
@@ -93,7 +100,7 @@ impl<K: Sink> Worker<K> {
                 script.statement(at),
                 &mut self.turns,
                 place,
-                self.drafts.as_mut_slice(),
+                &mut self.drafts,
                 next,
             );
             place = moved;

@@ -71,7 +71,7 @@ pub record AreSamePlaces {K : Type 0} (old new : List (Draft K)) : Type 0 where
 
 -- a worker has an output for each report of its script, of which none was taken
 pub record HasOutputs {K : Type 0} (faults : K → ℕ) (script : ScriptValue) (w : Worker K) : Type 0 where
-  pub count : vec_len w.drafts ≡ length (files_of script.statements)
+  pub count : length w.drafts.items ≡ length (files_of script.statements)
   pub waiting : All (λ (d : Draft K). faults d.out ≡ 0) w.drafts.items
 
 -- an output failed

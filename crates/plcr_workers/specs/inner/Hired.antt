@@ -15,6 +15,7 @@ use Rattle.plcr_workers.specs.declared.lines.PassLine.{PassLine}
 use Rattle.plcr_workers.specs.declared.worker.Worker.{Worker}
 use Rattle.plcr_workers.specs.Asking.{change_lines}
 use Rattle.plcr_workers.specs.inner.Drafts.{HasOutputs}
+use Rattle.plcr_workers.specs.inner.Own.{HaveOwnLines}
 use Rattle.plcr_workers.specs.inner.Places.{total_of}
 
 -- the statements before a place were taken: of the lines that they ask for each was applied, in order, and no other
@@ -65,6 +66,11 @@ abbrev pub views_of : {K : Type 0} → List (Worker K) → List View
 views_of [] = []
 views_of (worker ∷ workers) = view worker.turns ∷ views_of workers
 
+-- the passes of the list that workers leave
+abbrev pub passes_left : {K : Type 0} → List (Worker K) → List (Option WalkerState)
+passes_left [] = []
+passes_left (worker ∷ workers) = worker.image ∷ passes_left workers
+
 -- the other lines that workers leave
 abbrev pub lines_left : {K : Type 0} → List (Worker K) → List (Vec PassLine Global)
 lines_left [] = []
@@ -106,6 +112,7 @@ pub record IsReadyToRun {K : Type 0} (faults : K → ℕ) (queue list : TableId)
   pub stands : slice_get scripts w.script ≡ Some script
   pub ready : IsReady queue list script w
   pub outputs : HasOutputs faults script w
+  pub apart : HaveOwnLines script.statements
 
 -- a worker that has ended: of its script the first statements were taken, and its passes are those of the queue and the list
 pub record IsGone {K : Type 0} (queue list : TableId) (scripts : List ScriptValue) (w : Worker K) : Type 0 where

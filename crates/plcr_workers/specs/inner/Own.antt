@@ -1,8 +1,11 @@
 -- What a worker knows of the lines of its script in the journal.
 use Rattle.std.specs.Prelude.{◌≡◌, ℕ, ◌≤◌, List, [], ◌∷◌, ◌++◌, Option, Some, None, length, slice_get}
+use Rattle.crossbeam_queue.specs.Passes.{view}
 use Rattle.plcr_machine.specs.Lists.{name_of}
+use Rattle.plcr_imagelist.specs.Holds.{WalkerState}
 use Rattle.plcr_script.specs.declared.statements.Statement.{Statement}
 use Rattle.plcr_script.specs.declared.statements.NumberedStatement.{NumberedStatement}
+use Rattle.plcr_script.specs.Scripts.{ScriptValue}
 use Rattle.plcr_script.specs.Meanings.{Meanings}
 use Rattle.plcr_turns.specs.declared.lines.Asked.{Asked}
 use Rattle.plcr_turns.specs.declared.lines.Said.{Said}
@@ -11,6 +14,7 @@ use Rattle.plcr_turns.specs.declared.lines.ChangeLine.{ChangeLine}
 use Rattle.plcr_turns.specs.declared.view.View.{View}
 use Rattle.plcr_turns.specs.Lines.{lines_of}
 use Rattle.plcr_turns.specs.Turns.{NameSaid, line_of}
+use Rattle.plcr_workers.specs.declared.worker.Worker.{Worker}
 use Rattle.plcr_workers.specs.Asking.{asked_in, statement_on, name_in}
 use Rattle.plcr_workers.specs.Known.{StatementFault}
 
@@ -33,6 +37,17 @@ pub record IsOwnLine (process : Meanings) (statements : List NumberedStatement) 
 abbrev pub AreOwn : Meanings → List NumberedStatement → List (List ℕ) → List ChangeLine → Type 0
 AreOwn process statements names [] = Unit {0}
 AreOwn process statements names (line ∷ lines) = IsOwnLine process statements names line × AreOwn process statements names lines
+
+-- what a worker that has ended knows of them, by the names that its pass of the list has seen
+pub record KnowsOwn {K : Type 0} (process : Meanings) (statements : List NumberedStatement) (w : Worker K) : Type 0 where
+  pub image : WalkerState
+  pub held : w.image ≡ Some image
+  pub own : AreOwn process statements image.names (lines_of w.script (view w.turns).journal)
+
+pub record KnowsOwnOf {K : Type 0} (process : Meanings) (scripts : List ScriptValue) (w : Worker K) : Type 0 where
+  pub script : ScriptValue
+  pub stands : slice_get scripts w.script ≡ Some script
+  pub knows : KnowsOwn process script.statements w
 
 -- the journal has one line more of a script, which came of a statement that asks for it
 pub record AddsLine (process : Meanings) (script line : ℕ) (statement : Statement) (asked : Asked) (v w : View) (names : List (List ℕ)) : Type 0 where
