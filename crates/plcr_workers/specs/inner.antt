@@ -3,4 +3,5 @@ pub mod Places
 pub mod Hired
 pub mod Outputs
 pub mod Drafts
+pub mod Own
 pub mod Stages

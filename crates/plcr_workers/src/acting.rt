@@ -1,12 +1,18 @@
 //! One statement of a worker.
-ghost use Rattle.std.specs.Prelude.{◌≡◌, ◌<◌, IsNone, None, IfSome};
+ghost use Rattle.std.specs.Prelude.{◌≡◌, ◌<◌, IsNone, None, IfOk, IfSome, OnOk, OnErr, length};
+ghost use Rattle.std.specs.Io.KnownBytes.{append_known};
+ghost use Rattle.plcr_base.specs.Causes.{Rose};
 ghost use Rattle.crossbeam_queue.specs.Passes.{view, IsSamePass, IsPassOf, ruled_capacity};
-ghost use Rattle.plcr_imagelist.specs.Walk.{IsSameWalk};
+ghost use Rattle.plcr_imagelist.specs.Walk.{IsSameWalk, images_of};
+ghost use Rattle.plcr_script.specs.Meanings.{meanings};
+ghost use Rattle.plcr_script.specs.Reading.{file_of};
 ghost use Rattle.plcr_turns.specs.Working.{IsWorking, HasNext, AppliesLine};
 ghost use Rattle.plcr_workers.specs.Asking.{asked_in};
-ghost use Rattle.plcr_workers.specs.inner.Places.{IsAt, walker_of, Asks, Advances};
+ghost use Rattle.plcr_workers.specs.inner.Drafts.{IsOutput, TakesOutputs};
+ghost use Rattle.plcr_workers.specs.inner.Own.{AddsOwn};
+ghost use Rattle.plcr_workers.specs.inner.Places.{IsAt, PassGoes, walker_of, Asks, Advances};
 
-use crate::drafts::Draft;
+use crate::drafts::{Draft, Progress};
 use crate::gate::Gate;
 use crate::lines::PassSaid;
 use crate::places::{Place, enter, move_pass};
@@ -64,6 +70,7 @@ pub(crate) fn apply<R: Wait>(
     requires left { HasNext (view turns.old) }
     ensures queue { IsSamePass turns.old turns.new }
     ensures list { IsAt list.now result }
+    ensures goes { PassGoes (walker_of place) (walker_of result) }
     ensures applies { AppliesLine line.now (view turns.old) (walker_of place).history (view turns.new) (walker_of result).history (walker_of result).names }
     ensures working { IsWorking line.now.script list.now (view turns.new) }
 {
@@ -97,7 +104,8 @@ pub(crate) fn report<P: Process, G: Gate, K: Sink>(
     requires list { IsAt list.now place }
     requires few { script < MOST_SCRIPTS }
     ensures list { result.0.table ≡ list.now }
-    ensures draft { draft.new.at ≡ draft.old.at }
+    ensures goes { PassGoes (walker_of place) result.0 }
+    ensures output { IsOutput K.faults result.1 draft.old draft.new }
 {
     let mut hold = match place {
         Place::Out(pass) => enter(list, gate, script, line, pass),
@@ -131,7 +139,12 @@ fn write_walk<P: Process, K: Sink>(
     requires list { hold.old.walker.table ≡ list.now }
     ensures list { hold.new.walker.table ≡ list.now }
     ensures same { IsSameWalk hold.old hold.new }
-    ensures draft { draft.new.at ≡ draft.old.at }
+    ensures place { (draft.new.script ≡ draft.old.script) × (draft.new.at ≡ draft.old.at) }
+    ensures ok { OnOk result (draft.new.progress ≡ Progress.Written) }
+    ensures written { OnOk result (K.written draft.new.out ≡ append_known (K.written draft.old.out) (P.report process.now context.now (images_of hold.old))) }
+    ensures length { IfOk result (λ n. n ≡ length (P.report process.now context.now (images_of hold.old))) }
+    ensures err { OnErr result (draft.new.progress ≡ Progress.Failed) }
+    ensures cause { OnErr result (Rose (K.faults draft.old.out) (K.faults draft.new.out)) }
 {
     let mut images = hold.images(list);
     draft.write(process, context, &mut images)
@@ -150,7 +163,7 @@ pub(crate) fn take_statement<R: Wait, P: Process, G: Gate, K: Sink>(
     statement: &Statement,
     turns: &mut TurnPass,
     place: Place,
-    drafts: &mut [Draft<K>],
+    drafts: &mut Vec<Draft<K>>,
     next: usize,
 ) -> (Place, Took)
     requires context { P.accepts process.now context.now }
@@ -159,10 +172,14 @@ pub(crate) fn take_statement<R: Wait, P: Process, G: Gate, K: Sink>(
     requires few { script < MOST_SCRIPTS }
     requires working { IsWorking script list.now (view turns.old) }
     requires left { IfSome (asked_in statement.now) (λ asked. HasNext (view turns.old)) }
+    requires next { IfSome (file_of statement.now) (λ file. next < length drafts.old.items) }
     ensures queue { IsSamePass turns.old turns.new }
     ensures list { IsAt list.now result.0 }
+    ensures goes { PassGoes (walker_of place) (walker_of result.0) }
     ensures working { IsWorking script list.now (view turns.new) }
     ensures advances { Advances script line (asked_in statement.now) (view turns.old) (view turns.new) }
+    ensures outputs { TakesOutputs K.faults next (file_of statement.now) result.1 drafts.old.items drafts.new.items }
+    ensures own { AddsOwn (meanings (P.image_fault process.now) (P.report process.now context.now)) script line statement.now (asked_in statement.now) (view turns.old) (view turns.new) (walker_of result.0).names }
 {
     if let Some(request) = request_of(process, statement) {
         gate.before_change(script + 1, line);
@@ -175,13 +192,11 @@ pub(crate) fn take_statement<R: Wait, P: Process, G: Gate, K: Sink>(
         return (place, Took::Silent);
     }
     match statement {
-        Statement::Report { .. } => match drafts.get_mut(next) {
-            Some(draft) => {
-                let (pass, took) = report(process, context, list, gate, script, line, place, draft);
-                (Place::Out(pass), took)
-            }
-            None => (place, Took::Silent),
-        },
+        Statement::Report { .. } => {
+            let draft = &mut drafts[next];
+            let (pass, took) = report(process, context, list, gate, script, line, place, draft);
+            (Place::Out(pass), took)
+        }
         _ => {
             let (place, said) = move_pass(list, gate, script, line, statement, place);
             let took = match said {

@@ -1,11 +1,15 @@
 //! The workers of all scripts: hired, run on threads, and taken in again.
-ghost use Rattle.std.specs.Prelude.{◌≡◌, ◌+◌, ◌≤◌, All, length, vec_len, vec_capacity, IfOk, OnOk, None, Some};
-ghost use Rattle.crossbeam_queue.specs.Passes.{view, IsSamePass, IsPassOf, ruled_capacity};
+ghost use Rattle.std.specs.Prelude.{◌≡◌, ◌+◌, ◌<◌, ◌≤◌, ◌++◌, All, [], ◌∷◌, length, map, reverse, vec_len, vec_capacity, IfOk, IfSome, OnOk, None, Some};
 ghost use Rattle.plcr_imagelist.specs.Holds.{WalkerState};
-ghost use Rattle.plcr_turns.specs.Gathering.{HasHanded};
-ghost use Rattle.plcr_turns.specs.declared.view.Role.TheVariants.{Chief};
+ghost use Rattle.crossbeam_queue.specs.Passes.{view, IsSamePass, IsPassOf, ruled_capacity};
+ghost use Rattle.plcr_turns.specs.Gathering.{AreWorking, HasHanded, HasGathered};
+ghost use Rattle.plcr_script.specs.Meanings.{meanings};
+ghost use Rattle.plcr_turns.specs.Views.{HasAll};
 ghost use Rattle.plcr_workers.specs.Asking.{asked_in, change_lines};
-ghost use Rattle.plcr_workers.specs.inner.Hired.{IsHired, IsGone, totals_in, asks_one};
+ghost use Rattle.plcr_workers.specs.inner.Drafts.{HasOutputs, HasTaken, HaveTaken};
+ghost use Rattle.plcr_workers.specs.inner.Hired.{IsHired, IsReadyToRun, IsGone, AreNew, AreNumbered, AreInOrder, AreFromTheLast, totals_in, asks_one, lines_left, passes_left, views_of};
+ghost use Rattle.plcr_workers.specs.inner.Own.{KnowsOwnOf};
+ghost use Rattle.plcr_workers.specs.inner.Outputs.{in_order, outputs_of};
 
 use crate::drafts::Draft;
 use crate::gate::Gate;
@@ -78,9 +82,12 @@ pub(crate) fn hire<K: Sink + Drop>(
     requires queue { IsPassOf queue.now chief.old }
     requires handed { HasHanded 0 list.now (totals_in scripts.now) (view chief.old) }
     requires few { length scripts.now ≤ MOST_SCRIPTS }
-    requires images { All (λ (i : WalkerState). i.table ≡ list.now) images.items }
+    requires images { AreInOrder list.now images.items }
+    requires count { vec_len images ≡ length scripts.now }
     ensures queue { OnOk result (IsSamePass chief.old chief.new) }
-    ensures chief { OnOk result (((view chief.new).role ≡ Chief) × ((view chief.new).turn ≡ None) × ((view chief.new).list ≡ Some list.now)) }
+    ensures chief { OnOk result (HasGathered (length scripts.now) list.now [] (view chief.new)) }
+    ensures count { IfOk result (λ workers. vec_len workers ≡ length scripts.now) }
+    ensures new { IfOk result (λ workers. AreNew scripts.now workers.items) }
     ensures hired { IfOk result (λ workers. All (λ w. IsHired queue.now.table.shared.table_id list.now scripts.now w) workers.items) }
 {
     let _ = list;
@@ -123,7 +130,9 @@ pub(crate) fn run_all<
 )
     requires context { P.accepts process.now context.now }
     requires queue { ruled_capacity queue.now ≡ 1 }
-    requires hired { All (λ w. IsHired queue.now.table.shared.table_id list.now scripts.now w) workers.old }
+    requires ready { All (λ w. IsReadyToRun K.faults queue.now.table.shared.table_id list.now scripts.now w) workers.old }
+    ensures taken { HaveTaken K.faults workers.old workers.new }
+    ensures own { All (λ w. KnowsOwnOf (meanings (P.image_fault process.now) (P.report process.now context.now)) scripts.now w) workers.new }
     ensures gone { All (λ w. IsGone queue.now.table.shared.table_id list.now scripts.now w) workers.new }
 {
     thread::for_each_mut(
@@ -131,8 +140,8 @@ pub(crate) fn run_all<
         workers,
         MOST_SCRIPTS,
         &|_, worker: &mut Worker<K>|
-            requires { P.accepts process.now context.now × (ruled_capacity queue.now ≡ 1) × IsHired queue.now.table.shared.table_id list.now scripts.now worker.old }
-            ensures { IsGone queue.entry.now.table.shared.table_id list.entry.now scripts.entry.now worker.new }
+            requires { P.accepts process.now context.now × (ruled_capacity queue.now ≡ 1) × IsReadyToRun K.faults queue.now.table.shared.table_id list.now scripts.now worker.old }
+            ensures { IsGone queue.entry.now.table.shared.table_id list.entry.now scripts.entry.now worker.new × HasTaken K.faults worker.old worker.new × KnowsOwnOf (meanings (P.image_fault process.entry.now) (P.report process.entry.now context.entry.now)) scripts.entry.now worker.new }
         {
             let script = &scripts[worker.script as usize];
             worker.run(rt, queue, list, script, process, context, gate)
@@ -169,15 +178,23 @@ pub(crate) fn gather<K: Sink + Drop>(
     room: Left<K>,
 ) -> Left<K>
     requires queue { IsPassOf queue.now chief.old }
-    requires chief { ((view chief.old).role ≡ Chief) × ((view chief.old).turn ≡ None) × ((view chief.old).list ≡ Some list.now) }
+    requires chief { HasGathered (length scripts.now) list.now [] (view chief.old) }
+    requires count { vec_len workers ≡ length scripts.now }
+    requires numbers { AreNumbered workers.items }
     requires gone { All (λ w. IsGone queue.now.table.shared.table_id list.now scripts.now w) workers.items }
     requires images_room { vec_len room.images + vec_len workers ≤ vec_capacity room.images }
     requires drafts_room { vec_len room.drafts + vec_len workers ≤ vec_capacity room.drafts }
     requires others_room { vec_len room.others + vec_len workers ≤ vec_capacity room.others }
-    requires none { vec_len room.images ≡ 0 }
+    requires none { (vec_len room.images ≡ 0) × (vec_len room.drafts ≡ 0) × (vec_len room.others ≡ 0) }
     ensures queue { IsSamePass chief.old chief.new }
-    ensures chief { ((view chief.new).role ≡ Chief) × ((view chief.new).turn ≡ None) × ((view chief.new).list ≡ Some list.now) }
-    ensures images { All (λ (i : WalkerState). i.table ≡ list.now) result.images.items }
+    ensures chief { HasGathered (length scripts.now) list.now (views_of workers.items) (view chief.new) }
+    ensures working { AreWorking 0 list.now (views_of workers.items) }
+    ensures all { HasAll (view chief.new) }
+    ensures images { AreFromTheLast (length scripts.now) list.now result.images.items }
+    ensures passes { map Some result.images.items ≡ reverse (passes_left workers.items) }
+    ensures met { vec_len result.images ≡ length scripts.now }
+    ensures drafts { in_order result.drafts.items ≡ outputs_of workers.items }
+    ensures others { result.others.items ≡ lines_left workers.items }
 {
     let _ = list;
     let _ = scripts;
@@ -192,9 +209,7 @@ pub(crate) fn gather<K: Sink + Drop>(
             lines,
         } = worker;
         take_in(queue, chief, turns);
-        if let Some(image) = image {
-            left.images.push_reserved(image);
-        }
+        add_image(&mut left.images, image);
         left.others.push_reserved(lines);
         let mut drafts = drafts;
         drafts.reverse();
@@ -202,4 +217,16 @@ pub(crate) fn gather<K: Sink + Drop>(
     }
     left.others.reverse();
     left
+}
+
+/// Adds the pass of a worker.
+fn add_image(images: &mut Vec<Pass>, image: Option<Pass>)
+    requires room { vec_len images.old < vec_capacity images.old }
+    ensures added { IfSome image (λ (i : WalkerState). images.new.items ≡ images.old.items ++ i ∷ []) }
+    ensures capacity { vec_capacity images.new ≡ vec_capacity images.old }
+    ensures len { vec_len images.new ≤ vec_len images.old + 1 }
+{
+    if let Some(image) = image {
+        images.push_reserved(image);
+    }
 }

@@ -1,5 +1,7 @@
 //! Outputs of reports, which are made before the workers start.
-ghost use Rattle.std.specs.Prelude.{◌≡◌, ◌<◌, ◌≤◌, length};
+ghost use Rattle.std.specs.Prelude.{◌≡◌, length, IfOk, OnOk, OnErr};
+ghost use Rattle.std.specs.Io.KnownBytes.{append_known};
+ghost use Rattle.plcr_base.specs.Causes.{Rose};
 ghost use Rattle.plcr_encode.specs.Conditions.{AreNamable};
 
 use plcr_encode::Context;
@@ -37,7 +39,12 @@ impl<K: Sink> Draft<K> {
     ) -> Result<u64, PutFailed>
         requires context { P.accepts process.now context.now }
         requires images { AreNamable (I.images images.old) }
-        ensures place { self.new.at ≡ self.old.at }
+        ensures place { (self.new.script ≡ self.old.script) × (self.new.at ≡ self.old.at) }
+        ensures ok { OnOk result (self.new.progress ≡ Progress.Written) }
+        ensures written { OnOk result (K.written self.new.out ≡ append_known (K.written self.old.out) (P.report process.now context.now (I.images images.old))) }
+        ensures length { IfOk result (λ n. n ≡ length (P.report process.now context.now (I.images images.old))) }
+        ensures err { OnErr result (self.new.progress ≡ Progress.Failed) }
+        ensures cause { OnErr result (Rose (K.faults self.old.out) (K.faults self.new.out)) }
         ensures same { I.images images.new ≡ I.images images.old }
         ensures follows { I.follows images.old images.new }
     {

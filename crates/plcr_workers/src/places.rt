@@ -1,7 +1,8 @@
 //! Where a worker's pass of the list is, and the statements that move it.
-ghost use Rattle.std.specs.Prelude.{◌≡◌, ◌<◌};
+ghost use Rattle.std.specs.Prelude.{◌≡◌, ◌<◌, IfSome};
 ghost use Rattle.plcr_imagelist.specs.Holds.{IsWalking};
-ghost use Rattle.plcr_workers.specs.inner.Places.{IsAt};
+ghost use Rattle.plcr_workers.specs.inner.Drafts.{IsNoReportSaid};
+ghost use Rattle.plcr_workers.specs.inner.Places.{IsAt, PassGoes, walker_of};
 
 use crate::gate::Gate;
 use crate::lines::PassSaid;
@@ -24,6 +25,7 @@ pub(crate) fn enter<G: Gate>(list: &ImageList, gate: &G, script: u32, line: u32,
     requires few { script < MOST_SCRIPTS }
     ensures list { result.walker.table ≡ list.now }
     ensures walking { IsWalking result }
+    ensures goes { PassGoes pass result.walker }
 {
     let hold = pass.enter(list);
     gate.inside_hold(script + 1, line);
@@ -34,6 +36,7 @@ pub(crate) fn enter<G: Gate>(list: &ImageList, gate: &G, script: u32, line: u32,
 pub(crate) fn come_out(list: &ImageList, place: Place) -> Pass
     requires list { IsAt list.now place }
     ensures list { result.table ≡ list.now }
+    ensures goes { PassGoes (walker_of place) result }
 {
     match place {
         Place::Out(pass) => pass,
@@ -54,6 +57,8 @@ pub(crate) fn move_pass<G: Gate>(
     requires list { IsAt list.now place }
     requires few { script < MOST_SCRIPTS }
     ensures list { IsAt list.now result.0 }
+    ensures said { IfSome result.1 IsNoReportSaid }
+    ensures goes { PassGoes (walker_of place) (walker_of result.0) }
 {
     match place {
         Place::Out(pass) => match statement {
@@ -83,6 +88,8 @@ fn walk_on(list: &ImageList, hold: Hold, most: u32) -> (Hold, PassSaid)
     requires walking { IsWalking hold }
     ensures list { result.0.walker.table ≡ list.now }
     ensures walking { IsWalking result.0 }
+    ensures said { IsNoReportSaid result.1 }
+    ensures goes { PassGoes hold.walker result.0.walker }
 {
     let mut hold = hold;
     walk(&mut hold, list, most);
@@ -95,6 +102,8 @@ fn walk_on(list: &ImageList, hold: Hold, most: u32) -> (Hold, PassSaid)
 fn leave(list: &ImageList, hold: Hold) -> (Pass, PassSaid)
     requires list { hold.walker.table ≡ list.now }
     ensures list { result.0.table ≡ list.now }
+    ensures said { IsNoReportSaid result.1 }
+    ensures goes { PassGoes hold.walker result.0 }
 {
     let met = hold.met();
     let (pass, window) = hold.leave(list);

@@ -1,8 +1,12 @@
 //! A worker, which runs one script.
 ghost use Rattle.std.specs.Prelude.{◌≡◌, ◌+◌, ◌^◌, ◌<◌, ◌≤◌, ℕ, All, vec_len, vec_capacity};
 ghost use Rattle.plcr_workers.specs.declared.lines.PassLine.{PassLine as Line};
-ghost use Rattle.crossbeam_queue.specs.Passes.{ruled_capacity};
-ghost use Rattle.plcr_workers.specs.inner.Places.{IsAt};
+ghost use Rattle.crossbeam_queue.specs.Passes.{ruled_capacity, view};
+ghost use Rattle.plcr_script.specs.Meanings.{meanings};
+ghost use Rattle.plcr_turns.specs.Lines.{lines_of};
+ghost use Rattle.plcr_workers.specs.inner.Own.{AreOwn, HaveOwnLines, KnowsOwn};
+ghost use Rattle.plcr_workers.specs.inner.Places.{IsAt, PassGoes, walker_of};
+ghost use Rattle.plcr_workers.specs.inner.Drafts.{HasOutputs, HasTaken, next_after};
 ghost use Rattle.plcr_workers.specs.inner.Hired.{IsReady, HasRun, Begins, Goes};
 
 use crate::acting::{Took, take_statement};
@@ -43,7 +47,11 @@ impl<K: Sink> Worker<K> {
         requires context { P.accepts process.now context.now }
         requires queue { ruled_capacity queue.now ≡ 1 }
         requires ready { IsReady queue.now.table.shared.table_id list.now script.now self.old }
+        requires outputs { HasOutputs K.faults script.now self.old }
+        requires apart { HaveOwnLines script.now.statements }
         ensures run { HasRun queue.entry.now.table.shared.table_id list.entry.now script.entry.now self.old self.new }
+        ensures taken { HasTaken K.faults self.old self.new }
+        ensures own { KnowsOwn (meanings (P.image_fault process.entry.now) (P.report process.entry.now context.entry.now)) script.entry.now.statements self.new }
     {
         let Some(pass) = self.image.take() else {
             return;
@@ -68,9 +76,14 @@ impl<K: Sink> Worker<K> {
         requires context { P.accepts process.now context.now }
         requires queue { ruled_capacity queue.now ≡ 1 }
         requires begins { Begins queue.now.table.shared.table_id list.now script.now self.old }
+        requires outputs { HasOutputs K.faults script.now self.old }
+        requires apart { HaveOwnLines script.now.statements }
         requires place { IsAt list.now place }
         ensures goes { Goes queue.entry.now.table.shared.table_id list.entry.now script.entry.now self.old self.new }
         ensures place { IsAt list.entry.now result }
+        ensures image { PassGoes (walker_of place) (walker_of result) }
+        ensures taken { HasTaken K.faults self.old self.new }
+        ensures own { AreOwn (meanings (P.image_fault process.entry.now) (P.report process.entry.now context.entry.now)) script.entry.now.statements (walker_of result).names (lines_of self.new.script (view self.new.turns).journal) }
     {
         let mut place = place;
         let mut next = 0;
@@ -87,36 +100,38 @@ impl<K: Sink> Worker<K> {
                 script.statement(at),
                 &mut self.turns,
                 place,
-                self.drafts.as_mut_slice(),
+                &mut self.drafts,
                 next,
             );
             place = moved;
-            if let Took::Unwritten = took {
-                return place;
+            match add_line(&mut self.lines, at, took, next) {
+                Some(more) => next = more,
+                None => return place,
             }
-            next = add_line(&mut self.lines, at, took, next);
         }
         place
     }
 }
 
-/// Adds the line of a statement, if it has one here. Gives the number of the script's next output, behind this one.
-fn add_line(lines: &mut Vec<PassLine>, at: usize, took: Took, next: usize) -> usize
+/// Adds the line of a statement, if it has one here. Gives the number of the script's next output, behind this one; none
+/// where an output failed.
+fn add_line(lines: &mut Vec<PassLine>, at: usize, took: Took, next: usize) -> Option<usize>
     requires room { vec_len lines.old < vec_capacity lines.old }
     requires small { next + 1 < 2 ^ 64 }
     ensures lines { (n : ℕ) → at < n → All (λ (l : Line). l.at < n) lines.old.items → All (λ (l : Line). l.at < n) lines.new.items }
     ensures len { vec_len lines.new ≤ vec_len lines.old + 1 }
     ensures capacity { vec_capacity lines.new ≡ vec_capacity lines.old }
-    ensures next { result ≤ next + 1 }
+    ensures next { result ≡ next_after took next }
 {
     match took {
         Took::Said(said) => {
             lines.push_reserved(PassLine { at, said });
             match said {
-                PassSaid::Reported { .. } => next + 1,
-                _ => next,
+                PassSaid::Reported { .. } => Some(next + 1),
+                _ => Some(next),
             }
         }
-        Took::Silent | Took::Unwritten => next,
+        Took::Silent => Some(next),
+        Took::Unwritten => None,
     }
 }

@@ -1,5 +1,6 @@
 -- Workers that are about to run, and what they leave.
-use Rattle.std.specs.Prelude.{◌≡◌, ℕ, ◌+◌, ◌<◌, ◌≤◌, List, [], ◌∷◌, length, map, take, Option, Some, None, vec_len, vec_capacity, slice_get, All}
+use Rattle.std.specs.Prelude.{◌≡◌, ℕ, ◌+◌, ◌<◌, ◌≤◌, List, [], ◌∷◌, length, map, take, Option, Some, None, Vec, vec_len, vec_capacity, slice_get, slice_index_or, All}
+use Rattle.std.specs.declared.alloc.Global.{Global}
 use Rattle.atomic_table.specs.Seated.{TableId}
 use Rattle.crossbeam_queue.specs.Passes.{view, IsSamePass, IsPassOf}
 use Rattle.plcr_imagelist.specs.Holds.{WalkerState}
@@ -13,6 +14,8 @@ use Rattle.plcr_turns.specs.Working.{IsWorking}
 use Rattle.plcr_workers.specs.declared.lines.PassLine.{PassLine}
 use Rattle.plcr_workers.specs.declared.worker.Worker.{Worker}
 use Rattle.plcr_workers.specs.Asking.{change_lines}
+use Rattle.plcr_workers.specs.inner.Drafts.{HasOutputs}
+use Rattle.plcr_workers.specs.inner.Own.{HaveOwnLines}
 use Rattle.plcr_workers.specs.inner.Places.{total_of}
 
 -- the statements before a place were taken: of the lines that they ask for each was applied, in order, and no other
@@ -37,11 +40,48 @@ pub record Goes {K : Type 0} (queue list : TableId) (script : ScriptValue) (old 
   pub so_far : SoFar new.script list script.statements count (view new.turns)
   pub lines : All (λ (l : PassLine). l.at < length script.statements) new.lines.items
 
+-- a worker as it was hired for the script of a place: with room for its outputs, and none of them, and with the pass of that number
+pub record IsNew {K : Type 0} (scripts : List ScriptValue) (place : ℕ) (w : Worker K) : Type 0 where
+  pub number : w.script ≡ place
+  pub none : vec_len w.drafts ≡ 0
+  pub room : (script : ScriptValue) → slice_get scripts place ≡ Some script → length script.statements ≤ vec_capacity w.drafts
+
+-- workers as they were hired for the scripts, in order
+abbrev pub AreNew : {K : Type 0} → List ScriptValue → List (Worker K) → Type 0
+AreNew {K = K} scripts workers = (place : ℕ) (other : Worker K) → place < length workers → IsNew scripts place (slice_index_or workers place other)
+
+-- the worker at each place has the script of its number
+abbrev pub AreNumbered : {K : Type 0} → List (Worker K) → Type 0
+AreNumbered {K = K} workers = (place : ℕ) (other : Worker K) → place < length workers → (slice_index_or workers place other).script ≡ place
+
+-- passes of a list, from number 0 on
+abbrev pub AreInOrder : TableId → List WalkerState → Type 0
+AreInOrder list images = (place : ℕ) (other : WalkerState) → place < length images → ((slice_index_or images place other).table ≡ list) × ((slice_index_or images place other).number ≡ place)
+
+-- passes of a list, of so many, from the last number down
+abbrev pub AreFromTheLast : ℕ → TableId → List WalkerState → Type 0
+AreFromTheLast count list images = (place : ℕ) (other : WalkerState) → place < length images → ((slice_index_or images place other).table ≡ list) × ((slice_index_or images place other).number + place + 1 ≡ count)
+-- what workers see
+abbrev pub views_of : {K : Type 0} → List (Worker K) → List View
+views_of [] = []
+views_of (worker ∷ workers) = view worker.turns ∷ views_of workers
+
+-- the passes of the list that workers leave
+abbrev pub passes_left : {K : Type 0} → List (Worker K) → List (Option WalkerState)
+passes_left [] = []
+passes_left (worker ∷ workers) = worker.image ∷ passes_left workers
+
+-- the other lines that workers leave
+abbrev pub lines_left : {K : Type 0} → List (Worker K) → List (Vec PassLine Global)
+lines_left [] = []
+lines_left (worker ∷ workers) = worker.lines ∷ lines_left workers
+
 -- its pass of the list is out
 pub record HasImage {K : Type 0} (list : TableId) (w : Worker K) : Type 0 where
   pub image : WalkerState
   pub held : w.image ≡ Some image
   pub walks : image.table ≡ list
+  pub number : image.number ≡ w.script
 
 pub record IsReady {K : Type 0} (queue list : TableId) (script : ScriptValue) (w : Worker K) : Type 0 where
   pub begins : Begins queue list script w
@@ -65,6 +105,14 @@ pub record IsHired {K : Type 0} (queue list : TableId) (scripts : List ScriptVal
   pub script : ScriptValue
   pub stands : slice_get scripts w.script ≡ Some script
   pub ready : IsReady queue list script w
+
+-- a worker that is ready, with an output for each report of its script
+pub record IsReadyToRun {K : Type 0} (faults : K → ℕ) (queue list : TableId) (scripts : List ScriptValue) (w : Worker K) : Type 0 where
+  pub script : ScriptValue
+  pub stands : slice_get scripts w.script ≡ Some script
+  pub ready : IsReady queue list script w
+  pub outputs : HasOutputs faults script w
+  pub apart : HaveOwnLines script.statements
 
 -- a worker that has ended: of its script the first statements were taken, and its passes are those of the queue and the list
 pub record IsGone {K : Type 0} (queue list : TableId) (scripts : List ScriptValue) (w : Worker K) : Type 0 where

@@ -1,6 +1,8 @@
 -- Where a worker's pass of the list is, and how far its script has come.
 use Rattle.std.specs.Prelude.{◌≡◌, ℕ, List, [], ◌∷◌, ◌++◌, Option, Some, None}
 use Rattle.atomic_table.specs.Seated.{TableId}
+use Rattle.plcr_machine.specs.Lists.{Grows}
+use Rattle.plcr_nodes.specs.Entries.{WentOn}
 use Rattle.plcr_imagelist.specs.Holds.{WalkerState, IsWalking}
 use Rattle.plcr_script.specs.declared.statements.Statement.{Statement}
 use Rattle.plcr_script.specs.declared.statements.Statement.TheVariants.{Load}
@@ -24,6 +26,12 @@ IsAt list (In hold) = (hold.walker.table ≡ list) × IsWalking hold
 abbrev pub walker_of : Place → WalkerState
 walker_of (Out pass) = pass
 walker_of (In hold) = hold.walker
+
+-- the same pass of the list, which has seen more or the same
+pub record PassGoes (old new : WalkerState) : Type 0 where
+  pub number : new.number ≡ old.number
+  pub grows : Grows old.history new.history
+  pub went : WentOn old.names new.names
 
 -- the fault in a request
 abbrev pub fault_in : Request → Option ℕ
