@@ -33,7 +33,7 @@ IsDraftOf scripts draft = StandsAt scripts draft.script draft.at
 
 -- the names of the files of outputs
 abbrev pub draft_names : {K : Type 0} → List ScriptValue → List (Draft K) → List (List ℕ)
-draft_names scripts drafts = map (λ (d : Draft K). name_at scripts d.script d.at) drafts
+draft_names {K = K} scripts drafts = map (λ (d : Draft K). name_at scripts d.script d.at) drafts
 
 -- an output whose report was not taken yet
 pub record IsWaiting {K : Type 0} (written : K → Option (List ℕ)) (faults : K → ℕ) (draft : Draft K) : Type 0 where
