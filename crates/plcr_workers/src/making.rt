@@ -144,7 +144,11 @@ fn keep<D: Desk>(
             Ok(()) => Ok(()),
             Err(MakeFailed) => Err(Unwritten { script, at }),
         },
-        Progress::Waiting | Progress::Failed => {
+        Progress::Waiting => {
+            desk.abandon(out);
+            Err(Unwritten { script, at })
+        }
+        Progress::Failed => {
             desk.abandon(out);
             Err(Unwritten { script, at })
         }

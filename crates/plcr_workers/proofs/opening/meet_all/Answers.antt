@@ -1,4 +1,4 @@
-use Rattle.std.proofs.Common.{◌≡◌, ◌∷◌, [], ◌++◌, All, List, sym, ap, ◌∙◌, subst, append-nil, append-assoc}
+use Rattle.std.proofs.Common.{◌≡◌, ◌∷◌, [], ◌++◌, All, List, sym, ap, ◌∙◌, subst, append-nil, append_assoc}
 use Rattle.plcr_imagelist.specs.Holds.{WalkerState}
 use Rattle.plcr_turns.proofs.Fronts.{all_front, all_last}
 use Rattle.plcr_workers.proofs.Met.{met_none, met_one}
@@ -19,7 +19,7 @@ loop-image-preserved c =
     let items : c.loop-image.images.items ≡ c.pop.new.self.items ++ c.in-Some.image ∷ [] = c.in-Some.ensures.items in
     record {
       gone = c.in-Some.image ∷ i.gone;
-      parts = i.parts ∙ ap (λ (l : List WalkerState). l ++ i.gone) items ∙ append-assoc c.pop.new.self.items (c.in-Some.image ∷ []) i.gone;
+      parts = i.parts ∙ ap (λ (l : List WalkerState). l ++ i.gone) items ∙ append_assoc c.pop.new.self.items (c.in-Some.image ∷ []) i.gone;
       met = met_one i.gone c.in-Some.image c.args.writer c.loop-image.writer c.meet-writer.result i.rest i.met c.meet-writer.ensures.met;
       list = c.meet-writer.ensures.list ∙ i.list;
       rest = c.meet-writer.ensures.rest;
