@@ -7,4 +7,5 @@ mod Outputs
 mod Crews
 mod Owned
 mod Settled
-mod Met
+mod Made
+mod Meetings
