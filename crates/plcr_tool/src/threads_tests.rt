@@ -227,7 +227,12 @@ fn one_script_runs_alone(rt: HostRuntime) -> Result<(), Fail> {
 
 #[test]
 fn refuses_scripts_by_their_numbers(rt: HostRuntime) -> Result<(), Fail> {
-    let cases: [(&[&str], &str); 6] = [
+    let cases: [(&[&str], &str); 8] = [
+        (
+            &["load 0x100000000 A\nbegin load 0x100004000 B\n"],
+            "script 1 2 6\n",
+        ),
+        (&["enter 1\n"], "script 1 1 5\n"),
         (&["begin load 0x100000000 A\n", ""], "script 1 1 6\n"),
         (&["load 0x100000000 A\nend\n", ""], "script 1 2 6\n"),
         (&["report 1 t\n", ""], "script 1 1 5\n"),
@@ -287,8 +292,15 @@ fn counts_its_scripts(rt: HostRuntime) -> Result<(), Fail> {
     let many = [LOAD_A; 65];
     let came = run(&rt, rt.alloc(), &many[..64], &NoGate, &[], &[])?;
     assert_eq!(rt; came.status, 0);
+    let lines = came.lines.bytes().iter().filter(|byte| **byte == b'\n');
+    assert_eq!(rt; lines.count(), 64);
     let came = run(&rt, rt.alloc(), many.as_slice(), &NoGate, &[], &[])?;
     assert_eq!(rt; came.status, 1);
+    assert_eq!(rt;
+        came.lines.bytes(),
+        b"usage: report CORE SCRIPT / show REPORT / make N CORE SCRIPT / threads CORE SCRIPT...\n"
+            .as_slice()
+    );
     assert!(rt; came.past.is_none());
     Ok(())
 }

@@ -11,7 +11,7 @@ use Rattle.plcr_base.proofs.Risen.{rose_second}
 use Rattle.plcr_machine.proofs.Cases.{not_both}
 use Rattle.plcr_io.specs.Desk.{Told, HasOpen, file}
 use Rattle.plcr_workers.proofs.Opened.{has_open, after_drop, still_open}
-use Rattle.plcr_turns.proofs.Fronts.{all_front, all_last}
+use Rattle.plcr_turns.proofs.Fronts.{all_front}
 use Rattle.plcr_script.specs.Scripts.{ScriptValue}
 use Rattle.plcr_command.specs.Saving.{TookNothing}
 use Rattle.plcr_workers.specs.declared.drafts.Draft.{Draft}
@@ -164,6 +164,10 @@ module _ {K : Type 0} (written : K → Option (List ℕ)) (scripts : List Script
 
 -- ---- outputs in lists of which the last is the first
 
+all_back : {A : Type 0} (P : A → Type 0) (xs ys : List A) → All P (xs ++ ys) → All P ys
+all_back P [] ys all = all
+all_back P (x ∷ xs) ys all = all_back P xs ys (All-tail P x (xs ++ ys) all)
+
 pub in_order_last : {K : Type 0} (all : List (Vec (Draft K) Global)) (drafts : Vec (Draft K) Global) → in_order (all ++ drafts ∷ []) ≡ reverse drafts.items ++ in_order all
 in_order_last [] drafts = sym (append-nil (reverse drafts.items))
 in_order_last (first ∷ all) drafts = ap (λ l. l ++ reverse first.items) (in_order_last all drafts) ∙ append_assoc (reverse drafts.items) (in_order all) (reverse first.items)
@@ -207,12 +211,12 @@ pub record KeepingEach {K : Type 0} (written : K → Option (List ℕ)) (faults 
   pub gone : List (Draft K)
   pub parts : reverse all ≡ gone ++ reverse left
   pub kept : HasKeptAll written scripts gone old now
-  pub are : All (IsDraftOf scripts) left
+  pub are : All (IsDraftOf scripts) (reverse left)
   pub done : AreDone faults (reverse left)
   pub «open» : (count : ℕ) → HasOpenFor (count + length all) old → HasOpenFor (count + length left) now
 
 module _ {K : Type 0} (written : K → Option (List ℕ)) (faults : K → ℕ) (scripts : List ScriptValue) (all : List (Draft K)) (old now : Told) where
-  pub each_none : All (IsDraftOf scripts) all → AreDone faults (reverse all) → KeepingEach written faults scripts all all old old
+  pub each_none : All (IsDraftOf scripts) (reverse all) → AreDone faults (reverse all) → KeepingEach written faults scripts all all old old
   each_none are done = record { gone = []; parts = refl; kept = kept_none written scripts old; are = are; done = done; «open» = λ count h. h }
 
   -- what the last of those that are left is known to be
@@ -227,7 +231,7 @@ module _ {K : Type 0} (written : K → Option (List ℕ)) (faults : K → ℕ) (
       let order : reverse left ≡ draft ∷ reverse rest = ap reverse items ∙ reverse-append rest (draft ∷ []) in
       let long : length left ≡ length rest + 1 = ap length items ∙ length-append rest (draft ∷ []) in
       record {
-        is = all_last (IsDraftOf scripts) rest draft (subst (All (IsDraftOf scripts)) items k.are);
+        is = All-head (IsDraftOf scripts) draft (reverse rest) (subst (All (IsDraftOf scripts)) order k.are);
         done = done_first faults (draft ∷ []) (reverse rest) (subst (AreDone faults) order k.done);
         order = order;
         opened = λ n h. subst (λ (m : ℕ). HasOpenFor m now) (omega (arith, long)) h;
@@ -242,7 +246,7 @@ module _ {K : Type 0} (written : K → Option (List ℕ)) (faults : K → ℕ) (
         gone = k.gone ++ draft ∷ [];
         parts = k.parts ∙ ap (λ (x : List (Draft K)). k.gone ++ x) l.order ∙ sym (append_assoc k.gone (draft ∷ []) (reverse rest));
         kept = kept_twice written scripts k.gone (draft ∷ []) old now new k.kept kept;
-        are = all_front (IsDraftOf scripts) rest (draft ∷ []) (subst (All (IsDraftOf scripts)) items k.are);
+        are = All-tail (IsDraftOf scripts) draft (reverse rest) (subst (All (IsDraftOf scripts)) l.order k.are);
         done = done_later faults (draft ∷ []) (reverse rest) kept.whole (subst (AreDone faults) l.order k.done);
         «open» = λ count h. opens (count + length rest) (l.opened count (k.«open» count h));
       }
@@ -305,23 +309,20 @@ pub record KeepingAll {K : Type 0} (written : K → Option (List ℕ)) (faults :
   pub gone : List (Draft K)
   pub parts : in_order all ≡ gone ++ in_order left
   pub kept : HasKeptAll written scripts gone old now
-  pub are : All (λ (v : Vec (Draft K) Global). All (IsDraftOf scripts) v.items) left
+  pub are : All (IsDraftOf scripts) (in_order left)
   pub done : AreDone faults (in_order left)
   pub «open» : HasOpenFor (length (in_order left)) now
 
 module _ {K : Type 0} (written : K → Option (List ℕ)) (faults : K → ℕ) (scripts : List ScriptValue) (all : List (Vec (Draft K) Global)) (old now : Told) where
-  Are : Vec (Draft K) Global → Type 0
-  Are v = All (IsDraftOf scripts) v.items
-
-  pub all_none : All (λ (v : Vec (Draft K) Global). All (IsDraftOf scripts) v.items) all → AreDone faults (in_order all) → HasOpenFor (length (in_order all)) old → KeepingAll written faults scripts all all old old
+  pub all_none : All (IsDraftOf scripts) (in_order all) → AreDone faults (in_order all) → HasOpenFor (length (in_order all)) old → KeepingAll written faults scripts all all old old
   all_none are done opens = record { gone = []; parts = refl; kept = kept_none written scripts old; are = are; done = done; «open» = opens }
 
   module _ (left rest : List (Vec (Draft K) Global)) (drafts : Vec (Draft K) Global) (items : left ≡ rest ++ drafts ∷ []) (k : KeepingAll written faults scripts all left old now) where
     order : in_order left ≡ reverse drafts.items ++ in_order rest
     order = ap in_order items ∙ in_order_last rest drafts
 
-    pub last_are : All (IsDraftOf scripts) drafts.items
-    last_are = all_last Are rest drafts (subst (All Are) items k.are)
+    pub last_are : All (IsDraftOf scripts) (reverse drafts.items)
+    last_are = all_front (IsDraftOf scripts) (reverse drafts.items) (in_order rest) (subst (All (IsDraftOf scripts)) order k.are)
 
     pub last_done : AreDone faults (reverse drafts.items)
     last_done = done_first faults (reverse drafts.items) (in_order rest) (subst (AreDone faults) order k.done)
@@ -337,7 +338,7 @@ module _ {K : Type 0} (written : K → Option (List ℕ)) (faults : K → ℕ) (
       gone = k.gone ++ reverse drafts.items;
       parts = k.parts ∙ ap (λ (x : List (Draft K)). k.gone ++ x) order ∙ sym (append_assoc k.gone (reverse drafts.items) (in_order rest));
       kept = kept_twice written scripts k.gone (reverse drafts.items) old now new k.kept kept;
-      are = all_front Are rest (drafts ∷ []) (subst (All Are) items k.are);
+      are = all_back (IsDraftOf scripts) (reverse drafts.items) (in_order rest) (subst (All (IsDraftOf scripts)) order k.are);
       done = done_later faults (reverse drafts.items) (in_order rest) kept.whole (subst (AreDone faults) order k.done);
       «open» = opens (length (in_order rest)) both_open;
     }
