@@ -8,4 +8,5 @@ mod Crews
 mod Owned
 mod Settled
 mod Made
+mod Printing
 mod Meetings
