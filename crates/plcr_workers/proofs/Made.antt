@@ -121,7 +121,7 @@ pub record MakingEach {K : Type 0} (faults : K → ℕ) (number : ℕ) (statemen
   pub few : length drafts ≤ at
 
 module _ {K : Type 0} (faults : K → ℕ) (number : ℕ) (statements : List NumberedStatement) where
-  IsOne : ℕ → Draft K → Type 0
+  abbrev pub IsOne : ℕ → Draft K → Type 0
   IsOne count d = (d.script ≡ number) × (d.at < count) × (faults d.out ≡ 0)
 
   pub making_none : (drafts : List (Draft K)) (old : Told) → length drafts ≡ 0 → MakingEach faults number statements 0 drafts old old
@@ -213,7 +213,7 @@ written_rest (s ∷ scripts) (suc k) =
     (r.0, ap (λ (l : List (List ℕ)). files_of s.statements ++ l) r.1 ∙ sym (append_assoc (files_of s.statements) (written_by (take k scripts)) r.0))
 
 module _ {K : Type 0} (faults : K → ℕ) (scripts : List ScriptValue) where
-  IsOf : ℕ → ℕ → Draft K → Type 0
+  abbrev pub IsOf : ℕ → ℕ → Draft K → Type 0
   IsOf number count d = (d.script ≡ number) × (d.at < count) × (faults d.out ≡ 0)
 
   -- names by the script are names by all scripts

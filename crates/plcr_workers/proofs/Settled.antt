@@ -133,13 +133,16 @@ module _ {K : Type 0} (written : K → Option (List ℕ)) (scripts : List Script
     nothing = nothing;
   }
     where
+      known : (name b bytes : List ℕ) (was : Option (List (List ℕ × List ℕ))) → b ≡ bytes → Gains was (add_told was (file name (Some b))) ((name, bytes) ∷ [])
+      known name b bytes None e = tt
+      known name b bytes (Some k) e = λ i. k ++ (name, e i) ∷ []
       told : (name bytes : List ℕ) (was : Option (List ℕ)) → IfTold was (λ b. b ≡ bytes) → new.kept ≡ add_told old.kept (file name was) → Gains old.kept new.kept ((name, bytes) ∷ [])
-      told name bytes None is k = subst (λ (x : Option (List (List ℕ × List ℕ))). Gains old.kept x ((name, bytes) ∷ [])) (sym k) tt
-      told name bytes (Some b) is k = subst (λ (x : Option (List (List ℕ × List ℕ))). Gains old.kept x ((name, bytes) ∷ [])) (sym k) (known old.kept (ap (λ (c : List ℕ). (name, c)) is))
+      told name bytes None is k = subst (λ (x : Option (List (List ℕ × List ℕ))). Gains old.kept x ((name, bytes) ∷ [])) (sym k) (nothing_told old.kept)
         where
-          known : (was : Option (List (List ℕ × List ℕ))) → (name, b) ≡ (name, bytes) → Gains was (add_told was (Some (name, b))) ((name, bytes) ∷ [])
-          known None e = tt
-          known (Some k) e = ap (λ (x : List ℕ × List ℕ). k ++ x ∷ []) e
+          nothing_told : (was : Option (List (List ℕ × List ℕ))) → Gains was None ((name, bytes) ∷ [])
+          nothing_told None = tt
+          nothing_told (Some k) = tt
+      told name bytes (Some b) is k = subst (λ (x : Option (List (List ℕ × List ℕ))). Gains old.kept x ((name, bytes) ∷ [])) (sym k) (known name b bytes old.kept is)
       one_file : (files : List (List ℕ × List ℕ)) → AreFiles written scripts (draft ∷ []) files → Gains old.kept new.kept files
       one_file [] are = absurd are
       one_file (f ∷ files) are =
@@ -161,6 +164,13 @@ module _ {K : Type 0} (written : K → Option (List ℕ)) (scripts : List Script
     cause = cause;
     nothing = nothing;
   }
+
+-- so many more than none
+pub from_none : (count : ℕ) (told : Told) → HasOpenFor count told → HasOpenFor (0 + count) told
+from_none count told h = subst (λ (n : ℕ). HasOpenFor n told) (omega arith) h
+
+pub to_none : (count : ℕ) (told : Told) → HasOpenFor (0 + count) told → HasOpenFor count told
+to_none count told h = subst (λ (n : ℕ). HasOpenFor n told) (omega arith) h
 
 -- ---- outputs in lists of which the last is the first
 
@@ -290,7 +300,7 @@ drop_one all left rest draft written old now new items d made kept listed nothin
 pub one_left : {K : Type 0} (all left rest : List (Draft K)) (draft : Draft K) (old now : Told) → left ≡ rest ++ draft ∷ [] → HasOpenFor (length all) old → DroppingEach all left old now → HasOpen now
 one_left all left rest draft old now items start d =
     let long : length left ≡ length rest + 1 = ap length items ∙ length-append rest (draft ∷ []) in
-    has_open (length left) now (omega (arith, long)) (d.«open» 0 start)
+    has_open (0 + length left) now (omega (arith, long)) (d.«open» 0 (from_none (length all) old start))
 
 -- ---- the outputs of all scripts
 

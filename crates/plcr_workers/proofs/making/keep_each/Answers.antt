@@ -3,7 +3,7 @@ use Rattle.std.specs.Prelude.{OnOk, IfErr, reverse}
 use Rattle.plcr_workers.specs.declared.making.Unwritten.{Unwritten}
 use Rattle.plcr_workers.specs.inner.Outputs.{HasKeptAll, HasKeptUpTo, HasOpenFor}
 use Rattle.plcr_workers.proofs.Opened.{has_open, still_open}
-use Rattle.plcr_workers.proofs.Settled.{each_none, last_left, each_one, each_cut, each_all, each_open}
+use Rattle.plcr_workers.proofs.Settled.{from_none, to_none, each_none, last_left, each_one, each_cut, each_all, each_open}
 use Rattle.plcr_workers.proofs.making.keep_each.Goals as goal
 
 pub loop-draft-init : goal.loop-draft-init
@@ -18,12 +18,12 @@ keep-requires-clause-done g c = (last_left g.D.Out.Sink.written g.D.Out.Sink.fau
 pub keep-requires-clause-open : goal.keep-requires-clause-open
 keep-requires-clause-open g c =
     let l = last_left g.D.Out.Sink.written g.D.Out.Sink.faults c.args.scripts.now c.args.drafts.items (g.D.Desk.told c.args.desk.now) (g.D.Desk.told c.loop-draft.desk) c.loop-draft.drafts.items c.pop.new.self.items c.in-Some.draft c.in-Some.ensures.items c.loop-draft.invariant in
-    has_open _ _ (omega arith) (l.opened 0 (c.loop-draft.invariant.«open» 0 c.requires.«open»))
+    has_open _ _ (omega arith) (l.opened 0 (c.loop-draft.invariant.«open» 0 (from_none _ _ c.requires.«open»)))
 
 pub abandon_each-requires : goal.abandon_each-requires
 abandon_each-requires g c =
     let l = last_left g.D.Out.Sink.written g.D.Out.Sink.faults c.args.scripts.now c.args.drafts.items (g.D.Desk.told c.args.desk.now) (g.D.Desk.told c.loop-draft.desk) c.loop-draft.drafts.items c.pop.new.self.items c.in-Some.draft c.in-Some.ensures.items c.loop-draft.invariant in
-    c.keep.ensures.«open» _ (l.opened 0 (c.loop-draft.invariant.«open» 0 c.requires.«open»))
+    to_none _ _ (c.keep.ensures.«open» _ (l.opened 0 (c.loop-draft.invariant.«open» 0 (from_none _ _ c.requires.«open»))))
 
 pub loop-draft-preserved : goal.loop-draft-preserved
 loop-draft-preserved g c =
@@ -41,7 +41,7 @@ returns-in-Err-clause-open g c = λ count h.
     c.abandon_each.ensures.«open» count (c.keep.ensures.«open» _ (l.opened count (c.loop-draft.invariant.«open» count h)))
 
 pub returns-clause-ok : goal.returns-clause-ok
-returns-clause-ok g c = each_all g.D.Out.Sink.written g.D.Out.Sink.faults c.args.scripts.now c.args.drafts.items (g.D.Desk.told c.args.desk.now) (g.D.Desk.told c.loop-draft.desk) c.loop-draft.drafts.items ? c.loop-draft.invariant
+returns-clause-ok g c = each_all g.D.Out.Sink.written g.D.Out.Sink.faults c.args.scripts.now c.args.drafts.items (g.D.Desk.told c.args.desk.now) (g.D.Desk.told c.loop-draft.desk) c.loop-draft.drafts.items (empty_list c.loop-draft.drafts.items ?) c.loop-draft.invariant
 
 pub returns-clause-open : goal.returns-clause-open
-returns-clause-open g c = each_open g.D.Out.Sink.written g.D.Out.Sink.faults c.args.scripts.now c.args.drafts.items (g.D.Desk.told c.args.desk.now) (g.D.Desk.told c.loop-draft.desk) c.loop-draft.drafts.items ? c.loop-draft.invariant
+returns-clause-open g c = each_open g.D.Out.Sink.written g.D.Out.Sink.faults c.args.scripts.now c.args.drafts.items (g.D.Desk.told c.args.desk.now) (g.D.Desk.told c.loop-draft.desk) c.loop-draft.drafts.items (empty_list c.loop-draft.drafts.items ?) c.loop-draft.invariant
