@@ -1,8 +1,10 @@
 pub mod Outcomes
 pub mod Printed
-mod Going
-mod Hires
-mod Opened
-mod Outputs
-mod Crews
-mod Owned
+pub mod Going
+pub mod Hires
+pub mod Opened
+pub mod Outputs
+pub mod Crews
+pub mod Owned
+pub mod Passing
+pub mod Joined
