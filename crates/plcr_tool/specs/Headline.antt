@@ -26,7 +26,7 @@ use Rattle.plcr_command.specs.Endings.{HasRead, kept_names}
 use Rattle.plcr_run.specs.Past.{HasMetAll}
 use Rattle.plcr_tool.specs.declared.report.TheConstants.{ALONE}
 use Rattle.plcr_tool.specs.Report.{report_files}
-use Rattle.plcr_tool.specs.Top.{Form, Report, Show, Make, Usage, form_of}
+use Rattle.plcr_tool.specs.Top.{Form, Report, Show, Make, SideBySide, Usage, form_of}
 
 -- A file tells truly of the core's process and of what happened on the image list. There was a hold
 -- of a pass, in which the images were met by a lawful walk through the lists that the changes made:
@@ -86,6 +86,7 @@ FormTellsTruly (Report core script) old new past status =
     ReportsTellTruly core script old new past status
 FormTellsTruly (Show report) old new past status = Unit {0}
 FormTellsTruly (Make images core script) old new past status = Unit {0}
+FormTellsTruly (SideBySide core scripts) old new past status = Unit {0}
 FormTellsTruly Usage old new past status = Unit {0}
 
 abbrev pub TopTellsTruly : List (List ℕ) → Seen → Seen → Option WriterState → ℕ → Type 0

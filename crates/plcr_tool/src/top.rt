@@ -1,10 +1,10 @@
 //! The command line.
-ghost use Rattle.std.specs.Prelude.{◌≡◌, ◌≤◌, None, map, string_bytes};
+ghost use Rattle.std.specs.Prelude.{◌≡◌, ◌≤◌, None, Some, IfSome, IsNone, length, map, string_bytes};
 ghost use Rattle.plcr_base.specs.Told.{Prints};
 ghost use Rattle.plcr_command.specs.Seen.{seen};
 ghost use Rattle.plcr_tool.specs.Headline.{TopTellsTruly};
 ghost use Rattle.plcr_tool.specs.Past.{TopLeaves};
-ghost use Rattle.plcr_tool.specs.Top.{TopDoes, usage_line};
+ghost use Rattle.plcr_tool.specs.Top.{SideBySide, TopDoes, threads_in, usage_line};
 
 use crate::report::report_command;
 use crate::show::show_command;
@@ -81,16 +81,25 @@ where
     }
 }
 
-/// The core and the scripts of words of the form `threads CORE SCRIPT...`, which has 64 scripts at most.
-fn threads_words(words: &[String]) -> Option<(&str, &[String])> {
-    if words.len() < 3 || words.len() > 2 + MOST_SCRIPTS {
-        return None;
-    }
-    let (front, scripts) = words.split_at(2);
-    if front[0].as_str() == "threads" {
-        Some((front[1].as_str(), scripts))
-    } else {
-        None
+/// The core and the scripts of words of the form `threads CORE SCRIPT...`, which has 1 to 64 scripts.
+fn threads_words(words: &[String]) -> Option<(&str, &[String])>
+    ensures form { IfSome result (λ found. threads_in (map string_bytes words.now) ≡ Some (SideBySide found.0.now (map string_bytes found.1.now))) }
+    ensures few { IfSome result (λ found. (1 ≤ length found.1.now) × (length found.1.now ≤ MOST_SCRIPTS)) }
+    ensures none { IsNone result → threads_in (map string_bytes words.now) ≡ None }
+{
+    match words {
+        [word, core, scripts @ ..] => {
+            if word.as_str() == "threads" {
+                if 1 <= scripts.len() && scripts.len() <= MOST_SCRIPTS {
+                    Some((core.as_str(), scripts))
+                } else {
+                    None
+                }
+            } else {
+                None
+            }
+        }
+        _ => None,
     }
 }
 

@@ -8,3 +8,5 @@ pub mod Crews
 pub mod Owned
 pub mod Passing
 pub mod Joined
+pub mod Settled
+pub mod Met

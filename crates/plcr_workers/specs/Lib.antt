@@ -5,5 +5,6 @@ pub mod Scripts
 pub mod Log
 pub mod Threads
 pub mod Stopped
+pub mod Command
 pub mod Known
 pub mod inner

@@ -4,3 +4,4 @@ pub mod Hired
 pub mod Outputs
 pub mod Drafts
 pub mod Own
+pub mod Stages

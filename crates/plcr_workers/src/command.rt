@@ -198,7 +198,6 @@ fn print_all<L: Sink>(
 
 /// Prints that the file of a report was not kept.
 fn print_failed<L: Sink>(scripts: &[Script], unwritten: Unwritten, lines: &mut L) {
-    let script = &scripts[unwritten.script as usize];
-    let name = report_file(script, unwritten.at);
+    let name = report_file(scripts, unwritten.script, unwritten.at);
     print_unwritten(lines, name.as_bytes());
 }

@@ -1,6 +1,10 @@
 //! The outputs of all reports: made before the workers start, and kept or given up after they have ended.
-ghost use Rattle.std.specs.Prelude.{◌≡◌, ◌≤◌, ◌<◌, length, IsTrue};
+ghost use Rattle.std.specs.Prelude.{◌≡◌, ◌⊎◌, ◌+◌, ◌≤◌, ◌<◌, [], ◌∷◌, ℕ, length, All, reverse, vec_len, vec_capacity, OnOk, OnErr, IfErr, IsTrue};
+ghost use Rattle.plcr_io.specs.Desk.{HasOpen};
+ghost use Rattle.plcr_script.specs.Lawful.{IsLawful};
+ghost use Rattle.plcr_script.specs.Reading.{files_of, written_by};
 ghost use Rattle.plcr_script.specs.Sayings.{is_file_name};
+ghost use Rattle.plcr_workers.specs.inner.Outputs.{name_at, StandsAt, IsDraftOf, AreDone, HasKeptAll, HasKeptUpTo, HasDropped, HasOpenFor, in_order};
 
 use crate::drafts::{Draft, Progress};
 use crate::worker::Worker;
@@ -73,7 +77,14 @@ pub(crate) fn keep_all<D: Desk>(
     scripts: &[Script],
     desk: &mut D,
     all: Vec<Vec<Draft<D::Out>>>,
-) -> Result<(), Unwritten> {
+) -> Result<(), Unwritten>
+    requires scripts { All IsLawful scripts.now }
+    requires drafts { All (λ drafts. All (IsDraftOf scripts.now) drafts.items) all.items }
+    requires done { AreDone D.Out.faults (in_order all.items) }
+    requires open { HasOpenFor (length (in_order all.items)) (D.told desk.old) }
+    ensures ok { OnOk result (HasKeptAll D.Out.written scripts.now (in_order all.items) (D.told desk.old) (D.told desk.new)) }
+    ensures err { IfErr result (λ unwritten. HasKeptUpTo D.Out.written scripts.now (in_order all.items) unwritten.script unwritten.at (D.told desk.old) (D.told desk.new)) }
+{
     let mut all = all;
     while let Some(drafts) = all.pop() {
         if let Err(unwritten) = keep_each(scripts, desk, drafts) {
@@ -89,42 +100,66 @@ fn keep_each<D: Desk>(
     scripts: &[Script],
     desk: &mut D,
     drafts: Vec<Draft<D::Out>>,
-) -> Result<(), Unwritten> {
+) -> Result<(), Unwritten>
+    requires scripts { All IsLawful scripts.now }
+    requires drafts { All (IsDraftOf scripts.now) drafts.items }
+    requires done { AreDone D.Out.faults (reverse drafts.items) }
+    requires open { HasOpenFor (length drafts.items) (D.told desk.old) }
+    ensures ok { OnOk result (HasKeptAll D.Out.written scripts.now (reverse drafts.items) (D.told desk.old) (D.told desk.new)) }
+    ensures err { IfErr result (λ unwritten. HasKeptUpTo D.Out.written scripts.now (reverse drafts.items) unwritten.script unwritten.at (D.told desk.old) (D.told desk.new)) }
+    ensures open { (count : ℕ) → HasOpenFor (count + length drafts.items) (D.told desk.old) → HasOpenFor count (D.told desk.new) }
+{
     let mut drafts = drafts;
     while let Some(draft) = drafts.pop() {
-        let Draft {
-            script,
-            at,
-            out,
-            progress,
-        } = draft;
-        if !keep(&scripts[script as usize], at, out, progress, desk) {
+        if let Err(unwritten) = keep(scripts, desk, draft) {
             abandon_each(desk, drafts);
-            return Err(Unwritten { script, at });
+            return Err(unwritten);
         }
     }
     Ok(())
 }
 
-/// Keeps an output that was written whole, and gives up another. Says whether it was kept.
+/// Keeps an output that was written whole, and gives up another.
 fn keep<D: Desk>(
-    script: &Script,
-    at: usize,
-    out: D::Out,
-    progress: Progress,
+    scripts: &[Script],
     desk: &mut D,
-) -> bool {
+    draft: Draft<D::Out>,
+) -> Result<(), Unwritten>
+    requires scripts { All IsLawful scripts.now }
+    requires draft { IsDraftOf scripts.now draft }
+    requires done { AreDone D.Out.faults (draft ∷ []) }
+    requires open { HasOpen (D.told desk.old) }
+    ensures ok { OnOk result (HasKeptAll D.Out.written scripts.now (draft ∷ []) (D.told desk.old) (D.told desk.new)) }
+    ensures err { IfErr result (λ unwritten. HasKeptUpTo D.Out.written scripts.now (draft ∷ []) unwritten.script unwritten.at (D.told desk.old) (D.told desk.new)) }
+    ensures open { (count : ℕ) → HasOpenFor (count + 1) (D.told desk.old) → HasOpenFor count (D.told desk.new) }
+{
+    let Draft {
+        script,
+        at,
+        out,
+        progress,
+    } = draft;
     match progress {
-        Progress::Written => desk.keep(report_file(script, at), out).is_ok(),
-        Progress::Waiting | Progress::Failed => {
+        Progress::Written => match desk.keep(report_file(scripts, script, at), out) {
+            Ok(()) => Ok(()),
+            Err(MakeFailed) => Err(Unwritten { script, at }),
+        },
+        Progress::Waiting => {
             desk.abandon(out);
-            false
+            Err(Unwritten { script, at })
+        }
+        Progress::Failed => {
+            desk.abandon(out);
+            Err(Unwritten { script, at })
         }
     }
 }
 
 /// Gives up the outputs of all scripts.
-pub(crate) fn abandon_all<D: Desk>(desk: &mut D, all: Vec<Vec<Draft<D::Out>>>) {
+pub(crate) fn abandon_all<D: Desk>(desk: &mut D, all: Vec<Vec<Draft<D::Out>>>)
+    requires open { HasOpenFor (length (in_order all.items)) (D.told desk.old) }
+    ensures dropped { HasDropped (D.told desk.old) (D.told desk.new) }
+{
     let mut all = all;
     while let Some(drafts) = all.pop() {
         abandon_each(desk, drafts);
@@ -132,18 +167,24 @@ pub(crate) fn abandon_all<D: Desk>(desk: &mut D, all: Vec<Vec<Draft<D::Out>>>) {
 }
 
 /// Gives up the outputs of one script.
-fn abandon_each<D: Desk>(desk: &mut D, drafts: Vec<Draft<D::Out>>) {
+fn abandon_each<D: Desk>(desk: &mut D, drafts: Vec<Draft<D::Out>>)
+    requires open { HasOpenFor (length drafts.items) (D.told desk.old) }
+    ensures dropped { HasDropped (D.told desk.old) (D.told desk.new) }
+    ensures open { (count : ℕ) → HasOpenFor (count + length drafts.items) (D.told desk.old) → HasOpenFor count (D.told desk.new) }
+{
     let mut drafts = drafts;
     while let Some(draft) = drafts.pop() {
         desk.abandon(draft.out);
     }
 }
 
-/// The name of the file of a report; none for another statement.
-pub(crate) fn report_file(script: &Script, at: usize) -> &str
-    requires { at < length script.now.statements }
+/// The name of the file of a report of a script; none for another statement.
+pub(crate) fn report_file(scripts: &[Script], script: u32, at: usize) -> &str
+    requires scripts { All IsLawful scripts.now }
+    requires stands { StandsAt scripts.now script at }
+    ensures { result.now ≡ name_at scripts.now script at }
 {
-    match script.statement(at) {
+    match scripts[script as usize].statement(at) {
         Statement::Report { pass: _, file } => file_name(file.as_slice()),
         _ => "",
     }

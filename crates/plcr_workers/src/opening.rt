@@ -1,9 +1,12 @@
 //! The list that all workers share, with the queue through which its writer goes round, and the workers.
-ghost use Rattle.std.specs.Prelude.{◌≡◌, IfOk};
+ghost use Rattle.std.specs.Prelude.{◌≡◌, All, IfOk};
+ghost use Rattle.plcr_imagelist.specs.Holds.{WalkerState};
+ghost use Rattle.plcr_imagelist.specs.States.{IsAtRest};
+ghost use Rattle.plcr_workers.specs.inner.Stages.{HasMetThese};
 
 use crate::crew::{Left, hire, room_for, totals_of};
 use crate::worker::Worker;
-use plcr_imagelist::{ImageList, OpenError, Writer};
+use plcr_imagelist::{ImageList, OpenError, Pass, Writer};
 use plcr_io::Sink;
 use plcr_script::Script;
 use plcr_turns::{Turn, TurnPass, TurnQueue, make, start};
@@ -53,7 +56,14 @@ pub(crate) fn open<R: Wait, K: Sink + Drop>(
 }
 
 /// The writer meets all passes.
-pub(crate) fn meet_all(list: &ImageList, writer: Writer, images: Vec<plcr_imagelist::Pass>) -> Writer {
+pub(crate) fn meet_all(list: &ImageList, writer: Writer, images: Vec<Pass>) -> Writer
+    requires list { writer.table ≡ list.now }
+    requires rest { IsAtRest writer }
+    requires images { All (λ (i : WalkerState). i.table ≡ list.now) images.items }
+    ensures met { HasMetThese images.items writer result }
+    ensures rest { IsAtRest result }
+    ensures list { result.table ≡ list.now }
+{
     let mut writer = writer;
     let mut images = images;
     while let Some(image) = images.pop() {

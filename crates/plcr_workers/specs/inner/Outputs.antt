@@ -21,15 +21,19 @@ HasOpenFor count told = IfTold told.made (λ made. IfTold told.kept (λ kept. If
 abbrev pub name_at : List ScriptValue → ℕ → ℕ → List ℕ
 name_at scripts script at = file_of (option_and_then (λ (s : ScriptValue). slice_get s.statements at) (slice_get scripts script))
 
--- an output is that of a report of one of the scripts
-pub record IsDraftOf {K : Type 0} (scripts : List ScriptValue) (draft : Draft K) : Type 0 where
-  pub script : ScriptValue
-  pub stands : slice_get scripts draft.script ≡ Some script
-  pub within : draft.at < length script.statements
+-- there is a statement at a place of one of the scripts
+pub record StandsAt (scripts : List ScriptValue) (script at : ℕ) : Type 0 where
+  pub value : ScriptValue
+  pub stands : slice_get scripts script ≡ Some value
+  pub within : at < length value.statements
+
+-- an output is that of a statement of one of the scripts
+abbrev pub IsDraftOf : {K : Type 0} → List ScriptValue → Draft K → Type 0
+IsDraftOf scripts draft = StandsAt scripts draft.script draft.at
 
 -- the names of the files of outputs
 abbrev pub draft_names : {K : Type 0} → List ScriptValue → List (Draft K) → List (List ℕ)
-draft_names scripts drafts = map (λ (d : Draft K). name_at scripts d.script d.at) drafts
+draft_names {K = K} scripts drafts = map (λ (d : Draft K). name_at scripts d.script d.at) drafts
 
 -- an output whose report was not taken yet
 pub record IsWaiting {K : Type 0} (written : K → Option (List ℕ)) (faults : K → ℕ) (draft : Draft K) : Type 0 where
@@ -40,7 +44,7 @@ pub record IsWaiting {K : Type 0} (written : K → Option (List ℕ)) (faults : 
 -- of outputs the first that was not written whole, if there is one, has faults
 abbrev pub AreDone : {K : Type 0} → (K → ℕ) → List (Draft K) → Type 0
 AreDone faults [] = Unit {0}
-AreDone faults (draft ∷ drafts) = ((draft.progress ≡ Written) × AreDone faults drafts) ⊎ (0 < faults draft.out)
+AreDone faults (draft ∷ drafts) = ((draft.progress ≡ Written) × AreDone faults drafts) ⊎ ((draft.progress ≢ Written) × (0 < faults draft.out))
 
 -- the outputs of workers, in the order of script and line
 abbrev pub outputs_of : {K : Type 0} → List (Worker K) → List (Draft K)
