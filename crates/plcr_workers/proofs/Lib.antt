@@ -9,4 +9,5 @@ pub mod Owned
 pub mod Passing
 pub mod Joined
 pub mod Settled
-pub mod Met
+pub mod Made
+pub mod Meetings

@@ -4,10 +4,12 @@ ghost use Rattle.plcr_io.specs.Desk.{HasOpen};
 ghost use Rattle.plcr_script.specs.Lawful.{IsLawful};
 ghost use Rattle.plcr_script.specs.Reading.{files_of, written_by};
 ghost use Rattle.plcr_script.specs.Sayings.{is_file_name};
-ghost use Rattle.plcr_workers.specs.inner.Outputs.{name_at, StandsAt, IsDraftOf, AreDone, HasKeptAll, HasKeptUpTo, HasDropped, HasOpenFor, in_order};
+ghost use Rattle.plcr_workers.specs.inner.Hired.{AreNew};
+ghost use Rattle.plcr_workers.specs.inner.Outputs.{AllMade, AreMade, AreSameWorkers, HasMade, IsSameWorker, IsUnmade, NotAllMade, name_at, StandsAt, IsDraftOf, AreDone, HasKeptAll, HasKeptUpTo, HasDropped, HasOpenFor, in_order};
 
 use crate::drafts::{Draft, Progress};
 use crate::worker::Worker;
+use plcr_command::MOST_SCRIPTS;
 use plcr_io::{Desk, MakeFailed};
 use plcr_script::{Script, Statement};
 
@@ -27,17 +29,39 @@ pub(crate) fn make_all<D: Desk>(
     scripts: &[Script],
     desk: &mut D,
     workers: &mut [Worker<D::Out>],
-) -> Result<(), Unwritten> {
+) -> Result<(), Unwritten>
+    requires scripts { All IsLawful scripts.now }
+    requires few { length scripts.now ≤ MOST_SCRIPTS }
+    requires count { length workers.old ≡ length scripts.now }
+    requires new { AreNew scripts.now workers.old }
+    ensures ok { OnOk result (AllMade D.Out.faults scripts.now workers.new (D.told desk.old) (D.told desk.new)) }
+    ensures err { IfErr result (λ unwritten. NotAllMade scripts.now workers.new unwritten.script unwritten.at (D.told desk.old) (D.told desk.new)) }
+    ensures same { AreSameWorkers workers.old workers.new }
+{
     for script in 0..scripts.len() {
-        let drafts = &mut workers[script].drafts;
-        if let Err(at) = make_drafts(&scripts[script], script as u32, desk, drafts) {
-            return Err(Unwritten {
-                script: script as u32,
-                at,
-            });
+        let number = script as u32;
+        if let Err(at) = make_for(&scripts[script], number, desk, &mut workers[script]) {
+            return Err(Unwritten { script: number, at });
         }
     }
     Ok(())
+}
+
+/// Makes the outputs of a worker.
+fn make_for<D: Desk>(
+    script: &Script,
+    number: u32,
+    desk: &mut D,
+    worker: &mut Worker<D::Out>,
+) -> Result<(), usize>
+    requires script { IsLawful script.now }
+    requires none { vec_len worker.old.drafts ≡ 0 }
+    requires room { length script.now.statements ≤ vec_capacity worker.old.drafts }
+    ensures ok { OnOk result (AreMade D.Out.faults number script.now.statements (length script.now.statements) worker.new.drafts.items × HasMade (files_of script.now.statements) (D.told desk.old) (D.told desk.new)) }
+    ensures err { IfErr result (λ at. IsUnmade D.Out.faults number script.now.statements at worker.new.drafts.items (D.told desk.old) (D.told desk.new)) }
+    ensures same { IsSameWorker worker.old worker.new }
+{
+    make_drafts(script, number, desk, &mut worker.drafts)
 }
 
 /// Makes the outputs of a script's reports, in order.
@@ -50,7 +74,13 @@ fn make_drafts<D: Desk>(
     number: u32,
     desk: &mut D,
     drafts: &mut Vec<Draft<D::Out>>,
-) -> Result<(), usize> {
+) -> Result<(), usize>
+    requires script { IsLawful script.now }
+    requires none { vec_len drafts.old ≡ 0 }
+    requires room { length script.now.statements ≤ vec_capacity drafts.old }
+    ensures ok { OnOk result (AreMade D.Out.faults number script.now.statements (length script.now.statements) drafts.new.items × HasMade (files_of script.now.statements) (D.told desk.old) (D.told desk.new)) }
+    ensures err { IfErr result (λ at. IsUnmade D.Out.faults number script.now.statements at drafts.new.items (D.told desk.old) (D.told desk.new)) }
+{
     for at in 0..script.len() {
         if let Statement::Report { pass: _, file } = script.statement(at) {
             match desk.make(file_name(file.as_slice())) {

@@ -1,5 +1,5 @@
 -- Outputs that were made, and are neither kept nor given up yet.
-use Rattle.std.specs.Prelude.{◌≡◌, ◌≢◌, ◌⊎◌, ℕ, ◌+◌, ◌<◌, ◌≤◌, List, [], ◌∷◌, ◌++◌, Option, Some, length, map, reverse, slice_get, option_and_then, Vec, vec_len, vec_capacity, All, IsTrue}
+use Rattle.std.specs.Prelude.{◌≡◌, ◌≢◌, ◌⊎◌, ℕ, ◌+◌, ◌<◌, ◌≤◌, List, [], ◌∷◌, ◌++◌, Option, Some, length, map, reverse, take, slice_get, slice_index_or, option_and_then, Vec, vec_len, vec_capacity, All, IsTrue}
 use Rattle.std.specs.declared.alloc.Global.{Global}
 use Rattle.plcr_base.specs.Causes.{Rose}
 use Rattle.plcr_base.specs.Told.{IfTold, Gains}
@@ -7,6 +7,7 @@ use Rattle.plcr_io.specs.Desk.{Told}
 use Rattle.plcr_script.specs.declared.statements.Statement.TheVariants.{Report}
 use Rattle.plcr_script.specs.declared.statements.NumberedStatement.{NumberedStatement}
 use Rattle.plcr_script.specs.Scripts.{ScriptValue}
+use Rattle.plcr_script.specs.Reading.{files_of, written_by}
 use Rattle.plcr_command.specs.Saving.{TookNothing}
 use Rattle.plcr_workers.specs.declared.drafts.Draft.{Draft}
 use Rattle.plcr_workers.specs.declared.drafts.Progress.TheVariants.{Waiting, Written, Failed}
@@ -88,3 +89,54 @@ pub record HasDropped (old new : Told) : Type 0 where
   pub made : new.made ≡ old.made
   pub kept : new.kept ≡ old.kept
   pub nothing : TookNothing old new
+
+-- the names of outputs by the statements of their script
+abbrev pub names_in : {K : Type 0} → List NumberedStatement → List (Draft K) → List (List ℕ)
+names_in {K = K} statements drafts = map (λ (d : Draft K). file_of (slice_get statements d.at)) drafts
+
+-- outputs of the reports among the first statements of a script, in order, of which none was taken yet
+pub record AreMade {K : Type 0} (faults : K → ℕ) (number : ℕ) (statements : List NumberedStatement) (count : ℕ) (drafts : List (Draft K)) : Type 0 where
+  pub names : names_in statements drafts ≡ files_of (take count statements)
+  pub each : All (λ (d : Draft K). (d.script ≡ number) × (d.at < count) × (faults d.out ≡ 0)) drafts
+
+-- outputs with these names were made, and none was kept or given up
+pub record HasMade (names : List (List ℕ)) (old new : Told) : Type 0 where
+  pub made : Gains old.made new.made names
+  pub kept : new.kept ≡ old.kept
+  pub dropped : new.dropped ≡ old.dropped
+  pub nothing : TookNothing old new
+  pub «open» : (count : ℕ) → HasOpenFor count old → HasOpenFor (count + length names) new
+
+-- the outputs before this statement were made, and then that of its report was not
+pub record IsUnmade {K : Type 0} (faults : K → ℕ) (number : ℕ) (statements : List NumberedStatement) (at : ℕ) (drafts : List (Draft K)) (old new : Told) : Type 0 where
+  pub outputs : AreMade faults number statements at drafts
+  pub made : HasMade (files_of (take at statements)) old new
+  pub rest : List (List ℕ)
+  pub parts : files_of statements ≡ files_of (take at statements) ++ file_of (slice_get statements at) ∷ rest
+  pub within : at < length statements
+  pub cause : Rose old.out_faults new.out_faults
+
+-- a worker is the same but for its outputs
+abbrev pub IsSameWorker : {K : Type 0} → Worker K → Worker K → Type 0
+IsSameWorker old new = new ≡ record old { drafts = new.drafts }
+
+pub record AreSameWorkers {K : Type 0} (old new : List (Worker K)) : Type 0 where
+  pub count : length new ≡ length old
+  pub each : (k : ℕ) (other : Worker K) → k < length old → IsSameWorker (slice_index_or old k other) (slice_index_or new k other)
+
+-- all outputs were made, and the workers have them
+pub record AllMade {K : Type 0} (faults : K → ℕ) (scripts : List ScriptValue) (workers : List (Worker K)) (old new : Told) : Type 0 where
+  pub made : HasMade (written_by scripts) old new
+  pub names : draft_names scripts (outputs_of workers) ≡ written_by scripts
+  pub are : All (IsDraftOf scripts) (outputs_of workers)
+  pub each : (k : ℕ) (other : Worker K) (script : ScriptValue) → slice_get scripts k ≡ Some script → k < length workers → AreMade faults k script.statements (length script.statements) (slice_index_or workers k other).drafts.items
+
+-- the outputs before that of this report were made, and then that was not
+pub record NotAllMade {K : Type 0} (scripts : List ScriptValue) (workers : List (Worker K)) (script at : ℕ) (old new : Told) : Type 0 where
+  pub before : List (List ℕ)
+  pub later : List (List ℕ)
+  pub parts : written_by scripts ≡ before ++ name_at scripts script at ∷ later
+  pub made : HasMade before old new
+  pub count : length (outputs_of workers) ≡ length before
+  pub stands : StandsAt scripts script at
+  pub cause : Rose old.out_faults new.out_faults

@@ -1,7 +1,7 @@
 use Rattle.std.proofs.Common.{◌≡◌, ◌∷◌, [], ◌++◌, All, List, sym, ap, ◌∙◌, subst, append-nil, append_assoc}
 use Rattle.plcr_imagelist.specs.Holds.{WalkerState}
 use Rattle.plcr_turns.proofs.Fronts.{all_front, all_last}
-use Rattle.plcr_workers.proofs.Met.{met_none, met_one}
+use Rattle.plcr_workers.proofs.Meetings.{met_none, met_one}
 use Rattle.plcr_workers.proofs.opening.meet_all.Goals as goal
 
 pub loop-image-init : goal.loop-image-init
