@@ -1,12 +1,14 @@
 pub mod Outcomes
 pub mod Printed
-mod Going
-mod Hires
-mod Opened
-mod Outputs
-mod Crews
-mod Owned
-mod Settled
-mod Made
-mod Printing
-mod Meetings
+pub mod Going
+pub mod Hires
+pub mod Opened
+pub mod Outputs
+pub mod Crews
+pub mod Owned
+pub mod Passing
+pub mod Joined
+pub mod Settled
+pub mod Made
+pub mod Printing
+pub mod Meetings

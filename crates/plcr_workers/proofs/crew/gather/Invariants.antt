@@ -7,7 +7,7 @@ use Rattle.plcr_workers.proofs.crew.gather.Given as goal
 
 abbrev pub invariant-loop-worker : goal.invariant-loop-worker
 invariant-loop-worker g l = record {
-  same : IsSamePass l.initial.chief l.chief;
+  same : IsSamePass l.fn.chief l.chief;
   gone : All (λ w. IsGone l.queue.table.shared.table_id l.list l.scripts w) l.workers.items;
   taken : List (Worker g.K.Denot);
   are_in : AreIn (length l.scripts) l.list l.fn.workers.items l.workers.items taken (view l.chief) l.left.images.items l.left.drafts.items l.left.others.items;

@@ -6,7 +6,7 @@ use Rattle.plcr_workers.proofs.crew.hire.Given as goal
 
 abbrev pub invariant-loop-script : goal.invariant-loop-script
 invariant-loop-script g l = record {
-  same : IsSamePass l.initial.chief l.chief;
+  same : IsSamePass l.fn.chief l.chief;
   handed : HasHanded l.script l.list (totals_in l.scripts) (view l.chief);
   images_are : AreFromTheLast (length l.scripts) l.list l.images.items;
   many : vec_len l.images + l.script ≡ length l.scripts;

@@ -41,7 +41,7 @@ returns-in-Err-clause-open g c = λ count h.
     c.abandon_each.ensures.«open» count (c.keep.ensures.«open» _ (l.opened count (c.loop-draft.invariant.«open» count h)))
 
 pub returns-clause-ok : goal.returns-clause-ok
-returns-clause-ok g c = each_all g.D.Out.Sink.written g.D.Out.Sink.faults c.args.scripts.now c.args.drafts.items (g.D.Desk.told c.args.desk.now) (g.D.Desk.told c.loop-draft.desk) c.loop-draft.drafts.items (empty_list c.loop-draft.drafts.items ?) c.loop-draft.invariant
+returns-clause-ok g c = each_all g.D.Out.Sink.written g.D.Out.Sink.faults c.args.scripts.now c.args.drafts.items (g.D.Desk.told c.args.desk.now) (g.D.Desk.told c.loop-draft.desk) c.loop-draft.drafts.items ? c.loop-draft.invariant
 
 pub returns-clause-open : goal.returns-clause-open
-returns-clause-open g c = each_open g.D.Out.Sink.written g.D.Out.Sink.faults c.args.scripts.now c.args.drafts.items (g.D.Desk.told c.args.desk.now) (g.D.Desk.told c.loop-draft.desk) c.loop-draft.drafts.items (empty_list c.loop-draft.drafts.items ?) c.loop-draft.invariant
+returns-clause-open g c = each_open g.D.Out.Sink.written g.D.Out.Sink.faults c.args.scripts.now c.args.drafts.items (g.D.Desk.told c.args.desk.now) (g.D.Desk.told c.loop-draft.desk) c.loop-draft.drafts.items ? c.loop-draft.invariant

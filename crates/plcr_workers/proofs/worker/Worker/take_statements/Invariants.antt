@@ -12,7 +12,7 @@ use Rattle.plcr_workers.proofs.worker.Worker.take_statements.Given as goal
 
 abbrev pub invariant-loop-at : goal.invariant-loop-at
 invariant-loop-at g l = record {
-  number : l.self.script ≡ l.initial.self.script;
+  number : l.self.script ≡ l.fn.self.script;
   pass : (l.self.turns.table_id ≡ l.queue.table.shared.table_id) × (l.self.turns.me.1 ≡ []);
   so_far : SoFar l.self.script l.list l.script.statements l.at (view l.self.turns);
   place : IsAt l.list l.place;
@@ -22,5 +22,5 @@ invariant-loop-at g l = record {
   fits : vec_len l.self.lines ≤ l.at;
   room : length l.script.statements ≤ vec_capacity l.self.lines;
   all : length l.self.drafts.items ≡ length (files_of l.script.statements);
-  outputs : AreNext g.K.Sink.faults l.script.statements l.at l.next l.initial.self.drafts.items l.self.drafts.items;
+  outputs : AreNext g.K.Sink.faults l.script.statements l.at l.next l.fn.self.drafts.items l.self.drafts.items;
 }
