@@ -12,3 +12,6 @@ pub mod Settled
 pub mod Made
 pub mod Printing
 pub mod Meetings
+pub mod Staged
+pub mod Commanded
+pub mod Apart

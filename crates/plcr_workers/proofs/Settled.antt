@@ -36,7 +36,7 @@ dropped_none old = record { made = refl; kept = refl; nothing = nothing_none old
 pub dropped_twice : (old mid new : Told) → HasDropped old mid → HasDropped mid new → HasDropped old new
 dropped_twice old mid new a b = record { made = b.made ∙ a.made; kept = b.kept ∙ a.kept; nothing = nothing_twice old mid new a.nothing b.nothing }
 
-rose_first : (before mid after : ℕ) → mid ≤ after → Rose before mid → Rose before after
+pub rose_first : (before mid after : ℕ) → mid ≤ after → Rose before mid → Rose before after
 rose_first before mid after later (inl more) = inl (omega (arith, later, more))
 rose_first before mid after later (inr full) = inr (omega (arith, later, full))
 
