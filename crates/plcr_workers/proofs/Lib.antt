@@ -15,3 +15,4 @@ pub mod Meetings
 pub mod Staged
 pub mod Commanded
 pub mod Apart
+pub mod Worked

@@ -12,6 +12,7 @@ use Rattle.plcr_base.proofs.Gained.{gains_none, gains_twice}
 use Rattle.plcr_base.proofs.Risen.{rose_second}
 use Rattle.plcr_io.specs.Desk.{Told}
 use Rattle.plcr_script.specs.declared.statements.Statement.{Statement}
+use Rattle.plcr_script.specs.declared.statements.Statement.TheVariants as statements
 use Rattle.plcr_script.specs.declared.statements.NumberedStatement.{NumberedStatement}
 use Rattle.plcr_script.specs.Scripts.{ScriptValue}
 use Rattle.plcr_script.specs.Reading.{files_of, written_by}
@@ -66,6 +67,19 @@ files_rest (s ∷ statements) (suc at) =
     ∙ ap (λ (l : List (List ℕ)). files_of one ++ l) r.1
     ∙ sym (append_assoc (files_of one) (files_of (take at statements)) r.0)
     ∙ ap (λ (l : List (List ℕ)). l ++ r.0) (sym (filter_map-append (λ (x : NumberedStatement). reading.file_of x.statement) one (take at statements))))
+
+-- a statement that is no report has no file
+pub not_report : (st : Statement) → ((pass : ℕ) (file : List ℕ) → st ≡ statements.Report pass file → ⊥) → reading.file_of st ≡ None
+not_report (statements.Load header name) no = refl
+not_report (statements.Unload header) no = refl
+not_report (statements.BeginLoad header name) no = refl
+not_report (statements.BeginUnload header) no = refl
+not_report (statements.Step most) no = refl
+not_report statements.End no = refl
+not_report (statements.Enter pass) no = refl
+not_report (statements.Walk pass most) no = refl
+not_report (statements.Leave pass) no = refl
+not_report (statements.Report pass file) no = absurd (no pass file refl)
 
 -- ---- the desk
 
