@@ -1,5 +1,5 @@
 //! The run of scripts side by side, once all memory for it was taken.
-ghost use Rattle.std.specs.Prelude.{◌≡◌, ◌≤◌, ◌<◌, ◌+◌, All, IfErr, OnOk, OnErr, Ok, Some, length, vec_len, vec_capacity};
+ghost use Rattle.std.specs.Prelude.{◌≡◌, ◌≤◌, ◌<◌, ◌+◌, [], All, IfErr, OnOk, OnErr, Ok, Some, length, vec_len, vec_capacity};
 ghost use Rattle.std.specs.Io.KnownBytes.{append_known};
 ghost use Rattle.crossbeam_queue.specs.Passes.{view, IsPassOf, ruled_capacity};
 ghost use Rattle.plcr_base.specs.Causes.{Rose};
@@ -17,7 +17,7 @@ ghost use Rattle.plcr_workers.specs.Log.{scripts_text, threads_log};
 ghost use Rattle.plcr_workers.specs.inner.Hired.{AreNew, AreNumbered, IsGone, IsHired};
 ghost use Rattle.plcr_workers.specs.inner.Outputs.{AreDone, HasOpenFor, IsDraftOf, NotAllMade, StandsAt, in_order, name_at, outputs_of};
 ghost use Rattle.plcr_workers.specs.inner.Own.{HaveOwnLines};
-ghost use Rattle.plcr_workers.specs.inner.Stages.{AreLinesOf, HasWorked, IsStage, RunEnds, Settles, items_of};
+ghost use Rattle.plcr_workers.specs.inner.Stages.{AreLinesOf, HasWorked, IsStage, LogEnds, RunEnds, Settles, items_of};
 
 use crate::crew::{Left, gather, run_all};
 use crate::drafts::Draft;
@@ -127,7 +127,9 @@ where
     ensures gone { All (λ w. IsGone queue.now.table.shared.table_id list.now job.now.scripts w) workers.new }
 {
     let scripts = job.scripts.as_slice();
-    make_all(scripts, desk, workers)?;
+    if let Err(unwritten) = make_all(scripts, desk, workers) {
+        return Err(unwritten);
+    }
     let process = CoreProcess { core: &job.core };
     let context = scripts[0].context(job.core.arch);
     run_all(rt, queue, list, scripts, &process, &context, gate, workers);
@@ -207,7 +209,14 @@ fn print_log<L: Sink>(
     journal: &[ChangeLine],
     others: &[Vec<PassLine>],
     lines: &mut L,
-) -> Ending<'static> {
+) -> Ending<'static>
+    requires few { length scripts.now ≤ MOST_SCRIPTS }
+    requires journal { All (λ (l : JournalLine). l.script < length scripts.now) journal.now }
+    requires others { AreLinesOf scripts.now others.now }
+    ensures ends { LogEnds (L.written lines.old) (L.written lines.new) (threads_log scripts.now journal.now (items_of others.now)) (L.faults lines.old) (L.faults lines.new) result }
+    ensures later { L.faults lines.old ≤ L.faults lines.new }
+    ensures mark { L.mark lines.new ≡ L.mark lines.old }
+{
     match print_all(scripts, journal, others, lines) {
         Ok(()) => Ending::Done,
         Err(PutFailed) => Ending::Stopped,
@@ -229,8 +238,10 @@ fn print_all<L: Sink>(
     ensures later { L.faults lines.old ≤ L.faults lines.new }
     ensures mark { L.mark lines.new ≡ L.mark lines.old }
 {
-    print_journal(journal, lines)?;
-    print_others(scripts, others, lines)
+    match print_journal(journal, lines) {
+        Ok(()) => print_others(scripts, others, lines),
+        Err(PutFailed) => Err(PutFailed),
+    }
 }
 
 /// Prints the other lines, script by script.
@@ -249,7 +260,9 @@ fn print_others<L: Sink>(
 {
     for script in 0..scripts.len() {
         let told = others[script].as_slice();
-        print_script(script as u32 + 1, &scripts[script], told, lines)?;
+        if let Err(PutFailed) = print_script(script as u32 + 1, &scripts[script], told, lines) {
+            return Err(PutFailed);
+        }
     }
     Ok(())
 }

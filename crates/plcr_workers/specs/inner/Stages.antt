@@ -1,6 +1,9 @@
 -- The stages of a run on threads: the list is opened, the workers run, and all passes meet the writer.
 use Rattle.std.specs.Prelude.{◌≡◌, ℕ, ◌<◌, ◌≤◌, true, List, [], ◌∷◌, All, length, slice_get, slice_index_or, Vec, vec_len, vec_capacity, Option, Some, None, Result, Ok, Err}
 use Rattle.std.specs.declared.alloc.Global.{Global}
+use Rattle.std.specs.Io.KnownBytes.{append_known}
+use Rattle.plcr_base.specs.Causes.{Rose}
+use Rattle.plcr_base.specs.Told.{AppendsProperFront}
 use Rattle.crossbeam_queue.specs.Passes.{view, IsPassOf, ruled_capacity}
 use Rattle.plcr_machine.specs.Lists.{Grows}
 use Rattle.plcr_nodes.specs.Entries.{WentOn, among}
@@ -68,6 +71,13 @@ Settles written scripts drafts (Ok made) old new (Ok done) = HasKeptAll written 
 Settles written scripts drafts (Ok made) old new (Err unwritten) = HasKeptUpTo written scripts drafts unwritten.script unwritten.at old new
 Settles written scripts drafts (Err unmade) old new (Ok done) = ⊥
 Settles written scripts drafts (Err unmade) old new (Err unwritten) = (unwritten ≡ unmade) × HasDropped old new
+
+-- how the printing of a log ends
+abbrev pub LogEnds : Option (List ℕ) → Option (List ℕ) → List ℕ → ℕ → ℕ → Ending → Type 0
+LogEnds old new text before after Done = new ≡ append_known old text
+LogEnds old new text before after Stopped = AppendsProperFront old new text × Rose before after
+LogEnds old new text before after (Refused refusal) = ⊥
+LogEnds old new text before after Misused = ⊥
 
 -- how the run of a job ends
 abbrev pub RunEnds : Job → Seen → Seen → Option WriterState → Ending → Type 0
