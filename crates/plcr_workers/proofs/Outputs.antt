@@ -98,7 +98,10 @@ long_is : {K : Type 0} (faults : K → ℕ) (next : ℕ) (took : Took) (old new 
 long_is {K} faults next took old new w = ap length w.new_is ∙ length-set old next w.is
 
 below_next : (k next : ℕ) → k ≢ next → k < next + 1 → k < next
-below_next k next f less = omega (arith, less, f)
+below_next zero zero f less = absurd (f refl)
+below_next zero (suc n) f less = omega arith
+below_next (suc k) zero f less = absurd (omega (arith, less))
+below_next (suc k) (suc n) f less = let r = below_next k n (λ e. f (ap suc e)) (omega (arith, less)) in omega (arith, r)
 
 up_to_more : {K : Type 0} (faults : K → ℕ) (next : ℕ) (took : Took) (old new : List (Draft K)) (w : WritesNext faults next took old new) → next < length old → w.is.progress ≡ Written → AreUpTo faults next old → AreUpTo faults (next + 1) new
 up_to_more {K} faults next took old new w within is up =
