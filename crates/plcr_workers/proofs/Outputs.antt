@@ -70,46 +70,49 @@ some_next : {a b : ℕ} → Some a ≡ Some b → a ≡ b
 some_next {a} {b} e = ap (λ (o : Option ℕ). unwrap_or o a) e
 
 same_places : {K : Type 0} (faults : K → ℕ) (next : ℕ) (took : Took) (first old new : List (Draft K)) → next < length old → AreSamePlaces first old → WritesNext faults next took old new → AreSamePlaces first new
-same_places faults next took first old new within s w =
+same_places {K} faults next took first old new within s w =
     let long : length new ≡ length old = ap length w.new_is ∙ length-set old next w.is in
     record {
       count = long ∙ s.count;
       each = λ k other less. at_or_else next k
           (λ (e : next ≡ k).
               let did = w.did other in
-              let here : slice_index_or new k other ≡ w.is = ap (λ l. get_or l k other) w.new_is ∙ subst (λ n. get_or (slice_set old next w.is) n other ≡ w.is) e (get_or-set_same old next w.is other within) in
+              let here : slice_index_or new k other ≡ w.is = ap (λ (l : List (Draft K)). get_or l k other) w.new_is ∙ subst (λ (n : ℕ). get_or (slice_set old next w.is) n other ≡ w.is) e (get_or-set_same old next w.is other within) in
               let was = subst (λ n. ((slice_index_or old n other).script ≡ (slice_index_or first n other).script) × ((slice_index_or old n other).at ≡ (slice_index_or first n other).at)) (sym e) (s.each k other less) in
               let there = subst (λ n. ((w.is).script ≡ (slice_index_or first n other).script) × ((w.is).at ≡ (slice_index_or first n other).at)) e (did.script ∙ was.0, did.at ∙ was.1) in
               (ap (λ (d : Draft K). d.script) here ∙ there.0, ap (λ (d : Draft K). d.at) here ∙ there.1))
           (λ f.
-              let there : slice_index_or new k other ≡ slice_index_or old k other = ap (λ l. get_or l k other) w.new_is ∙ get_or-set_other old next k w.is other (different next k f) in
+              let there : slice_index_or new k other ≡ slice_index_or old k other = ap (λ (l : List (Draft K)). get_or l k other) w.new_is ∙ get_or-set_other old next k w.is other (different next k f) in
               let was = s.each k other less in
               (ap (λ (d : Draft K). d.script) there ∙ was.0, ap (λ (d : Draft K). d.at) there ∙ was.1));
     }
 
 -- what an output that was written is, and what the others are
 here_is : {K : Type 0} (faults : K → ℕ) (next : ℕ) (took : Took) (old new : List (Draft K)) (w : WritesNext faults next took old new) (other : Draft K) → next < length old → slice_index_or new next other ≡ w.is
-here_is faults next took old new w other within = ap (λ l. get_or l next other) w.new_is ∙ get_or-set_same old next w.is other within
+here_is {K} faults next took old new w other within = ap (λ (l : List (Draft K)). get_or l next other) w.new_is ∙ get_or-set_same old next w.is other within
 
 there_is : {K : Type 0} (faults : K → ℕ) (next : ℕ) (took : Took) (old new : List (Draft K)) (w : WritesNext faults next took old new) (k : ℕ) (other : Draft K) → k ≢ next → slice_index_or new k other ≡ slice_index_or old k other
-there_is faults next took old new w k other f = ap (λ l. get_or l k other) w.new_is ∙ get_or-set_other old next k w.is other f
+there_is {K} faults next took old new w k other f = ap (λ (l : List (Draft K)). get_or l k other) w.new_is ∙ get_or-set_other old next k w.is other f
 
 long_is : {K : Type 0} (faults : K → ℕ) (next : ℕ) (took : Took) (old new : List (Draft K)) → WritesNext faults next took old new → length new ≡ length old
-long_is faults next took old new w = ap length w.new_is ∙ length-set old next w.is
+long_is {K} faults next took old new w = ap length w.new_is ∙ length-set old next w.is
 
 below_next : (k next : ℕ) → k ≢ next → k < next + 1 → k < next
-below_next k next f less = omega (arith, less, f)
+below_next zero zero f less = absurd (f refl)
+below_next zero (suc n) f less = omega arith
+below_next (suc k) zero f less = absurd (omega (arith, less))
+below_next (suc k) (suc n) f less = let r = below_next k n (λ e. f (ap suc e)) (omega (arith, less)) in omega (arith, r)
 
 up_to_more : {K : Type 0} (faults : K → ℕ) (next : ℕ) (took : Took) (old new : List (Draft K)) (w : WritesNext faults next took old new) → next < length old → w.is.progress ≡ Written → AreUpTo faults next old → AreUpTo faults (next + 1) new
-up_to_more faults next took old new w within is up =
+up_to_more {K} faults next took old new w within is up =
     let long = long_is faults next took old new w in
     record {
       written = λ k other less below. at_or_else next k
-          (λ (e : next ≡ k). subst (λ n. (slice_index_or new n other).progress ≡ Written) e (ap (λ d. d.progress) (here_is faults next took old new w other within) ∙ is))
-          (λ f. let not_next = different next k f in ap (λ d. d.progress) (there_is faults next took old new w k other not_next) ∙ up.written k other (omega (arith, less, long)) (below_next k next not_next below));
+          (λ (e : next ≡ k). subst (λ n. (slice_index_or new n other).progress ≡ Written) e (ap (λ (d : Draft K). d.progress) (here_is faults next took old new w other within) ∙ is))
+          (λ f. let not_next = different next k f in ap (λ (d : Draft K). d.progress) (there_is faults next took old new w k other not_next) ∙ up.written k other (omega (arith, less, long)) (below_next k next not_next below));
       waiting = λ k other less above.
           let not_next : k ≢ next = λ e. absurd (omega (arith, above, e)) in
-          ap (λ d. faults d.out) (there_is faults next took old new w k other not_next) ∙ up.waiting k other (omega (arith, less, long)) (omega (arith, above));
+          ap (λ (d : Draft K). faults d.out) (there_is faults next took old new w k other not_next) ∙ up.waiting k other (omega (arith, less, long)) (omega (arith, above));
     }
 
 written_of : {K : Type 0} (faults : K → ℕ) (took : Took) (next more : ℕ) (old new : Draft K) → IsOutput faults took old new → next_after took next ≡ Some more → (more ≡ next + 1) × (new.progress ≡ Written)
@@ -142,8 +145,8 @@ taken_on {K} faults statements at line next more statement took first old new e 
         record {
           counted = omega (arith, same, long, counted);
           few = omega (arith, same, few);
-          up_to = subst (λ n. AreUpTo faults n new) (sym same) (subst (λ l. AreUpTo faults next l) (sym t.0) s.up_to);
-          places = subst (λ l. AreSamePlaces first l) (sym t.0) s.places;
+          up_to = subst (λ n. AreUpTo faults n new) (sym same) (subst (λ (l : List (Draft K)). AreUpTo faults next l) (sym t.0) s.up_to);
+          places = subst (λ (l : List (Draft K)). AreSamePlaces first l) (sym t.0) s.places;
         }
     of (Some file) is w =
         let long = ap length (files_next statements at line statement e ∙ ap (λ f. files_of (take at statements) ++ own_files f) is) ∙ length-append (files_of (take at statements)) (file ∷ []) in
@@ -221,8 +224,8 @@ cut_at {K} faults statements at line next statement took first old new e all s t
           places = same_places faults next took first old new within s.places w;
           done = done_upto faults next new
               (λ k other less below.
-                  ap (λ d. d.progress) (there_is faults next took old new w k other (λ same. absurd (omega (arith, below, same)))) ∙ s.up_to.written k other (omega (arith, less, so_many)) below)
-              (λ other less. subst (λ d. 0 < faults d.out) (sym (here_is faults next took old new w other within)) some);
+                  ap (λ (d : Draft K). d.progress) (there_is faults next took old new w k other (λ same. absurd (omega (arith, below, same)))) ∙ s.up_to.written k other (omega (arith, less, so_many)) below)
+              (λ other less. subst (λ (d : Draft K). 0 < faults d.out) (sym (here_is faults next took old new w other within)) some);
         }
 
 -- before the first statement no output was taken

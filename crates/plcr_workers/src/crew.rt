@@ -83,7 +83,7 @@ pub(crate) fn hire<K: Sink + Drop>(
     requires handed { HasHanded 0 list.now (totals_in scripts.now) (view chief.old) }
     requires few { length scripts.now ≤ MOST_SCRIPTS }
     requires images { AreInOrder list.now images.items }
-    requires count { vec_len images ≡ length scripts.now }
+    requires count { length images.items ≡ length scripts.now }
     ensures queue { OnOk result (IsSamePass chief.old chief.new) }
     ensures chief { OnOk result (HasGathered (length scripts.now) list.now [] (view chief.new)) }
     ensures count { IfOk result (λ workers. vec_len workers ≡ length scripts.now) }

@@ -9,7 +9,7 @@ invariant-loop-script g l = record {
   same : IsSamePass l.fn.chief l.chief;
   handed : HasHanded l.script l.list (totals_in l.scripts) (view l.chief);
   images_are : AreFromTheLast (length l.scripts) l.list l.images.items;
-  many : vec_len l.images + l.script ≡ length l.scripts;
+  many : length l.images.items + l.script ≡ length l.scripts;
   hired : All (λ w. IsHired l.queue.table.shared.table_id l.list l.scripts w) l.workers.items;
   new : AreNew l.scripts l.workers.items;
   count : vec_len l.workers ≡ l.script;
