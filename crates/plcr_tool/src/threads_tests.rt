@@ -58,7 +58,8 @@ impl Signal {
     }
 }
 
-/// The change of the first script waits until the second script's pass is in; or the other way round.
+/// The change of the first script waits until the second script's pass is in; or the other way
+/// round.
 #[derive(Drop)]
 struct OneWaits {
     inside: Signal,
@@ -104,8 +105,8 @@ impl Gate for InTurn {
     }
 }
 
-/// Runs scripts on a core of eight images. The calls of these numbers fail on the desk, and puts of those numbers on each
-/// output.
+/// Runs scripts on a core of eight images. The calls of these numbers fail on the desk, and puts of
+/// those numbers on each output.
 fn run<R: Threads + Wait + Sync, G: Gate>(
     rt: &R,
     alloc: Global,
