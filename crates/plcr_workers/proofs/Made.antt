@@ -1,6 +1,6 @@
 -- Outputs that are made, script by script and report by report.
-use Rattle.std.proofs.Common.{⊎_elim, ◌≡◌, ◌≢◌, ℕ, zero, suc, ◌+◌, ◌<◌, ◌≤◌, List, [], ◌∷◌, ◌++◌, length, map, take, set, get_or, slice_get, Option, Some, None, refl, sym, ap, subst, ◌∙◌, append-nil, append_assoc, length-append, length-set, get_or-set_same, get_or-set_other, take_all, arith}
-use Rattle.std.specs.Prelude.{All, Vec, IsTrue, flat_map, filter_map, option_map, option_and_then, unwrap_or, vec_len}
+use Rattle.std.proofs.Common.{⊎_elim, ◌≡◌, ◌≢◌, ℕ, zero, suc, ◌+◌, ◌<◌, ◌≤◌, List, [], ◌∷◌, ◌++◌, length, map, take, set, get_or, slice_get, Option, Some, None, Result, Ok, Err, refl, sym, ap, subst, ◌∙◌, append-nil, append_assoc, length-append, length-set, get_or-set_same, get_or-set_other, take_all, arith}
+use Rattle.std.specs.Prelude.{All, Vec, OnOk, OnErr, IfErr, flat_map, filter_map, option_map, option_and_then, unwrap_or, vec_len}
 use Rattle.std.proofs.lemmas.Bool.{cases_eq}
 use Rattle.std.proofs.lemmas.List.{map-append, length-map, take_more, get_or_default}
 use Rattle.std.proofs.lemmas.List.Concat.{flat_map-append}
@@ -21,6 +21,7 @@ use Rattle.plcr_command.specs.Saving.{TookNothing}
 use Rattle.plcr_workers.specs.declared.drafts.Draft.{Draft}
 use Rattle.plcr_workers.specs.declared.worker.Worker.{Worker}
 use Rattle.plcr_workers.specs.Log.{file_of, file_in}
+use Rattle.plcr_workers.specs.inner.Hired.{AreNew, IsNew}
 use Rattle.plcr_workers.specs.inner.Outputs.{HasOpenFor, IsDraftOf, name_at, draft_names, names_in, AreMade, HasMade, IsUnmade, IsSameWorker, AreSameWorkers, AllMade, NotAllMade, outputs_of, StandsAt}
 use Rattle.plcr_workers.proofs.Opened.{after_make, still_open}
 use Rattle.plcr_workers.proofs.Settled.{nothing_none, nothing_twice}
@@ -347,3 +348,28 @@ module _ {K : Type 0} (faults : K → ℕ) (scripts : List ScriptValue) (olds : 
         are = m.are;
         each = λ k other script stands less. m.each k other script stands less (omega (arith, less, few));
       }
+
+-- ---- as they were hired
+
+no_items : {A : Type 0} (xs : List A) → length xs ≡ 0 → xs ≡ []
+no_items [] none = refl
+no_items (x ∷ xs) none = absurd (omega (arith, none))
+
+pub new_empty : {K : Type 0} (scripts : List ScriptValue) (workers : List (Worker K)) → AreNew scripts workers → (k : ℕ) (other : Worker K) → k < length workers → (get_or workers k other).drafts.items ≡ []
+new_empty scripts workers new k other less =
+    let w = get_or workers k other in
+    no_items w.drafts.items (sym w.drafts.ok.0 ∙ (new k other less).none)
+
+pub still_new : {K : Type 0} (faults : K → ℕ) (scripts : List ScriptValue) (count : ℕ) (olds news : List (Worker K)) (old now : Told) → AreNew scripts olds → count < length olds → MakingAll faults scripts count olds news old now → (other : Worker K) → IsNew scripts count (get_or news count other)
+still_new {K = K} faults scripts count olds news old now new within m other = subst (λ (w : Worker K). IsNew scripts count w) (sym (m.later count other (omega arith) within)) (new count other within)
+
+-- ---- what was answered
+
+pub ok_of : {A E X : Type 0} {r : Result A E} {a : A} → r ≡ Ok a → OnOk r X → X
+ok_of {A} {E} {X} is h = subst (λ (r : Result A E). OnOk r X) is h
+
+pub err_of : {A E : Type 0} {P : E → Type 0} {r : Result A E} {e : E} → r ≡ Err e → IfErr r P → P e
+err_of {A} {E} {P} is h = subst (λ (r : Result A E). IfErr r P) is h
+
+pub on_err_of : {A E X : Type 0} {r : Result A E} {e : E} → r ≡ Err e → OnErr r X → X
+on_err_of {A} {E} {X} is h = subst (λ (r : Result A E). OnErr r X) is h

@@ -1,25 +1,29 @@
 -- What workers that have run, or that were only hired, leave.
-use Rattle.std.proofs.Common.{inl, inr, ◌≡◌, ℕ, zero, suc, ◌+◌, ◌-◌, ◌<◌, ◌≤◌, true, List, [], ◌∷◌, ◌++◌, length, map, get_or, slice_get, Option, Some, None, refl, sym, ap, subst, ◌∙◌, arith}
+use Rattle.std.proofs.Common.{inl, inr, ◌≡◌, ℕ, zero, suc, ◌+◌, ◌-◌, ◌<◌, ◌≤◌, true, List, [], ◌∷◌, ◌++◌, length, map, get_or, slice_get, take_all, Option, Some, None, refl, sym, ap, subst, ◌∙◌, arith}
 use Rattle.std.specs.Prelude.{All, Vec, unwrap_or}
 use Rattle.std.specs.declared.alloc.Global.{Global}
-use Rattle.std.proofs.lemmas.List.{map-append}
-use Rattle.std.proofs.lemmas.List.Elements.{All-nil, All-cons, All-head, All-tail, All-append}
-use Rattle.std.proofs.lemmas.Option.{slice_get_within}
+use Rattle.std.proofs.lemmas.List.{map-append, length-map}
+use Rattle.std.proofs.lemmas.List.Elements.{All-nil, All-cons, All-head, All-tail, All-append, All-weaker}
+use Rattle.std.proofs.lemmas.Option.{slice_get_within, get_or_from_slice_get}
 use Rattle.atomic_table.specs.Seated.{TableId}
 use Rattle.plcr_nodes.specs.Entries.{among}
 use Rattle.plcr_imagelist.specs.States.{WriterState, IsAtRest}
 use Rattle.plcr_imagelist.specs.Holds.{WalkerState}
+use Rattle.plcr_io.specs.Desk.{Told}
 use Rattle.plcr_script.specs.Scripts.{ScriptValue}
+use Rattle.plcr_script.specs.Reading.{files_of}
 use Rattle.plcr_turns.proofs.Fronts.{all_front}
 use Rattle.plcr_workers.specs.declared.drafts.Draft.{Draft}
 use Rattle.plcr_workers.specs.declared.drafts.Progress.TheVariants.{Written}
 use Rattle.plcr_workers.specs.declared.lines.PassLine.{PassLine}
 use Rattle.plcr_workers.specs.declared.worker.Worker.{Worker}
 use Rattle.plcr_workers.specs.Command.{IsWriterOf}
+use Rattle.plcr_workers.specs.Log.{file_of}
 use Rattle.plcr_workers.specs.inner.Drafts.{AreSamePlaces, HasTaken, HaveTaken}
-use Rattle.plcr_workers.specs.inner.Hired.{IsHired, IsGone, AreNumbered, AreFromTheLast, lines_left}
-use Rattle.plcr_workers.specs.inner.Outputs.{AreDone, IsDraftOf, draft_names, name_at, outputs_of}
-use Rattle.plcr_workers.specs.inner.Stages.{AreLinesOf, HasMetThese}
+use Rattle.plcr_workers.specs.inner.Hired.{IsHired, IsReadyToRun, IsGone, AreNew, AreNumbered, AreFromTheLast, lines_left}
+use Rattle.plcr_workers.specs.inner.Own.{HaveOwnLines}
+use Rattle.plcr_workers.specs.inner.Outputs.{AllMade, AreDone, AreMade, AreSameWorkers, IsDraftOf, IsSameWorker, draft_names, name_at, outputs_of}
+use Rattle.plcr_workers.specs.inner.Stages.{AreLinesOf, HasMetThese, HasWorked}
 
 -- ---- the outputs
 
@@ -150,3 +154,66 @@ writer_is list scripts images old new long are met rest = record {
   paced = rest.paced;
   met = all_met list (length scripts) images old new long are met;
 }
+
+-- ---- workers that have their outputs
+
+-- of a worker that is the same but for its outputs
+hired_as : {K : Type 0} (queue list : TableId) (scripts : List ScriptValue) (o n : Worker K) → IsSameWorker o n → IsHired queue list scripts o → IsHired queue list scripts n
+hired_as {K = K} queue list scripts o n same h = subst (λ (w : Worker K). IsHired queue list scripts w) (sym same) (record {
+  script = h.script;
+  stands = h.stands;
+  ready = record {
+    begins = record { pass = h.ready.begins.pass; few = h.ready.begins.few; so_far = h.ready.begins.so_far; room = h.ready.begins.room; none = h.ready.begins.none };
+    image = record { image = h.ready.image.image; held = h.ready.image.held; walks = h.ready.image.walks; number = h.ready.image.number };
+  };
+})
+
+pub hired_same : {K : Type 0} (queue list : TableId) (scripts : List ScriptValue) (olds news : List (Worker K)) → AreSameWorkers olds news → All (λ w. IsHired queue list scripts w) olds → All (λ w. IsHired queue list scripts w) news
+hired_same queue list scripts olds news same hired k other within =
+    let less : k < length olds = let count = same.count in omega (arith, count, within) in
+    hired_as queue list scripts (get_or olds k other) (get_or news k other) (same.each k other less) (hired k other less)
+
+pub gone_all : {K : Type 0} (queue list : TableId) (scripts : List ScriptValue) (workers : List (Worker K)) → All (λ w. IsHired queue list scripts w) workers → All (λ w. IsGone queue list scripts w) workers
+gone_all queue list scripts workers hired k other within = hired_gone queue list scripts (get_or workers k other) (hired k other within)
+
+pub numbered_same : {K : Type 0} (scripts : List ScriptValue) (olds news : List (Worker K)) → AreNew scripts olds → AreSameWorkers olds news → AreNumbered news
+numbered_same scripts olds news new same k other within =
+    let less : k < length olds = let count = same.count in omega (arith, count, within) in
+    ap (λ w. w.script) (same.each k other less) ∙ (new k other less).number
+
+pub numbered_taken : {K : Type 0} (faults : K → ℕ) (olds news : List (Worker K)) → AreNumbered olds → HaveTaken faults olds news → AreNumbered news
+numbered_taken faults olds news numbers taken k other within =
+    let less : k < length olds = let count = taken.count in omega (arith, count, within) in
+    (taken.each k other less).number ∙ numbers k other less
+
+ready_one : {K : Type 0} (faults : K → ℕ) (queue list : TableId) (scripts : List ScriptValue) (w : Worker K) (h : IsHired queue list scripts w) → AreMade faults w.script h.script.statements (length h.script.statements) w.drafts.items → HaveOwnLines h.script.statements → IsReadyToRun faults queue list scripts w
+ready_one faults queue list scripts w h made apart =
+    let a = ap length made.names in
+    let b = length-map w.drafts.items (λ d. file_of (slice_get h.script.statements d.at)) in
+    let c = ap (λ l. length (files_of l)) (take_all (length h.script.statements) h.script.statements (omega arith)) in
+    record {
+      script = h.script;
+      stands = h.stands;
+      ready = h.ready;
+      outputs = record {
+        count = omega (arith, a, b, c);
+        waiting = All-weaker (λ d. (d.script ≡ w.script) × (d.at < length h.script.statements) × (faults d.out ≡ 0)) (λ d. faults d.out ≡ 0) (λ d one. one.2) w.drafts.items made.each;
+      };
+      apart = apart;
+    }
+
+pub ready_all : {K : Type 0} (faults : K → ℕ) (queue list : TableId) (scripts : List ScriptValue) (workers : List (Worker K)) (old new : Told) → AllMade faults scripts workers old new → AreNumbered workers → All (λ w. IsHired queue list scripts w) workers
+    → All (λ (script : ScriptValue). HaveOwnLines script.statements) scripts → All (λ w. IsReadyToRun faults queue list scripts w) workers
+ready_all faults queue list scripts workers old new made numbers hired apart k other within =
+    let w = get_or workers k other in
+    let h = hired k other within in
+    let number : w.script ≡ k = numbers k other within in
+    let stands : slice_get scripts k ≡ Some h.script = ap (slice_get scripts) (sym number) ∙ h.stands in
+    let here = slice_get_within scripts k h.script stands in
+    let own = subst (λ (s : ScriptValue). HaveOwnLines s.statements) (get_or_from_slice_get scripts k h.script h.script stands) (apart k h.script here) in
+    ready_one faults queue list scripts w h (subst (λ (n : ℕ). AreMade faults n h.script.statements (length h.script.statements) w.drafts.items) (sym number) (made.each k other h.script stands within)) own
+
+pub has_worked : {K : Type 0} (faults : K → ℕ) (scripts : List ScriptValue) (olds news : List (Worker K)) (old new : Told) → AllMade faults scripts olds old new → HaveTaken faults olds news → HasWorked faults scripts news old new
+has_worked faults scripts olds news old new made taken =
+    let t = outputs_taken faults scripts olds news taken made.are in
+    record { made = made.made; names = t.names ∙ made.names; are = t.are; done = t.done }

@@ -1,4 +1,4 @@
-use Rattle.std.proofs.Common.{◌≡◌, ◌∷◌, [], ◌++◌, ◌+◌, List, length, rules, refl, sym, ap, ◌∙◌, subst, arith}
+use Rattle.std.proofs.Common.{◌≡◌, ◌∷◌, [], ◌++◌, ◌+◌, List, length, refl, sym, ap, ◌∙◌, subst, arith}
 use Rattle.plcr_base.specs.Told.{add}
 use Rattle.plcr_script.specs.Reading.{file_of}
 use Rattle.plcr_workers.specs.Log.{file_in}
@@ -9,7 +9,7 @@ use Rattle.plcr_workers.proofs.making.make_drafts.Goals as goal
 
 pub loop-at-init : goal.loop-at-init
 loop-at-init g c =
-    let none : length c.args.drafts.now.items ≡ 0 = search (rules, c.requires.none) in
+    let none : length c.args.drafts.now.items ≡ 0 = sym c.args.drafts.now.ok.0 ∙ c.requires.none in
     (making_none g.D.Out.Sink.faults c.args.number c.args.script.now.statements c.args.drafts.now.items (g.D.Desk.told c.args.desk.now) none, refl)
 
 pub returns-in-Err-clause-err : goal.returns-in-Err-clause-err
