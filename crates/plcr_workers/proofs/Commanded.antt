@@ -1,5 +1,5 @@
 -- A run on threads that begins after the files were taken, as seen from before that.
-use Rattle.std.proofs.Common.{inl, inr, ◌≡◌, ℕ, List, [], Option, None, refl, sym, ap, subst, ◌∙◌, arith}
+use Rattle.std.proofs.Common.{inl, inr, ◌≡◌, ◌⊎◌, ℕ, List, [], Option, None, refl, sym, ap, subst, ◌∙◌, arith}
 use Rattle.plcr_base.specs.Causes.{Rose}
 use Rattle.plcr_base.specs.Told.{Gains}
 use Rattle.plcr_base.proofs.Appended.{append_nothing}
@@ -15,12 +15,12 @@ use Rattle.plcr_command.specs.Seen.{Seen, seen}
 use Rattle.plcr_command.specs.Taking.{MadeNothing, TookSome}
 use Rattle.plcr_command.specs.Refusals.{IsRead}
 use Rattle.plcr_command.specs.Jobs.{IsJob, job_files}
-use Rattle.plcr_command.specs.Endings.{Ended, Goes, status_of}
+use Rattle.plcr_command.specs.Endings.{Ended, Goes, HasRead, status_of}
 use Rattle.plcr_command.proofs.Kept.{kept_since, unprinted_since}
 use Rattle.plcr_command.proofs.Takings.{read_after, read_some, nothing_none}
 use Rattle.plcr_workers.specs.declared.command.TheConstants.{SIDE_BY_SIDE}
-use Rattle.plcr_workers.specs.Command.{AllKept, NotAllKept, NotPrinted, HasStopped, Threads, ThreadsDoes, ThreadsLeave}
-use Rattle.plcr_workers.specs.inner.Stages.{RunEnds, LeavesBy}
+use Rattle.plcr_workers.specs.Command.{AllKept, NotAllKept, NotPrinted, HasStopped, RanTogether, Threads, ThreadsDoes, ThreadsLeave, ThreadsTell}
+use Rattle.plcr_workers.specs.inner.Stages.{RunEnds, LeavesBy, TellsBy}
 
 all_since : (job : Job) (old mid new : Told) (lines lines' : Option (List ℕ)) (faults faults' : ℕ) → MadeNothing old mid → AllKept job (seen mid lines faults) (seen new lines' faults') → AllKept job (seen old lines faults) (seen new lines' faults')
 all_since job old mid new lines lines' faults faults' nothing k = record {
@@ -60,12 +60,12 @@ pub threads_run : (core : List ℕ) (scripts : List (List ℕ)) (job : Job) (pas
 threads_run core scripts job past Done old mid new lines lines' faults faults' read nothing same ran = record {
   value = job;
   read = read_after (IsJob SIDE_BY_SIDE) (job_files core scripts) job old mid new read same;
-  ends = all_since job old mid new lines lines' faults faults' nothing ran.0;
+  ends = all_since job old mid new lines lines' faults faults' nothing ran.2;
 }
 threads_run core scripts job past Stopped old mid new lines lines' faults faults' read nothing same ran = record {
   value = job;
   read = read_after (IsJob SIDE_BY_SIDE) (job_files core scripts) job old mid new read same;
-  ends = elim ran.0 [
+  ends = elim ran.1 [
     | inl keep ↦ inl (some_since job old mid new lines lines' faults faults' nothing keep)
     | inr log ↦ inr (cut_since job old mid new lines lines' faults faults' nothing log)
   ];
@@ -92,12 +92,12 @@ pub run_left : (core : List ℕ) (scripts : List (List ℕ)) (job : Job) (past :
 run_left core scripts job past Done old mid new lines lines' faults faults' read same ran = record {
   value = job;
   read = read_after (IsJob SIDE_BY_SIDE) (job_files core scripts) job old mid new read same;
-  ends = ran.1;
+  ends = ran.3.met;
 }
 run_left core scripts job past Stopped old mid new lines lines' faults faults' read same ran = record {
   value = job;
   read = read_after (IsJob SIDE_BY_SIDE) (job_files core scripts) job old mid new read same;
-  ends = ran.1;
+  ends = ran.2.met;
 }
 run_left core scripts job past (Refused OutOfMemory) old mid new lines lines' faults faults' read same ran = ran.1
 run_left core scripts job past (Refused (CannotRead word)) old mid new lines lines' faults faults' read same ran = absurd ran
@@ -106,6 +106,37 @@ run_left core scripts job past (Refused (CoreRefused fault)) old mid new lines l
 run_left core scripts job past (Refused (ScriptRefused number line kind)) old mid new lines lines' faults faults' read same ran = absurd ran
 run_left core scripts job past (Refused (ReportRefused fault)) old mid new lines lines' faults faults' read same ran = absurd ran
 run_left core scripts job past Misused old mid new lines lines' faults faults' read same ran = absurd ran
+
+-- and so its journal tells what this has seen
+pub run_tells : (core : List ℕ) (scripts : List (List ℕ)) (job : Job) (past : Option WriterState) (ending : Ending) (old mid new : Told) (lines lines' : Option (List ℕ)) (faults faults' : ℕ) → IsRead (IsJob SIDE_BY_SIDE) (job_files core scripts) old mid job → new.taken ≡ mid.taken
+    → RunEnds job (seen mid lines faults) (seen new lines' faults') past ending → TellsBy core scripts (seen old lines faults) (seen new lines' faults') past ending
+run_tells core scripts job past Done old mid new lines lines' faults faults' read same ran = record {
+  value = job;
+  read = read_after (IsJob SIDE_BY_SIDE) (job_files core scripts) job old mid new read same;
+  ends = record { writer = ran.3.met.writer; is = ran.3.met.is; journal = ran.0; tells = ran.3.tells; whole = λ zero. (ran.1, ran.4) };
+}
+run_tells core scripts job past Stopped old mid new lines lines' faults faults' read same ran = record {
+  value = job;
+  read = read_after (IsJob SIDE_BY_SIDE) (job_files core scripts) job old mid new read same;
+  ends = record { writer = ran.2.met.writer; is = ran.2.met.is; journal = ran.0; tells = ran.2.tells; whole = λ zero. absurd (omega (arith, zero)) };
+}
+run_tells core scripts job past (Refused refusal) old mid new lines lines' faults faults' read same ran = tt
+run_tells core scripts job past Misused old mid new lines lines' faults faults' read same ran = tt
+
+neither : {A : Type 0} (status other : ℕ) → status ≡ other → (other ≡ 0 → ⊥) → (other ≡ 5 → ⊥) → (status ≡ 0) ⊎ (status ≡ 5) → A
+neither status other is zero five (inl e) = absurd (zero (sym is ∙ e))
+neither status other is zero five (inr e) = absurd (five (sym is ∙ e))
+
+pub tells_by : (core : List ℕ) (scripts : List (List ℕ)) (old new : Seen) (past : Option WriterState) (ending : Ending) (status : ℕ) → status ≡ status_of ending → TellsBy core scripts old new past ending → ThreadsTell core scripts old new past status
+tells_by core scripts old new past Done status is tells = λ how. subst (λ (n : ℕ). HasRead (IsJob SIDE_BY_SIDE) (job_files core scripts) (RanTogether past n) old new) (sym is) tells
+tells_by core scripts old new past Stopped status is tells = λ how. subst (λ (n : ℕ). HasRead (IsJob SIDE_BY_SIDE) (job_files core scripts) (RanTogether past n) old new) (sym is) tells
+tells_by core scripts old new past (Refused (CannotRead word)) status is tells = λ how. neither status 2 is (λ e. omega (arith, e)) (λ e. omega (arith, e)) how
+tells_by core scripts old new past (Refused (TooLong word)) status is tells = λ how. neither status 2 is (λ e. omega (arith, e)) (λ e. omega (arith, e)) how
+tells_by core scripts old new past (Refused (CoreRefused fault)) status is tells = λ how. neither status 3 is (λ e. omega (arith, e)) (λ e. omega (arith, e)) how
+tells_by core scripts old new past (Refused (ScriptRefused number line kind)) status is tells = λ how. neither status 4 is (λ e. omega (arith, e)) (λ e. omega (arith, e)) how
+tells_by core scripts old new past (Refused (ReportRefused fault)) status is tells = λ how. neither status 6 is (λ e. omega (arith, e)) (λ e. omega (arith, e)) how
+tells_by core scripts old new past (Refused OutOfMemory) status is tells = λ how. neither status 7 is (λ e. omega (arith, e)) (λ e. omega (arith, e)) how
+tells_by core scripts old new past Misused status is tells = λ how. neither status 1 is (λ e. omega (arith, e)) (λ e. omega (arith, e)) how
 
 -- what an ending leaves, by its status
 pub leaves_by : (core : List ℕ) (scripts : List (List ℕ)) (old new : Seen) (past : Option WriterState) (ending : Ending) (status : ℕ) → status ≡ status_of ending → LeavesBy core scripts old new past ending → ThreadsLeave core scripts old new past status

@@ -271,7 +271,7 @@ module _ {K : Type 0} (faults : K → ℕ) (scripts : List ScriptValue) (olds : 
       }
 
   module _ (count : ℕ) (news : List (Worker K)) (w : Worker K) (script : ScriptValue) (old now new : Told) (stands : slice_get scripts count ≡ Some script) (within : count < length olds)
-      (empty : (k : ℕ) (other : Worker K) → k < length olds → (get_or olds k other).drafts.items ≡ []) (m : MakingAll faults scripts count olds news old now) (same : IsSameWorker (get_or news count w) w) where
+      (empty : (k : ℕ) (other : Worker K) → k < length olds → (get_or olds k other).drafts.items ≡ []) (m : MakingAll faults scripts count olds news old now) (base : Worker K) (same : IsSameWorker (get_or news count base) w) where
     inside : count < length news
     inside = let e = m.same.count in omega (arith, e, within)
 
@@ -292,7 +292,7 @@ module _ {K : Type 0} (faults : K → ℕ) (scripts : List ScriptValue) (olds : 
       count = set_count ∙ m.same.count;
       each = λ k other less. ⊎_elim
           (λ (e : k ≡ count). subst (λ (x : Worker K). IsSameWorker (get_or olds k other) x) (sym (ap (λ (n : ℕ). get_or (set news count w) n other) e ∙ here other))
-          (subst (λ (x : Worker K). IsSameWorker x w) (get_or_default news count w other inside ∙ m.later count other (omega arith) within ∙ sym (ap (λ (n : ℕ). get_or olds n other) e)) same))
+          (subst (λ (x : Worker K). IsSameWorker x w) (get_or_default news count base other inside ∙ m.later count other (omega arith) within ∙ sym (ap (λ (n : ℕ). get_or olds n other) e)) same))
           (λ (d : k ≡ count → ⊥). subst (λ (x : Worker K). IsSameWorker (get_or olds k other) x) (sym (others k other d)) (m.same.each k other less))
           (cases_eq k count);
     }

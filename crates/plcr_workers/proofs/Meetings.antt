@@ -23,6 +23,7 @@ met_none writer = record {
   went = ([], refl);
   changes = refl;
   joined = All-nil (λ (i : WalkerState). among i.number writer.joined ≡ true);
+  known = All-nil (λ (i : WalkerState). WentOn i.names writer.names);
 }
 
 among_first : (n x : ℕ) (xs : List ℕ) → x ≡ n → among n (x ∷ xs) ≡ true
@@ -33,6 +34,8 @@ met_one passes pass start old new rest m met =
     let now : new ≡ record old { history = met.past; names = met.names; joined = pass.number ∷ old.joined } = met.now in
     let history : new.history ≡ met.past = ap (λ (s : WriterState). s.history) now in
     let joined : new.joined ≡ pass.number ∷ old.joined = ap (λ (s : WriterState). s.joined) now in
+    let names : new.names ≡ met.names = ap (λ (s : WriterState). s.names) now in
+    let Knows : WalkerState → Type 0 = λ i. WentOn i.names new.names in
     let Joined : WalkerState → Type 0 = λ i. among i.number new.joined ≡ true in
     record {
       sizes = (ap (λ (s : WriterState). s.nodes) now ∙ m.sizes.0, ap (λ (s : WriterState). s.passes) now ∙ m.sizes.1);
@@ -41,4 +44,6 @@ met_one passes pass start old new rest m met =
       changes = adds_more start old new [] [] m.changes (met_adds old pass new rest.known met);
       joined = All-cons Joined pass passes (ap (among pass.number) joined ∙ among_first pass.number pass.number old.joined refl)
           (All-weaker (λ (i : WalkerState). among i.number old.joined ≡ true) Joined (λ i before. ap (among i.number) joined ∙ or_right (eqb pass.number i.number) (among i.number old.joined) before) passes m.joined);
+      known = All-cons Knows pass passes (subst (λ (ns : List (List ℕ)). WentOn pass.names ns) (sym names) met.named)
+          (All-weaker (λ (i : WalkerState). WentOn i.names old.names) Knows (λ i before. subst (λ (ns : List (List ℕ)). WentOn i.names ns) (sym names) (went_again i.names old.names met.names before met.sees.named)) passes m.known);
     }

@@ -26,9 +26,9 @@ use Rattle.plcr_workers.specs.declared.lines.PassLine.{PassLine}
 use Rattle.plcr_workers.specs.declared.making.Unwritten.{Unwritten}
 use Rattle.plcr_workers.specs.declared.worker.Worker.{Worker}
 use Rattle.plcr_workers.specs.Log.{threads_log}
-use Rattle.plcr_workers.specs.Command.{AllKept, NotAllKept, NotPrinted, IsWriterOf}
+use Rattle.plcr_workers.specs.Command.{AllKept, NotAllKept, NotPrinted}
 use Rattle.plcr_workers.specs.inner.Outputs.{name_at, draft_names, outputs_of, AreFiles, HasKeptAll, HasKeptUpTo, HasDropped, HasOpenFor, IsDraftOf, NotAllMade, StandsAt}
-use Rattle.plcr_workers.specs.inner.Stages.{HasWorked, LogEnds, RunEnds, Settles}
+use Rattle.plcr_workers.specs.inner.Stages.{HasWorked, LeftOf, LogEnds, RunEnds, Settles}
 use Rattle.plcr_workers.proofs.Settled.{rose_first}
 use Rattle.plcr_workers.proofs.Worked.{all_behind}
 
@@ -172,23 +172,23 @@ settled_nothing written scripts drafts (Err unmade) old new (Ok kept) s = absurd
 settled_nothing written scripts drafts (Err unmade) old new (Err unwritten) s = s.1.nothing
 
 module _ {K : Type 0} (written : K → Option (List ℕ)) (faults : K → ℕ) (job : Job) (workers : List (Worker K)) (drafts : List (Draft K)) (same : drafts ≡ outputs_of workers)
-    (old mid new : Told) (lines lines' : Option (List ℕ)) (counts counts' : ℕ) (past : Option WriterState) (left : IsWriterOf job.scripts past) where
+    (old mid new : Told) (lines lines' : Option (List ℕ)) (counts counts' : ℕ) (past : Option WriterState) (journal : List ChangeLine) (left : LeftOf job past journal) where
 
   -- all were kept, and so the printing ended
-  pub kept_ends : (made : Result (Unit {0}) Unwritten) (done : Unit {0}) (journal : List ChangeLine) (others : List (List PassLine)) (ending : Ending) → Worked faults job.scripts workers old mid made → Settles written job.scripts drafts made mid new (Ok done)
+  pub kept_ends : (made : Result (Unit {0}) Unwritten) (done : Unit {0}) (others : List (List PassLine)) (ending : Ending) → Worked faults job.scripts workers old mid made → Settles written job.scripts drafts made mid new (Ok done)
       → LogEnds lines lines' (threads_log job.scripts journal others) counts counts' ending → RunEnds job (seen old lines counts) (seen new lines' counts') past ending
-  kept_ends (Ok ok) done journal others Done w k ends = (all_kept written faults job workers drafts same old mid new lines lines' counts counts' journal others w k ends, left)
-  kept_ends (Ok ok) done journal others Stopped w k ends = (inr (not_printed written faults job workers drafts same old mid new lines lines' counts counts' journal others w k ends.0 ends.1), left)
-  kept_ends (Ok ok) done journal others (Refused refusal) w k ends = absurd ends
-  kept_ends (Ok ok) done journal others Misused w k ends = absurd ends
-  kept_ends (Err unmade) done journal others ending w k ends = absurd k
+  kept_ends (Ok ok) done others Done w k ends = (journal, others, all_kept written faults job workers drafts same old mid new lines lines' counts counts' journal others w k ends, left, ends)
+  kept_ends (Ok ok) done others Stopped w k ends = (journal, inr (not_printed written faults job workers drafts same old mid new lines lines' counts counts' journal others w k ends.0 ends.1), left)
+  kept_ends (Ok ok) done others (Refused refusal) w k ends = absurd ends
+  kept_ends (Ok ok) done others Misused w k ends = absurd ends
+  kept_ends (Err unmade) done others ending w k ends = absurd k
 
   -- one was not
   pub cut_ends : (made : Result (Unit {0}) Unwritten) (unwritten : Unwritten) → Worked faults job.scripts workers old mid made → Settles written job.scripts drafts made mid new (Err unwritten)
       → Prints lines lines' (cannot_write (name_at job.scripts unwritten.script unwritten.at)) counts counts' → RunEnds job (seen old lines counts) (seen new lines' counts') past Stopped
-  cut_ends (Ok ok) unwritten w k prints = (inl (not_kept written faults job workers drafts same old mid new lines lines' counts counts' unwritten.script unwritten.at w k prints), left)
+  cut_ends (Ok ok) unwritten w k prints = (journal, inl (not_kept written faults job workers drafts same old mid new lines lines' counts counts' unwritten.script unwritten.at w k prints), left)
   cut_ends (Err unmade) unwritten w k prints =
-      (inl (not_made written faults job workers drafts same old mid new lines lines' counts counts' unwritten.script unwritten.at
+      (journal, inl (not_made written faults job workers drafts same old mid new lines lines' counts counts' unwritten.script unwritten.at
       (subst (λ (u : Unwritten). NotAllMade job.scripts workers u.script u.at old mid) (sym k.0) w) k.1 prints), left)
 
 -- the report whose file is named stands in its script

@@ -1,27 +1,39 @@
 -- What workers that have run, or that were only hired, leave.
 use Rattle.std.proofs.Common.{inl, inr, ◌≡◌, ℕ, zero, suc, ◌+◌, ◌-◌, ◌<◌, ◌≤◌, true, List, [], ◌∷◌, ◌++◌, length, map, get_or, slice_get, take_all, Option, Some, None, refl, sym, ap, subst, ◌∙◌, arith}
-use Rattle.std.specs.Prelude.{All, Vec, unwrap_or}
+use Rattle.std.specs.Prelude.{All, Vec, reverse, unwrap_or}
 use Rattle.std.specs.declared.alloc.Global.{Global}
 use Rattle.std.proofs.lemmas.List.{map-append, length-map}
 use Rattle.std.proofs.lemmas.List.Elements.{All-nil, All-cons, All-head, All-tail, All-append, All-weaker}
 use Rattle.std.proofs.lemmas.Option.{slice_get_within, get_or_from_slice_get}
 use Rattle.atomic_table.specs.Seated.{TableId}
-use Rattle.plcr_nodes.specs.Entries.{among}
+use Rattle.crossbeam_queue.specs.Passes.{view}
+use Rattle.plcr_nodes.specs.Entries.{among, WentOn}
 use Rattle.plcr_imagelist.specs.States.{WriterState, IsAtRest}
 use Rattle.plcr_imagelist.specs.Holds.{WalkerState}
 use Rattle.plcr_io.specs.Desk.{Told}
 use Rattle.plcr_script.specs.Scripts.{ScriptValue}
 use Rattle.plcr_script.specs.Reading.{files_of}
+use Rattle.plcr_script.specs.Meanings.{Meanings}
+use Rattle.plcr_turns.specs.declared.lines.ChangeLine.{ChangeLine}
+use Rattle.plcr_turns.specs.declared.view.View.{View}
+use Rattle.plcr_turns.specs.Gathering.{AreWorking, HasGathered}
+use Rattle.plcr_turns.specs.Lines.{lines_of}
+use Rattle.plcr_turns.specs.Turns.{IsTurn, TurnState}
+use Rattle.plcr_turns.specs.Views.{IsTaken}
 use Rattle.plcr_turns.proofs.Fronts.{all_front}
 use Rattle.plcr_workers.specs.declared.drafts.Draft.{Draft}
 use Rattle.plcr_workers.specs.declared.drafts.Progress.TheVariants.{Written}
 use Rattle.plcr_workers.specs.declared.lines.PassLine.{PassLine}
 use Rattle.plcr_workers.specs.declared.worker.Worker.{Worker}
-use Rattle.plcr_workers.specs.Command.{IsWriterOf}
+use Rattle.plcr_workers.specs.Command.{IsJournalOf, IsWriterOf}
 use Rattle.plcr_workers.specs.Log.{file_of}
 use Rattle.plcr_workers.specs.inner.Drafts.{AreSamePlaces, HasTaken, HaveTaken}
-use Rattle.plcr_workers.specs.inner.Hired.{IsHired, IsReadyToRun, IsGone, AreNew, AreNumbered, AreFromTheLast, lines_left}
-use Rattle.plcr_workers.specs.inner.Own.{HaveOwnLines}
+use Rattle.plcr_workers.specs.inner.Hired.{IsHired, IsReadyToRun, IsGone, AreNew, AreNumbered, AreFromTheLast, lines_left, passes_left, views_of}
+use Rattle.plcr_workers.specs.inner.Own.{HaveOwnLines, KnowsOwnOf}
+use Rattle.plcr_workers.specs.Known.{HasEnded}
+use Rattle.plcr_workers.proofs.Joined.{AllKnow, all_known, first_applied, pass_of}
+use Rattle.plcr_workers.proofs.Outcomes.{known_journals_are, known_journals_run}
+use Rattle.plcr_workers.proofs.Owned.{nothing_own}
 use Rattle.plcr_workers.specs.inner.Outputs.{AllMade, AreDone, AreMade, AreSameWorkers, IsDraftOf, IsSameWorker, draft_names, name_at, outputs_of}
 use Rattle.plcr_workers.specs.inner.Stages.{AreLinesOf, HasMetThese, HasWorked}
 
@@ -217,3 +229,54 @@ pub has_worked : {K : Type 0} (faults : K → ℕ) (scripts : List ScriptValue) 
 has_worked faults scripts olds news old new made taken =
     let t = outputs_taken faults scripts olds news taken made.are in
     record { made = made.made; names = t.names ∙ made.names; are = t.are; done = t.done }
+
+-- ---- what workers know that never ran
+
+pub hired_knows : {K : Type 0} (process : Meanings) (queue list : TableId) (scripts : List ScriptValue) (w : Worker K) → IsHired queue list scripts w → KnowsOwnOf process scripts w
+hired_knows process queue list scripts w h = record {
+  script = h.script;
+  stands = h.stands;
+  knows = record {
+    image = h.ready.image.image;
+    held = h.ready.image.held;
+    own = nothing_own process h.script.statements h.ready.image.image.names (lines_of w.script (view w.turns).journal) h.ready.begins.so_far.lines;
+  };
+}
+
+pub know_all : {K : Type 0} (process : Meanings) (queue list : TableId) (scripts : List ScriptValue) (workers : List (Worker K)) → All (λ w. IsHired queue list scripts w) workers → All (λ w. KnowsOwnOf process scripts w) workers
+know_all process queue list scripts workers hired k other within = hired_knows process queue list scripts (get_or workers k other) (hired k other within)
+
+-- ---- the journal
+
+pub journal_is : {K : Type 0} (process : Meanings) (queue list : TableId) (scripts : List ScriptValue) (workers : List (Worker K)) (chief : View) (t : TurnState) (images : List WalkerState) (w : WriterState) → length workers ≡ length scripts → AreNumbered workers
+    → HasGathered (length scripts) list (views_of workers) chief → AreWorking 0 list (views_of workers) → All (λ x. IsGone queue list scripts x) workers → All (λ x. KnowsOwnOf process scripts x) workers → IsTaken chief t → IsTurn t
+    → map Some images ≡ reverse (passes_left workers) → HasMetThese images t.writer w → IsJournalOf process scripts t.journal w
+journal_is process queue list scripts workers chief t images w count numbers gathered working gone own taken turn left met =
+    let all : AllKnow process queue list scripts workers chief t w.names = record {
+      gathered = gathered;
+      working = working;
+      numbers = numbers;
+      count = count;
+      gone = gone;
+      own = own;
+      met = λ n x image at has. pass_of (λ (i : WalkerState). WentOn i.names w.names) workers images n x image left met.known at has;
+      taken = taken;
+      turn = turn;
+    } in
+    let ended : HasEnded t w = record { grows = met.grows; went = met.went; changes = met.changes; sizes = met.sizes } in
+    let known = all_known process queue list scripts workers chief t w.names all in
+    record {
+      lines = first_applied process queue list scripts workers chief t w.names all;
+      alone = subst (λ (n : ℕ). All (λ (l : ChangeLine). l.script < n) t.journal) (sym taken.count ∙ gathered.count_is) turn.alone;
+      changes = known_journals_are process scripts t w turn ended known;
+      outcomes = known_journals_run process scripts t w turn ended known;
+    }
+
+pub few_lines : (count : ℕ) (list : TableId) (views : List View) (chief : View) (t : TurnState) → HasGathered count list views chief → IsTaken chief t → IsTurn t → All (λ (l : ChangeLine). l.script < count) t.journal
+few_lines count list views chief t gathered taken turn = subst (λ (n : ℕ). All (λ (l : ChangeLine). l.script < n) t.journal) (sym taken.count ∙ gathered.count_is) turn.alone
+
+pub same_table : (count : ℕ) (list : TableId) (views : List View) (chief : View) (t : TurnState) → HasGathered count list views chief → IsTaken chief t → t.writer.table ≡ list
+same_table count list views chief t gathered taken = some_table (sym taken.list ∙ gathered.list_is)
+  where
+    some_table : {a b : TableId} → Some a ≡ Some b → a ≡ b
+    some_table {a} {b} e = ap (λ (o : Option TableId). unwrap_or o a) e

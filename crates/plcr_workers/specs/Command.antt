@@ -1,12 +1,15 @@
 -- What `threads CORE SCRIPT...` does, ending by ending, and what it leaves of the image list that the scripts ran on.
-use Rattle.std.specs.Prelude.{◌≡◌, ◌≢◌, ◌⊎◌, ℕ, ◌<◌, true, List, length, [], ◌∷◌, ◌++◌, Option, Some, None}
+use Rattle.std.specs.Prelude.{◌≡◌, ◌≢◌, ◌⊎◌, ℕ, ◌<◌, true, List, length, take, All, slice_get, [], ◌∷◌, ◌++◌, Option, Some, None}
+use Rattle.std.specs.Io.KnownBytes.{append_known}
 use Rattle.plcr_base.specs.Causes.{Rose}
 use Rattle.plcr_base.specs.Told.{Gains, Prints}
 use Rattle.plcr_machine.specs.Histories.{IsHistory}
 use Rattle.plcr_machine.specs.Passes.{IsPaced}
-use Rattle.plcr_machine.specs.Changes.{TakesFirst}
+use Rattle.plcr_machine.specs.Changes.{TakesFirst, changes_of}
 use Rattle.plcr_nodes.specs.Entries.{among}
 use Rattle.plcr_imagelist.specs.States.{WriterState}
+use Rattle.plcr_core.specs.declared.read.Core.{Core}
+use Rattle.plcr_script.specs.Meanings.{Meanings, meanings}
 use Rattle.plcr_script.specs.Scripts.{ScriptValue}
 use Rattle.plcr_script.specs.Reading.{written_by}
 use Rattle.plcr_command.specs.declared.jobs.Job.{Job}
@@ -14,9 +17,13 @@ use Rattle.plcr_command.specs.declared.endings.Ending.{Ending}
 use Rattle.plcr_command.specs.Seen.{Seen}
 use Rattle.plcr_command.specs.Jobs.{IsJob, JobMisread, job_files}
 use Rattle.plcr_command.specs.Lines.{cannot_write}
+use Rattle.plcr_command.specs.Process.{fault_at, meanings_of}
 use Rattle.plcr_command.specs.Endings.{CannotPrint, Did, Ended, HasKept, HasRead, kept_names}
 use Rattle.plcr_turns.specs.declared.lines.ChangeLine.{ChangeLine}
+use Rattle.plcr_turns.specs.Lines.{lines_of, wanted_by}
 use Rattle.plcr_workers.specs.declared.lines.PassLine.{PassLine}
+use Rattle.plcr_workers.specs.Asking.{accepted_changes, change_lines}
+use Rattle.plcr_workers.specs.Outcomes.{JournalRuns}
 use Rattle.plcr_workers.specs.declared.command.TheConstants.{SIDE_BY_SIDE}
 use Rattle.plcr_workers.specs.Log.{threads_log}
 
@@ -78,3 +85,28 @@ pub record ThreadsLeave (core : List ℕ) (scripts : List (List ℕ)) (old new :
   pub done : status ≡ 0 → LeftByScripts core scripts old new past
   pub stopped : status ≡ 5 → LeftByScripts core scripts old new past
   pub others : status ≢ 0 → status ≢ 5 → past ≡ None
+
+-- what the core means to the run of scripts: the first of them has the values of all reports
+abbrev pub meanings_in : Core → List ScriptValue → Meanings
+meanings_in core [] = meanings (fault_at core) (λ images. [])
+meanings_in core (script ∷ scripts) = meanings_of core script
+
+-- a journal of these scripts and the history that the writer has seen are one another's: it has of each script the first of its load and unload lines, in order, each once, and no other lines; its accepted lines are the changes of the history, in order; and each line came to what those before it make of it
+pub record IsJournalOf (process : Meanings) (scripts : List ScriptValue) (journal : List ChangeLine) (w : WriterState) : Type 0 where
+  pub lines : (number : ℕ) (script : ScriptValue) → slice_get scripts number ≡ Some script → (count : ℕ) × (wanted_by (lines_of number journal) ≡ take count (change_lines script.statements))
+  pub alone : All (λ (l : ChangeLine). l.script < length scripts) journal
+  pub changes : changes_of w.names w.history ≡ accepted_changes scripts journal
+  pub outcomes : JournalRuns process scripts w [] [] journal
+
+-- the run of a job's scripts left a writer, and its journal is one another's with what this has seen; where all was done, that journal is the one that was printed
+pub record RanTogether (past : Option WriterState) (status : ℕ) (job : Job) (old new : Seen) : Type 0 where
+  pub writer : WriterState
+  pub is : past ≡ Some writer
+  pub journal : List ChangeLine
+  pub tells : IsJournalOf (meanings_in job.core job.scripts) job.scripts journal writer
+  pub whole : status ≡ 0 → (others : List (List PassLine)) × (new.lines ≡ append_known old.lines (threads_log job.scripts journal others))
+
+-- where `threads CORE SCRIPT...` came to its run, what the journal tells is true
+abbrev pub ThreadsTell : List ℕ → List (List ℕ) → Seen → Seen → Option WriterState → ℕ → Type 0
+ThreadsTell core scripts old new past status =
+    (status ≡ 0) ⊎ (status ≡ 5) → HasRead (IsJob SIDE_BY_SIDE) (job_files core scripts) (RanTogether past status) old new

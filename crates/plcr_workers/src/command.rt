@@ -4,9 +4,9 @@ ghost use Rattle.plcr_command.specs.Endings.{Goes, GoesOn};
 ghost use Rattle.plcr_command.specs.Jobs.{IsLawfulJob, texts};
 ghost use Rattle.plcr_command.specs.Seen.{seen};
 ghost use Rattle.plcr_script.specs.Scripts.{ScriptValue};
-ghost use Rattle.plcr_workers.specs.Command.{Threads, ThreadsDoes, ThreadsLeave};
+ghost use Rattle.plcr_workers.specs.Command.{Threads, ThreadsDoes, ThreadsLeave, ThreadsTell};
 ghost use Rattle.plcr_workers.specs.inner.Own.{HaveOwnLines};
-ghost use Rattle.plcr_workers.specs.inner.Stages.{LeavesBy, RunEnds};
+ghost use Rattle.plcr_workers.specs.inner.Stages.{LeavesBy, RunEnds, TellsBy};
 
 use crate::gate::Gate;
 use crate::opening::open;
@@ -47,6 +47,9 @@ where
         (seen (D.told desk.old) (L.written lines.old) (L.faults lines.old))
         (seen (D.told desk.new) (L.written lines.new) (L.faults lines.new)) result }
     ensures past { ThreadsLeave core.now (map string_bytes scripts.now)
+        (seen (D.told desk.old) (L.written lines.old) (L.faults lines.old))
+        (seen (D.told desk.new) (L.written lines.new) (L.faults lines.new)) past.new result }
+    ensures journal { ThreadsTell core.now (map string_bytes scripts.now)
         (seen (D.told desk.old) (L.written lines.old) (L.faults lines.old))
         (seen (D.told desk.new) (L.written lines.new) (L.faults lines.new)) past.new result }
     ensures mark { L.mark lines.new ≡ L.mark lines.old }
@@ -92,6 +95,9 @@ where
         (seen (D.told desk.old) (L.written lines.old) (L.faults lines.old))
         (seen (D.told desk.new) (L.written lines.new) (L.faults lines.new)) result }
     ensures leaves { LeavesBy core.now (texts scripts.now)
+        (seen (D.told desk.old) (L.written lines.old) (L.faults lines.old))
+        (seen (D.told desk.new) (L.written lines.new) (L.faults lines.new)) past.new result }
+    ensures tells { TellsBy core.now (texts scripts.now)
         (seen (D.told desk.old) (L.written lines.old) (L.faults lines.old))
         (seen (D.told desk.new) (L.written lines.new) (L.faults lines.new)) past.new result }
     ensures goes { Goes

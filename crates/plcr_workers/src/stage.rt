@@ -9,14 +9,15 @@ ghost use Rattle.plcr_command.specs.Jobs.{IsLawfulJob};
 ghost use Rattle.plcr_command.specs.Lines.{cannot_write};
 ghost use Rattle.plcr_command.specs.Seen.{seen};
 ghost use Rattle.plcr_script.specs.Lawful.{IsLawful};
+ghost use Rattle.plcr_script.specs.Meanings.{Meanings};
 ghost use Rattle.plcr_script.specs.Scripts.{ScriptValue};
 ghost use Rattle.plcr_turns.specs.declared.lines.ChangeLine.{ChangeLine as JournalLine};
 ghost use Rattle.plcr_turns.specs.Gathering.{HasGathered};
-ghost use Rattle.plcr_workers.specs.Command.{IsWriterOf};
+ghost use Rattle.plcr_workers.specs.Command.{IsJournalOf, IsWriterOf, meanings_in};
 ghost use Rattle.plcr_workers.specs.Log.{scripts_text, threads_log};
 ghost use Rattle.plcr_workers.specs.inner.Hired.{AreNew, AreNumbered, IsGone, IsHired};
 ghost use Rattle.plcr_workers.specs.inner.Outputs.{AreDone, HasOpenFor, IsDraftOf, NotAllMade, StandsAt, in_order, name_at, outputs_of};
-ghost use Rattle.plcr_workers.specs.inner.Own.{HaveOwnLines};
+ghost use Rattle.plcr_workers.specs.inner.Own.{HaveOwnLines, KnowsOwnOf};
 ghost use Rattle.plcr_workers.specs.inner.Stages.{AreLinesOf, HasWorked, IsStage, LogEnds, RunEnds, Settles, items_of};
 
 use crate::crew::{Left, gather, run_all};
@@ -122,6 +123,7 @@ where
     requires hired { All (λ w. IsHired queue.now.table.shared.table_id list.now job.now.scripts w) workers.old }
     ensures ok { OnOk result (HasWorked D.Out.faults job.now.scripts workers.new (D.told desk.old) (D.told desk.new)) }
     ensures err { IfErr result (λ unwritten. NotAllMade job.now.scripts workers.new unwritten.script unwritten.at (D.told desk.old) (D.told desk.new)) }
+    ensures own { All (λ w. KnowsOwnOf (meanings_in job.now.core job.now.scripts) job.now.scripts w) workers.new }
     ensures count { length workers.new ≡ length job.now.scripts }
     ensures numbers { AreNumbered workers.new }
     ensures gone { All (λ w. IsGone queue.now.table.shared.table_id list.now job.now.scripts w) workers.new }
@@ -157,6 +159,7 @@ fn end_workers<R: Wait, K: Sink + Drop>(
     requires others_room { vec_len room.others + vec_len workers ≤ vec_capacity room.others }
     requires none { (vec_len room.images ≡ 0) × (vec_len room.drafts ≡ 0) × (vec_len room.others ≡ 0) }
     ensures writer { IsWriterOf scripts.now (Some result.writer) }
+    ensures tells { (process : Meanings) → All (λ w. KnowsOwnOf process scripts.now w) workers.items → IsJournalOf process scripts.now result.journal.items result.writer }
     ensures journal { All (λ (l : JournalLine). l.script < length scripts.now) result.journal.items }
     ensures drafts { in_order result.drafts.items ≡ outputs_of workers.items }
     ensures others { AreLinesOf scripts.now result.others.items }

@@ -19,6 +19,11 @@ use Rattle.plcr_command.specs.declared.endings.Ending.TheVariants.{Done, Stopped
 use Rattle.plcr_command.specs.declared.refusals.Refusal.{Refusal}
 use Rattle.plcr_command.specs.declared.refusals.Refusal.TheVariants.{OutOfMemory}
 use Rattle.plcr_command.specs.Seen.{Seen}
+use Rattle.plcr_command.specs.Jobs.{IsJob, job_files}
+use Rattle.plcr_command.specs.Endings.{HasRead}
+use Rattle.plcr_turns.specs.declared.lines.ChangeLine.{ChangeLine}
+use Rattle.plcr_workers.specs.declared.command.TheConstants.{SIDE_BY_SIDE}
+use Rattle.plcr_workers.specs.Log.{threads_log}
 use Rattle.plcr_turns.specs.Gathering.{HasGathered}
 use Rattle.plcr_workers.specs.declared.opening.Stage.{Stage}
 use Rattle.plcr_workers.specs.declared.drafts.Draft.{Draft}
@@ -27,7 +32,7 @@ use Rattle.plcr_workers.specs.declared.making.Unwritten.{Unwritten}
 use Rattle.plcr_workers.specs.declared.worker.Worker.{Worker}
 use Rattle.plcr_workers.specs.inner.Hired.{IsHired, AreNew}
 use Rattle.plcr_workers.specs.inner.Outputs.{AreDone, HasDropped, HasKeptAll, HasKeptUpTo, HasMade, IsDraftOf, draft_names, outputs_of}
-use Rattle.plcr_workers.specs.Command.{AllKept, HasStopped, IsWriterOf, LeftByScripts}
+use Rattle.plcr_workers.specs.Command.{AllKept, HasStopped, IsJournalOf, IsWriterOf, LeftByScripts, RanTogether, meanings_in}
 
 -- the writer has met these passes, and made nothing meanwhile
 pub record HasMetThese (passes : List WalkerState) (old new : WriterState) : Type 0 where
@@ -36,6 +41,7 @@ pub record HasMetThese (passes : List WalkerState) (old new : WriterState) : Typ
   pub went : WentOn old.names new.names
   pub changes : AddsChanges old [] new
   pub joined : All (λ (i : WalkerState). among i.number new.joined ≡ true) passes
+  pub known : All (λ (i : WalkerState). WentOn i.names new.names) passes
 
 -- the list, the queue and the workers are ready, with all room for what the workers leave
 pub record IsStage {K : Type 0} (scripts : List ScriptValue) (stage : Stage K) : Type 0 where
@@ -79,10 +85,15 @@ LogEnds old new text before after Stopped = AppendsProperFront old new text × R
 LogEnds old new text before after (Refused refusal) = ⊥
 LogEnds old new text before after Misused = ⊥
 
+-- what a run leaves of the list that it ran on
+pub record LeftOf (job : Job) (past : Option WriterState) (journal : List ChangeLine) : Type 0 where
+  pub met : IsWriterOf job.scripts past
+  pub tells : IsJournalOf (meanings_in job.core job.scripts) job.scripts journal met.writer
+
 -- how the run of a job ends
 abbrev pub RunEnds : Job → Seen → Seen → Option WriterState → Ending → Type 0
-RunEnds job old new past Done = AllKept job old new × IsWriterOf job.scripts past
-RunEnds job old new past Stopped = HasStopped job old new × IsWriterOf job.scripts past
+RunEnds job old new past Done = (journal : List ChangeLine) × (others : List (List PassLine)) × AllKept job old new × LeftOf job past journal × (new.lines ≡ append_known old.lines (threads_log job.scripts journal others))
+RunEnds job old new past Stopped = (journal : List ChangeLine) × HasStopped job old new × LeftOf job past journal
 RunEnds job old new past (Refused OutOfMemory) = (new ≡ old) × (past ≡ None)
 RunEnds job old new past (Refused refusal) = ⊥
 RunEnds job old new past Misused = ⊥
@@ -93,3 +104,10 @@ LeavesBy core scripts old new past Done = LeftByScripts core scripts old new pas
 LeavesBy core scripts old new past Stopped = LeftByScripts core scripts old new past
 LeavesBy core scripts old new past (Refused refusal) = past ≡ None
 LeavesBy core scripts old new past Misused = past ≡ None
+
+-- what its journal tells, by its ending
+abbrev pub TellsBy : List ℕ → List (List ℕ) → Seen → Seen → Option WriterState → Ending → Type 0
+TellsBy core scripts old new past Done = HasRead (IsJob SIDE_BY_SIDE) (job_files core scripts) (RanTogether past 0) old new
+TellsBy core scripts old new past Stopped = HasRead (IsJob SIDE_BY_SIDE) (job_files core scripts) (RanTogether past 5) old new
+TellsBy core scripts old new past (Refused refusal) = Unit {0}
+TellsBy core scripts old new past Misused = Unit {0}
