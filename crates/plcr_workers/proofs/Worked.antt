@@ -13,7 +13,19 @@ use Rattle.plcr_imagelist.specs.Holds.{WalkerState}
 use Rattle.plcr_io.specs.Desk.{Told}
 use Rattle.plcr_script.specs.Scripts.{ScriptValue}
 use Rattle.plcr_script.specs.Reading.{files_of}
-use Rattle.plcr_script.specs.Meanings.{Meanings}
+use Rattle.plcr_core.specs.declared.read.Core.{Core}
+use Rattle.plcr_core.specs.Cores.{AreThreads}
+use Rattle.plcr_macho.specs.Images.{Listed}
+use Rattle.plcr_report.specs.Spelling.{spelling_of}
+use Rattle.plcr_encode.specs.declared.context.Context.{Context}
+use Rattle.plcr_encode.specs.Conditions.{AreWhole, IsWritable}
+use Rattle.plcr_encode.specs.Values.{process_report}
+use Rattle.plcr_script.specs.Contexts.{context_of, SaysSame}
+use Rattle.plcr_script.specs.Lawful.{IsLawful}
+use Rattle.plcr_script.specs.Meanings.{Meanings, meanings}
+use Rattle.plcr_script.proofs.SameContexts.{same_writable}
+use Rattle.plcr_command.specs.Process.{fault_at, meanings_of}
+use Rattle.plcr_command.proofs.Reported.{report_is, threads_writable}
 use Rattle.plcr_turns.specs.declared.lines.ChangeLine.{ChangeLine}
 use Rattle.plcr_turns.specs.declared.view.View.{View}
 use Rattle.plcr_turns.specs.Gathering.{AreWorking, HasGathered}
@@ -25,7 +37,7 @@ use Rattle.plcr_workers.specs.declared.drafts.Draft.{Draft}
 use Rattle.plcr_workers.specs.declared.drafts.Progress.TheVariants.{Written}
 use Rattle.plcr_workers.specs.declared.lines.PassLine.{PassLine}
 use Rattle.plcr_workers.specs.declared.worker.Worker.{Worker}
-use Rattle.plcr_workers.specs.Command.{IsJournalOf, IsWriterOf}
+use Rattle.plcr_workers.specs.Command.{IsJournalOf, IsWriterOf, meanings_in}
 use Rattle.plcr_workers.specs.Log.{file_of}
 use Rattle.plcr_workers.specs.inner.Drafts.{AreSamePlaces, HasTaken, HaveTaken}
 use Rattle.plcr_workers.specs.inner.Hired.{IsHired, IsReadyToRun, IsGone, AreNew, AreNumbered, AreFromTheLast, lines_left, passes_left, views_of}
@@ -280,3 +292,26 @@ same_table count list views chief t gathered taken = some_table (sym taken.list 
   where
     some_table : {a b : TableId} → Some a ≡ Some b → a ≡ b
     some_table {a} {b} e = ap (λ (o : Option TableId). unwrap_or o a) e
+
+-- ---- what the core means to the run
+
+meanings_same : (fault : ℕ → Option ℕ) (r q : List Listed → List ℕ) → ((images : List Listed) → r images ≡ q images) → meanings fault r ≡ meanings fault q
+meanings_same fault r q same i = meanings fault (λ images. same images i)
+
+meanings_first : (core : Core) (scripts : List ScriptValue) (d : ScriptValue) → 1 ≤ length scripts → meanings_in core scripts ≡ meanings_of core (get_or scripts 0 d)
+meanings_first core [] d some = absurd (omega (arith, some))
+meanings_first core (script ∷ scripts) d some = refl
+
+-- by the context of the first script
+pub meanings_are : (core : Core) (scripts : List ScriptValue) (d : ScriptValue) (context : Context) → 1 ≤ length scripts → SaysSame context (context_of (get_or scripts 0 d) core.arch)
+    → meanings (fault_at core) (λ images. spelling_of (process_report context core.threads core.memory images)) ≡ meanings_in core scripts
+meanings_are core scripts d context some same =
+    meanings_same (fault_at core) _ _ (report_is core (get_or scripts 0 d) context same) ∙ sym (meanings_first core scripts d some)
+
+-- the context can be handed in
+pub context_fits : (core : Core) (scripts : List ScriptValue) (d : ScriptValue) (context : Context) → 1 ≤ length scripts → SaysSame context (context_of (get_or scripts 0 d) core.arch) → AreThreads core.arch core.threads → All IsLawful scripts
+    → AreWhole context.arch core.threads × IsWritable context
+context_fits core scripts d context some same threads lawful =
+    let script = get_or scripts 0 d in
+    let one : IsLawful script = lawful 0 d some in
+    (rw same.arch (threads_writable core.arch core.threads threads), same_writable context (context_of script core.arch) same (one.writable core.arch))
