@@ -15,7 +15,7 @@ ghost use Rattle.plcr_workers.specs.inner.Places.{IsAt, PassGoes, walker_of, Ask
 use crate::drafts::{Draft, Progress};
 use crate::gate::Gate;
 use crate::lines::PassSaid;
-use crate::places::{Place, enter, move_pass};
+use crate::places::{Place, come_in, move_pass};
 use plcr_command::MOST_SCRIPTS;
 use plcr_encode::Context;
 use plcr_imagelist::{Hold, ImageList, Pass};
@@ -107,10 +107,7 @@ pub(crate) fn report<P: Process, G: Gate, K: Sink>(
     ensures goes { PassGoes (walker_of place) result.0 }
     ensures output { IsOutput K.faults result.1 draft.old draft.new }
 {
-    let mut hold = match place {
-        Place::Out(pass) => enter(list, gate, script, line, pass),
-        Place::In(hold) => hold,
-    };
+    let mut hold = come_in(list, gate, script, line, place);
     walk_to_end(&mut hold, list);
     let captured = write_walk(process, context, list, &mut hold, draft);
     let images = hold.met();

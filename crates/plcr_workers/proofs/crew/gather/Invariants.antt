@@ -9,7 +9,7 @@ abbrev pub invariant-loop-worker : goal.invariant-loop-worker
 invariant-loop-worker g l = record {
   same : IsSamePass l.fn.chief l.chief;
   gone : All (λ w. IsGone l.queue.table.shared.table_id l.list l.scripts w) l.workers.items;
-  taken : List (Worker g.K.Denot);
+  taken : List (Worker g.row.K.Denot);
   are_in : AreIn (length l.scripts) l.list l.fn.workers.items l.workers.items taken (view l.chief) l.left.images.items l.left.drafts.items l.left.others.items;
   images_room : vec_len l.left.images + vec_len l.workers ≤ vec_capacity l.left.images;
   drafts_room : vec_len l.left.drafts + vec_len l.workers ≤ vec_capacity l.left.drafts;
