@@ -90,9 +90,7 @@ pub(crate) fn hire<K: Sink + Drop>(
     ensures new { IfOk result (λ workers. AreNew scripts.now workers.items) }
     ensures hired { IfOk result (λ workers. All (λ w. IsHired queue.now.table.shared.table_id list.now scripts.now w) workers.items) }
 {
-    let _ = list;
-    let mut images = images;
-    images.reverse();
+    let mut images = from_the_last(list, images);
     let mut workers = Vec::with_capacity(alloc, scripts.len())?;
     for script in 0..scripts.len() {
         let Some(image) = images.pop() else {
@@ -110,6 +108,18 @@ pub(crate) fn hire<K: Sink + Drop>(
         });
     }
     Ok(workers)
+}
+
+/// The passes of a list the other way round.
+fn from_the_last(list: &ImageList, images: Vec<Pass>) -> Vec<Pass>
+    requires { AreInOrder list.now images.items }
+    ensures order { AreFromTheLast (length images.items) list.now result.items }
+    ensures count { length result.items ≡ length images.items }
+{
+    let _ = list;
+    let mut images = images;
+    images.reverse();
+    images
 }
 
 /// All workers run, each on a thread of its own where one can be made.
