@@ -117,9 +117,16 @@ fn from_the_last(list: &ImageList, images: Vec<Pass>) -> Vec<Pass>
     ensures count { length result.items ≡ length images.items }
 {
     let _ = list;
-    let mut images = images;
-    images.reverse();
-    images
+    turned_round(images)
+}
+
+/// The same things the other way round.
+fn turned_round<T: Drop>(items: Vec<T>) -> Vec<T>
+    ensures { result.items ≡ reverse items.items }
+{
+    let mut items = items;
+    items.reverse();
+    items
 }
 
 /// All workers run, each on a thread of its own where one can be made.
@@ -221,12 +228,18 @@ pub(crate) fn gather<K: Sink + Drop>(
         take_in(queue, chief, turns);
         add_image(&mut left.images, image);
         left.others.push_reserved(lines);
-        let mut drafts = drafts;
-        drafts.reverse();
-        left.drafts.push_reserved(drafts);
+        left.drafts.push_reserved(turned_round(drafts));
     }
-    left.others.reverse();
-    left
+    let Left {
+        images,
+        drafts,
+        others,
+    } = left;
+    Left {
+        images,
+        drafts,
+        others: turned_round(others),
+    }
 }
 
 /// Adds the pass of a worker.
