@@ -115,3 +115,7 @@ pub again : {K : Type 0} (count : ℕ) (list : TableId) (all : List (Worker K)) 
     → AreIn count list all [] all chief images drafts others → HasAll chief
 again count list all chief images drafts others many s =
     has_all_again list (views_of all) chief (subst (λ n. HasGathered n list (views_of all) chief) (sym (views_count all ∙ many)) s.gathered) s.working
+
+pub none_left : {A : Type 0} (xs : List A) → length xs ≡ 0 → xs ≡ []
+none_left [] e = refl
+none_left (x ∷ xs) e = absurd (omega (arith, e))

@@ -51,7 +51,7 @@ loop-worker-preserved g c =
       same = (same.0 ∙ before.0, same.1 ∙ before.1, same.2 ∙ before.2);
       gone = all_front (λ w. IsGone queue list scripts w) c.pop.new.self.items (worker ∷ []) all;
       taken = worker ∷ c.loop-worker.invariant.taken;
-      are_in = rw added in rw c.push_reserved.ensures.items in rw c.push_reserved-2.ensures.items in next;
+      are_in = rw added (rw c.push_reserved.ensures.items (rw c.push_reserved-2.ensures.items next));
       images_room = (let a = c.add_image.ensures.len in let b = c.add_image.ensures.capacity in let r = c.loop-worker.invariant.images_room in omega (arith, a, b, r, length_of));
       drafts_room = (let a = c.push_reserved-2.ensures.len in let b = c.push_reserved-2.ensures.capacity in let r = c.loop-worker.invariant.drafts_room in omega (arith, a, b, r, length_of));
       others_room = (let a = c.push_reserved.ensures.len in let b = c.push_reserved.ensures.capacity in let r = c.loop-worker.invariant.others_room in omega (arith, a, b, r, length_of));
