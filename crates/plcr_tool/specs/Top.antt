@@ -68,6 +68,10 @@ Does (SideBySide core scripts) old new ending = Threads core scripts old new end
 Does Usage old new Misused = IsMisused old new
 Does Usage old new ending = ⊥
 
+-- what the program does for words of this form
+abbrev pub FormDoes : Form → Seen → Seen → ℕ → Type 0
+FormDoes form old new status = Ended (Does form old new) status old new
+
 -- what the program does for its words
 abbrev pub TopDoes : List (List ℕ) → Seen → Seen → ℕ → Type 0
-TopDoes words old new status = Ended (Does (form_of words) old new) status old new
+TopDoes words old new status = FormDoes (form_of words) old new status

@@ -58,7 +58,8 @@ impl Signal {
     }
 }
 
-/// The change of the first script waits until the second script's pass is in; or the other way round.
+/// The change of the first script waits until the second script's pass is in; or the other way
+/// round.
 #[derive(Drop)]
 struct OneWaits {
     inside: Signal,
@@ -104,8 +105,8 @@ impl Gate for InTurn {
     }
 }
 
-/// Runs scripts on a core of eight images. The calls of these numbers fail on the desk, and puts of those numbers on each
-/// output.
+/// Runs scripts on a core of eight images. The calls of these numbers fail on the desk, and puts of
+/// those numbers on each output.
 fn run<R: Threads + Wait + Sync, G: Gate>(
     rt: &R,
     alloc: Global,
@@ -227,7 +228,12 @@ fn one_script_runs_alone(rt: HostRuntime) -> Result<(), Fail> {
 
 #[test]
 fn refuses_scripts_by_their_numbers(rt: HostRuntime) -> Result<(), Fail> {
-    let cases: [(&[&str], &str); 6] = [
+    let cases: [(&[&str], &str); 8] = [
+        (
+            &["load 0x100000000 A\nbegin load 0x100004000 B\n"],
+            "script 1 2 6\n",
+        ),
+        (&["enter 1\n"], "script 1 1 5\n"),
         (&["begin load 0x100000000 A\n", ""], "script 1 1 6\n"),
         (&["load 0x100000000 A\nend\n", ""], "script 1 2 6\n"),
         (&["report 1 t\n", ""], "script 1 1 5\n"),
@@ -287,8 +293,15 @@ fn counts_its_scripts(rt: HostRuntime) -> Result<(), Fail> {
     let many = [LOAD_A; 65];
     let came = run(&rt, rt.alloc(), &many[..64], &NoGate, &[], &[])?;
     assert_eq!(rt; came.status, 0);
+    let lines = came.lines.bytes().iter().filter(|byte| **byte == b'\n');
+    assert_eq!(rt; lines.count(), 64);
     let came = run(&rt, rt.alloc(), many.as_slice(), &NoGate, &[], &[])?;
     assert_eq!(rt; came.status, 1);
+    assert_eq!(rt;
+        came.lines.bytes(),
+        b"usage: report CORE SCRIPT / show REPORT / make N CORE SCRIPT / threads CORE SCRIPT...\n"
+            .as_slice()
+    );
     assert!(rt; came.past.is_none());
     Ok(())
 }

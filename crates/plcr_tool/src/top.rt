@@ -2,9 +2,9 @@
 ghost use Rattle.std.specs.Prelude.{◌≡◌, ◌≤◌, None, Some, IfSome, IsNone, length, map, string_bytes};
 ghost use Rattle.plcr_base.specs.Told.{Prints};
 ghost use Rattle.plcr_command.specs.Seen.{seen};
-ghost use Rattle.plcr_tool.specs.Headline.{TopTellsTruly};
-ghost use Rattle.plcr_tool.specs.Past.{TopLeaves};
-ghost use Rattle.plcr_tool.specs.Top.{SideBySide, TopDoes, threads_in, usage_line};
+ghost use Rattle.plcr_tool.specs.Headline.{FormTellsTruly, TopTellsTruly};
+ghost use Rattle.plcr_tool.specs.Past.{FormLeaves, TopLeaves};
+ghost use Rattle.plcr_tool.specs.Top.{FormDoes, SideBySide, TopDoes, other_form, threads_in, usage_line};
 
 use crate::report::report_command;
 use crate::show::show_command;
@@ -47,9 +47,34 @@ where
         (seen (D.told desk.new) (L.written lines.new) (L.faults lines.new)) past.new result }
     ensures mark { L.mark lines.new ≡ L.mark lines.old }
 {
-    if let Some((core, scripts)) = threads_words(words) {
-        return threads_command(rt, alloc, core, scripts, desk, lines, gate, past);
+    match threads_words(words) {
+        Some((core, scripts)) => {
+            threads_command(rt, alloc, core, scripts, desk, lines, gate, past)
+        }
+        None => alone(alloc, words, desk, lines, past),
     }
+}
+
+/// The same for words that don't ask for scripts side by side.
+fn alone<D: Desk, L: Sink>(
+    alloc: Global,
+    words: &[String],
+    desk: &mut D,
+    lines: &mut L,
+    past: &mut Option<Writer>,
+) -> u8
+    requires { past.old ≡ None }
+    ensures does { FormDoes (other_form (map string_bytes words.now))
+        (seen (D.told desk.old) (L.written lines.old) (L.faults lines.old))
+        (seen (D.told desk.new) (L.written lines.new) (L.faults lines.new)) result }
+    ensures past { FormLeaves (other_form (map string_bytes words.now))
+        (seen (D.told desk.old) (L.written lines.old) (L.faults lines.old))
+        (seen (D.told desk.new) (L.written lines.new) (L.faults lines.new)) past.new result }
+    ensures headline { FormTellsTruly (other_form (map string_bytes words.now))
+        (seen (D.told desk.old) (L.written lines.old) (L.faults lines.old))
+        (seen (D.told desk.new) (L.written lines.new) (L.faults lines.new)) past.new result }
+    ensures mark { L.mark lines.new ≡ L.mark lines.old }
+{
     match words {
         [word, report] => {
             if word.as_str() == "show" {
@@ -81,7 +106,8 @@ where
     }
 }
 
-/// The core and the scripts of words of the form `threads CORE SCRIPT...`, which has 1 to 64 scripts.
+/// The core and the scripts of words of the form `threads CORE SCRIPT...`, which has 1 to 64
+/// scripts.
 fn threads_words(words: &[String]) -> Option<(&str, &[String])>
     ensures form { IfSome result (λ found. threads_in (map string_bytes words.now) ≡ Some (SideBySide found.0.now (map string_bytes found.1.now))) }
     ensures few { IfSome result (λ found. (1 ≤ length found.1.now) × (length found.1.now ≤ MOST_SCRIPTS)) }

@@ -10,4 +10,9 @@ pub mod Passing
 pub mod Joined
 pub mod Settled
 pub mod Made
+pub mod Printing
 pub mod Meetings
+pub mod Staged
+pub mod Commanded
+pub mod Apart
+pub mod Worked

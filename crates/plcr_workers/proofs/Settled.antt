@@ -11,7 +11,7 @@ use Rattle.plcr_base.proofs.Risen.{rose_second}
 use Rattle.plcr_machine.proofs.Cases.{not_both}
 use Rattle.plcr_io.specs.Desk.{Told, HasOpen, file}
 use Rattle.plcr_workers.proofs.Opened.{has_open, after_drop, still_open}
-use Rattle.plcr_turns.proofs.Fronts.{all_front, all_last}
+use Rattle.plcr_turns.proofs.Fronts.{all_front}
 use Rattle.plcr_script.specs.Scripts.{ScriptValue}
 use Rattle.plcr_command.specs.Saving.{TookNothing}
 use Rattle.plcr_workers.specs.declared.drafts.Draft.{Draft}
@@ -36,7 +36,7 @@ dropped_none old = record { made = refl; kept = refl; nothing = nothing_none old
 pub dropped_twice : (old mid new : Told) → HasDropped old mid → HasDropped mid new → HasDropped old new
 dropped_twice old mid new a b = record { made = b.made ∙ a.made; kept = b.kept ∙ a.kept; nothing = nothing_twice old mid new a.nothing b.nothing }
 
-rose_first : (before mid after : ℕ) → mid ≤ after → Rose before mid → Rose before after
+pub rose_first : (before mid after : ℕ) → mid ≤ after → Rose before mid → Rose before after
 rose_first before mid after later (inl more) = inl (omega (arith, later, more))
 rose_first before mid after later (inr full) = inr (omega (arith, later, full))
 
@@ -133,13 +133,16 @@ module _ {K : Type 0} (written : K → Option (List ℕ)) (scripts : List Script
     nothing = nothing;
   }
     where
+      known : (name b bytes : List ℕ) (was : Option (List (List ℕ × List ℕ))) → b ≡ bytes → Gains was (add_told was (file name (Some b))) ((name, bytes) ∷ [])
+      known name b bytes None e = tt
+      known name b bytes (Some k) e = λ i. k ++ (name, e i) ∷ []
       told : (name bytes : List ℕ) (was : Option (List ℕ)) → IfTold was (λ b. b ≡ bytes) → new.kept ≡ add_told old.kept (file name was) → Gains old.kept new.kept ((name, bytes) ∷ [])
-      told name bytes None is k = subst (λ (x : Option (List (List ℕ × List ℕ))). Gains old.kept x ((name, bytes) ∷ [])) (sym k) tt
-      told name bytes (Some b) is k = subst (λ (x : Option (List (List ℕ × List ℕ))). Gains old.kept x ((name, bytes) ∷ [])) (sym k) (known old.kept (ap (λ (c : List ℕ). (name, c)) is))
+      told name bytes None is k = subst (λ (x : Option (List (List ℕ × List ℕ))). Gains old.kept x ((name, bytes) ∷ [])) (sym k) (nothing_told old.kept)
         where
-          known : (was : Option (List (List ℕ × List ℕ))) → (name, b) ≡ (name, bytes) → Gains was (add_told was (Some (name, b))) ((name, bytes) ∷ [])
-          known None e = tt
-          known (Some k) e = ap (λ (x : List ℕ × List ℕ). k ++ x ∷ []) e
+          nothing_told : (was : Option (List (List ℕ × List ℕ))) → Gains was None ((name, bytes) ∷ [])
+          nothing_told None = tt
+          nothing_told (Some k) = tt
+      told name bytes (Some b) is k = subst (λ (x : Option (List (List ℕ × List ℕ))). Gains old.kept x ((name, bytes) ∷ [])) (sym k) (known name b bytes old.kept is)
       one_file : (files : List (List ℕ × List ℕ)) → AreFiles written scripts (draft ∷ []) files → Gains old.kept new.kept files
       one_file [] are = absurd are
       one_file (f ∷ files) are =
@@ -162,7 +165,18 @@ module _ {K : Type 0} (written : K → Option (List ℕ)) (scripts : List Script
     nothing = nothing;
   }
 
+-- so many more than none
+pub from_none : (count : ℕ) (told : Told) → HasOpenFor count told → HasOpenFor (0 + count) told
+from_none count told h = subst (λ (n : ℕ). HasOpenFor n told) (omega arith) h
+
+pub to_none : (count : ℕ) (told : Told) → HasOpenFor (0 + count) told → HasOpenFor count told
+to_none count told h = subst (λ (n : ℕ). HasOpenFor n told) (omega arith) h
+
 -- ---- outputs in lists of which the last is the first
+
+all_back : {A : Type 0} (P : A → Type 0) (xs ys : List A) → All P (xs ++ ys) → All P ys
+all_back P [] ys all = all
+all_back P (x ∷ xs) ys all = all_back P xs ys (All-tail P x (xs ++ ys) all)
 
 pub in_order_last : {K : Type 0} (all : List (Vec (Draft K) Global)) (drafts : Vec (Draft K) Global) → in_order (all ++ drafts ∷ []) ≡ reverse drafts.items ++ in_order all
 in_order_last [] drafts = sym (append-nil (reverse drafts.items))
@@ -207,12 +221,12 @@ pub record KeepingEach {K : Type 0} (written : K → Option (List ℕ)) (faults 
   pub gone : List (Draft K)
   pub parts : reverse all ≡ gone ++ reverse left
   pub kept : HasKeptAll written scripts gone old now
-  pub are : All (IsDraftOf scripts) left
+  pub are : All (IsDraftOf scripts) (reverse left)
   pub done : AreDone faults (reverse left)
   pub «open» : (count : ℕ) → HasOpenFor (count + length all) old → HasOpenFor (count + length left) now
 
 module _ {K : Type 0} (written : K → Option (List ℕ)) (faults : K → ℕ) (scripts : List ScriptValue) (all : List (Draft K)) (old now : Told) where
-  pub each_none : All (IsDraftOf scripts) all → AreDone faults (reverse all) → KeepingEach written faults scripts all all old old
+  pub each_none : All (IsDraftOf scripts) (reverse all) → AreDone faults (reverse all) → KeepingEach written faults scripts all all old old
   each_none are done = record { gone = []; parts = refl; kept = kept_none written scripts old; are = are; done = done; «open» = λ count h. h }
 
   -- what the last of those that are left is known to be
@@ -227,7 +241,7 @@ module _ {K : Type 0} (written : K → Option (List ℕ)) (faults : K → ℕ) (
       let order : reverse left ≡ draft ∷ reverse rest = ap reverse items ∙ reverse-append rest (draft ∷ []) in
       let long : length left ≡ length rest + 1 = ap length items ∙ length-append rest (draft ∷ []) in
       record {
-        is = all_last (IsDraftOf scripts) rest draft (subst (All (IsDraftOf scripts)) items k.are);
+        is = All-head (IsDraftOf scripts) draft (reverse rest) (subst (All (IsDraftOf scripts)) order k.are);
         done = done_first faults (draft ∷ []) (reverse rest) (subst (AreDone faults) order k.done);
         order = order;
         opened = λ n h. subst (λ (m : ℕ). HasOpenFor m now) (omega (arith, long)) h;
@@ -242,7 +256,7 @@ module _ {K : Type 0} (written : K → Option (List ℕ)) (faults : K → ℕ) (
         gone = k.gone ++ draft ∷ [];
         parts = k.parts ∙ ap (λ (x : List (Draft K)). k.gone ++ x) l.order ∙ sym (append_assoc k.gone (draft ∷ []) (reverse rest));
         kept = kept_twice written scripts k.gone (draft ∷ []) old now new k.kept kept;
-        are = all_front (IsDraftOf scripts) rest (draft ∷ []) (subst (All (IsDraftOf scripts)) items k.are);
+        are = All-tail (IsDraftOf scripts) draft (reverse rest) (subst (All (IsDraftOf scripts)) l.order k.are);
         done = done_later faults (draft ∷ []) (reverse rest) kept.whole (subst (AreDone faults) l.order k.done);
         «open» = λ count h. opens (count + length rest) (l.opened count (k.«open» count h));
       }
@@ -286,7 +300,7 @@ drop_one all left rest draft written old now new items d made kept listed nothin
 pub one_left : {K : Type 0} (all left rest : List (Draft K)) (draft : Draft K) (old now : Told) → left ≡ rest ++ draft ∷ [] → HasOpenFor (length all) old → DroppingEach all left old now → HasOpen now
 one_left all left rest draft old now items start d =
     let long : length left ≡ length rest + 1 = ap length items ∙ length-append rest (draft ∷ []) in
-    has_open (length left) now (omega (arith, long)) (d.«open» 0 start)
+    has_open (0 + length left) now (omega (arith, long)) (d.«open» 0 (from_none (length all) old start))
 
 -- ---- the outputs of all scripts
 
@@ -305,23 +319,20 @@ pub record KeepingAll {K : Type 0} (written : K → Option (List ℕ)) (faults :
   pub gone : List (Draft K)
   pub parts : in_order all ≡ gone ++ in_order left
   pub kept : HasKeptAll written scripts gone old now
-  pub are : All (λ (v : Vec (Draft K) Global). All (IsDraftOf scripts) v.items) left
+  pub are : All (IsDraftOf scripts) (in_order left)
   pub done : AreDone faults (in_order left)
   pub «open» : HasOpenFor (length (in_order left)) now
 
 module _ {K : Type 0} (written : K → Option (List ℕ)) (faults : K → ℕ) (scripts : List ScriptValue) (all : List (Vec (Draft K) Global)) (old now : Told) where
-  Are : Vec (Draft K) Global → Type 0
-  Are v = All (IsDraftOf scripts) v.items
-
-  pub all_none : All (λ (v : Vec (Draft K) Global). All (IsDraftOf scripts) v.items) all → AreDone faults (in_order all) → HasOpenFor (length (in_order all)) old → KeepingAll written faults scripts all all old old
+  pub all_none : All (IsDraftOf scripts) (in_order all) → AreDone faults (in_order all) → HasOpenFor (length (in_order all)) old → KeepingAll written faults scripts all all old old
   all_none are done opens = record { gone = []; parts = refl; kept = kept_none written scripts old; are = are; done = done; «open» = opens }
 
   module _ (left rest : List (Vec (Draft K) Global)) (drafts : Vec (Draft K) Global) (items : left ≡ rest ++ drafts ∷ []) (k : KeepingAll written faults scripts all left old now) where
     order : in_order left ≡ reverse drafts.items ++ in_order rest
     order = ap in_order items ∙ in_order_last rest drafts
 
-    pub last_are : All (IsDraftOf scripts) drafts.items
-    last_are = all_last Are rest drafts (subst (All Are) items k.are)
+    pub last_are : All (IsDraftOf scripts) (reverse drafts.items)
+    last_are = all_front (IsDraftOf scripts) (reverse drafts.items) (in_order rest) (subst (All (IsDraftOf scripts)) order k.are)
 
     pub last_done : AreDone faults (reverse drafts.items)
     last_done = done_first faults (reverse drafts.items) (in_order rest) (subst (AreDone faults) order k.done)
@@ -337,7 +348,7 @@ module _ {K : Type 0} (written : K → Option (List ℕ)) (faults : K → ℕ) (
       gone = k.gone ++ reverse drafts.items;
       parts = k.parts ∙ ap (λ (x : List (Draft K)). k.gone ++ x) order ∙ sym (append_assoc k.gone (reverse drafts.items) (in_order rest));
       kept = kept_twice written scripts k.gone (reverse drafts.items) old now new k.kept kept;
-      are = all_front Are rest (drafts ∷ []) (subst (All Are) items k.are);
+      are = all_back (IsDraftOf scripts) (reverse drafts.items) (in_order rest) (subst (All (IsDraftOf scripts)) order k.are);
       done = done_later faults (reverse drafts.items) (in_order rest) kept.whole (subst (AreDone faults) order k.done);
       «open» = opens (length (in_order rest)) both_open;
     }

@@ -1,7 +1,11 @@
 -- What `threads CORE SCRIPT...` does, ending by ending, and what it leaves of the image list that the scripts ran on.
-use Rattle.std.specs.Prelude.{◌≡◌, ◌≢◌, ◌⊎◌, ℕ, List, [], ◌∷◌, ◌++◌, Option, Some, None}
+use Rattle.std.specs.Prelude.{◌≡◌, ◌≢◌, ◌⊎◌, ℕ, ◌<◌, true, List, length, [], ◌∷◌, ◌++◌, Option, Some, None}
 use Rattle.plcr_base.specs.Causes.{Rose}
 use Rattle.plcr_base.specs.Told.{Gains, Prints}
+use Rattle.plcr_machine.specs.Histories.{IsHistory}
+use Rattle.plcr_machine.specs.Passes.{IsPaced}
+use Rattle.plcr_machine.specs.Changes.{TakesFirst}
+use Rattle.plcr_nodes.specs.Entries.{among}
 use Rattle.plcr_imagelist.specs.States.{WriterState}
 use Rattle.plcr_script.specs.Scripts.{ScriptValue}
 use Rattle.plcr_script.specs.Reading.{written_by}
@@ -15,7 +19,6 @@ use Rattle.plcr_turns.specs.declared.lines.ChangeLine.{ChangeLine}
 use Rattle.plcr_workers.specs.declared.lines.PassLine.{PassLine}
 use Rattle.plcr_workers.specs.declared.command.TheConstants.{SIDE_BY_SIDE}
 use Rattle.plcr_workers.specs.Log.{threads_log}
-use Rattle.plcr_workers.specs.Threads.{HasMetAll}
 
 -- all was done: each file that the scripts write was made and kept, in the order of script and line, none was given up, and a log was printed
 pub record AllKept (job : Job) (old new : Seen) : Type 0 where
@@ -56,16 +59,14 @@ Threads core scripts old new ending =
 abbrev pub ThreadsDoes : List ℕ → List (List ℕ) → Seen → Seen → ℕ → Type 0
 ThreadsDoes core scripts old new status = Ended (Threads core scripts old new) status old new
 
--- how many nodes the list of scripts has: as many as the first of them says
-abbrev pub nodes_of : List ScriptValue → ℕ
-nodes_of [] = 1
-nodes_of (script ∷ scripts) = script.nodes
-
--- the writer of the list that was opened for the scripts, which has met each pass of that list
+-- the writer of the list that was opened for the scripts, which has met the pass of each script, and what has happened there
 pub record IsWriterOf (scripts : List ScriptValue) (past : Option WriterState) : Type 0 where
   pub writer : WriterState
   pub is : past ≡ Some writer
-  pub met : HasMetAll (nodes_of scripts) scripts writer
+  pub known : IsHistory writer.nodes writer.passes writer.history writer.names
+  pub first : TakesFirst writer.history
+  pub paced : IsPaced writer.history
+  pub met : (pass : ℕ) → pass < length scripts → among pass writer.joined ≡ true
 
 -- the same of the scripts that the files hold
 abbrev pub LeftByScripts : (core : List ℕ) → (scripts : List (List ℕ)) → (old new : Seen) → Option WriterState → Type 0

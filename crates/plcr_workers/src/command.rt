@@ -1,19 +1,20 @@
 //! The command `threads CORE SCRIPT...`.
-ghost use Rattle.std.specs.Prelude.{◌≡◌, ◌≤◌, None, length};
+ghost use Rattle.std.specs.Prelude.{◌≡◌, ◌≤◌, All, IfOk, None, length, map, string_bytes};
+ghost use Rattle.plcr_command.specs.Endings.{Goes, GoesOn};
+ghost use Rattle.plcr_command.specs.Jobs.{IsLawfulJob, texts};
+ghost use Rattle.plcr_command.specs.Seen.{seen};
+ghost use Rattle.plcr_script.specs.Scripts.{ScriptValue};
+ghost use Rattle.plcr_workers.specs.Command.{Threads, ThreadsDoes, ThreadsLeave};
+ghost use Rattle.plcr_workers.specs.inner.Own.{HaveOwnLines};
+ghost use Rattle.plcr_workers.specs.inner.Stages.{LeavesBy, RunEnds};
 
-use crate::crew::{Left, gather, run_all};
 use crate::gate::Gate;
-use crate::lines::PassLine;
-use crate::log::{print_journal, print_script};
-use crate::making::{Unwritten, abandon_all, keep_all, make_all, report_file};
-use crate::opening::{Stage, meet_all, open};
-use plcr_command::{
-    CoreProcess, Ending, Job, Modes, Refusal, print_unwritten, read_job, refuse, status,
-};
+use crate::opening::open;
+use crate::stage::run_stage;
+use plcr_command::{Ending, Job, MOST_SCRIPTS, Modes, Refusal, read_job, refuse, status};
 use plcr_imagelist::Writer;
-use plcr_io::{Desk, PutFailed, Sink};
-use plcr_script::{Mode, Script};
-use plcr_turns::{ChangeLine, take_last};
+use plcr_io::{Desk, Sink};
+use plcr_script::Mode;
 use std::alloc::{AllocError, Global};
 use std::sync::Wait;
 use std::thread::Threads;
@@ -40,6 +41,15 @@ pub fn threads_command<R: Threads + Wait + Sync, D: Desk, L: Sink, G: Gate>(
 ) -> u8
 where
     D::Out: Send,
+    requires scripts { (1 ≤ length scripts.now) × (length scripts.now ≤ MOST_SCRIPTS) }
+    requires empty { past.old ≡ None }
+    ensures does { ThreadsDoes core.now (map string_bytes scripts.now)
+        (seen (D.told desk.old) (L.written lines.old) (L.faults lines.old))
+        (seen (D.told desk.new) (L.written lines.new) (L.faults lines.new)) result }
+    ensures past { ThreadsLeave core.now (map string_bytes scripts.now)
+        (seen (D.told desk.old) (L.written lines.old) (L.faults lines.old))
+        (seen (D.told desk.new) (L.written lines.new) (L.faults lines.new)) past.new result }
+    ensures mark { L.mark lines.new ≡ L.mark lines.old }
 {
     let names = match names_of(alloc, scripts) {
         Ok(names) => names,
@@ -53,7 +63,10 @@ where
 }
 
 /// The names of files, lent.
-fn names_of<'a>(alloc: Global, words: &'a [String]) -> Result<Vec<&'a str>, AllocError> {
+fn names_of<'a>(alloc: Global, words: &'a [String]) -> Result<Vec<&'a str>, AllocError>
+    ensures names { IfOk result (λ names. texts names.items ≡ map string_bytes words.now) }
+    ensures count { IfOk result (λ names. length names.items ≡ length words.now) }
+{
     let mut names = Vec::with_capacity(alloc, words.len())?;
     for word in words {
         names.push_reserved(word.as_str());
@@ -73,6 +86,18 @@ fn threads<'a, R: Threads + Wait + Sync, D: Desk, L: Sink, G: Gate>(
 ) -> Ending<'a>
 where
     D::Out: Send,
+    requires scripts { (1 ≤ length scripts.now) × (length scripts.now ≤ MOST_SCRIPTS) }
+    requires empty { past.old ≡ None }
+    ensures did { Threads core.now (texts scripts.now)
+        (seen (D.told desk.old) (L.written lines.old) (L.faults lines.old))
+        (seen (D.told desk.new) (L.written lines.new) (L.faults lines.new)) result }
+    ensures leaves { LeavesBy core.now (texts scripts.now)
+        (seen (D.told desk.old) (L.written lines.old) (L.faults lines.old))
+        (seen (D.told desk.new) (L.written lines.new) (L.faults lines.new)) past.new result }
+    ensures goes { Goes
+        (seen (D.told desk.old) (L.written lines.old) (L.faults lines.old))
+        (seen (D.told desk.new) (L.written lines.new) (L.faults lines.new)) }
+    ensures mark { L.mark lines.new ≡ L.mark lines.old }
 {
     match read_job(alloc, SIDE_BY_SIDE, core, scripts, desk) {
         Ok(job) => run_job(rt, alloc, job, desk, lines, gate, past),
@@ -94,6 +119,17 @@ fn run_job<R: Threads + Wait + Sync, D: Desk, L: Sink, G: Gate>(
 ) -> Ending<'static>
 where
     D::Out: Send,
+    requires scripts { (1 ≤ length job.scripts) × (length job.scripts ≤ MOST_SCRIPTS) }
+    requires lawful { IsLawfulJob job }
+    requires apart { All (λ (script : ScriptValue). HaveOwnLines script.statements) job.scripts }
+    requires empty { past.old ≡ None }
+    ensures ends { RunEnds job
+        (seen (D.told desk.old) (L.written lines.old) (L.faults lines.old))
+        (seen (D.told desk.new) (L.written lines.new) (L.faults lines.new)) past.new result }
+    ensures goes_on { GoesOn
+        (seen (D.told desk.old) (L.written lines.old) (L.faults lines.old))
+        (seen (D.told desk.new) (L.written lines.new) (L.faults lines.new)) }
+    ensures mark { L.mark lines.new ≡ L.mark lines.old }
 {
     match open(rt, alloc, job.scripts.as_slice()) {
         Ok(stage) => run_stage(rt, &job, stage, desk, lines, gate, past),
@@ -101,103 +137,4 @@ where
             refusal: Refusal::OutOfMemory,
         },
     }
-}
-
-/// Makes the outputs, runs the workers and ends them, and keeps the files and prints the log.
-fn run_stage<R: Threads + Wait + Sync, D: Desk, L: Sink, G: Gate>(
-    rt: &R,
-    job: &Job,
-    stage: Stage<D::Out>,
-    desk: &mut D,
-    lines: &mut L,
-    gate: &G,
-    past: &mut Option<Writer>,
-) -> Ending<'static>
-where
-    D::Out: Send,
-{
-    let Stage {
-        list,
-        queue,
-        mut chief,
-        mut workers,
-        room,
-    } = stage;
-    let scripts = job.scripts.as_slice();
-    let made = make_all(scripts, desk, workers.as_mut_slice());
-    if made.is_ok() {
-        run_workers(rt, job, &queue, &list, gate, workers.as_mut_slice());
-    }
-    let left = gather(&queue, &list, scripts, &mut chief, workers, room);
-    let (writer, journal) = take_last(rt, &queue, &mut chief).end();
-    let Left {
-        images,
-        drafts,
-        others,
-    } = left;
-    *past = Some(meet_all(&list, writer, images));
-    let written = match made {
-        Ok(()) => keep_all(scripts, desk, drafts),
-        Err(unwritten) => {
-            abandon_all(desk, drafts);
-            Err(unwritten)
-        }
-    };
-    match written {
-        Ok(()) => print_log(scripts, journal.as_slice(), others.as_slice(), lines),
-        Err(unwritten) => {
-            print_failed(scripts, unwritten, lines);
-            Ending::Stopped
-        }
-    }
-}
-
-/// All workers run on the core of the job.
-fn run_workers<R: Threads + Wait + Sync, K: Sink + Drop + Send, G: Gate>(
-    rt: &R,
-    job: &Job,
-    queue: &plcr_turns::TurnQueue,
-    list: &plcr_imagelist::ImageList,
-    gate: &G,
-    workers: &mut [crate::worker::Worker<K>],
-) {
-    let scripts = job.scripts.as_slice();
-    if let [first, ..] = scripts {
-        let process = CoreProcess { core: &job.core };
-        let context = first.context(job.core.arch);
-        run_all(rt, queue, list, scripts, &process, &context, gate, workers);
-    }
-}
-
-/// Prints the journal, and then the other lines script by script.
-fn print_log<L: Sink>(
-    scripts: &[Script],
-    journal: &[ChangeLine],
-    others: &[Vec<PassLine>],
-    lines: &mut L,
-) -> Ending<'static> {
-    match print_all(scripts, journal, others, lines) {
-        Ok(()) => Ending::Done,
-        Err(PutFailed) => Ending::Stopped,
-    }
-}
-
-fn print_all<L: Sink>(
-    scripts: &[Script],
-    journal: &[ChangeLine],
-    others: &[Vec<PassLine>],
-    lines: &mut L,
-) -> Result<(), PutFailed> {
-    print_journal(journal, lines)?;
-    for script in 0..scripts.len() {
-        let told = others[script].as_slice();
-        print_script(script as u32 + 1, &scripts[script], told, lines)?;
-    }
-    Ok(())
-}
-
-/// Prints that the file of a report was not kept.
-fn print_failed<L: Sink>(scripts: &[Script], unwritten: Unwritten, lines: &mut L) {
-    let name = report_file(scripts, unwritten.script, unwritten.at);
-    print_unwritten(lines, name.as_bytes());
 }

@@ -13,6 +13,7 @@ mod log;
 mod making;
 mod opening;
 mod places;
+mod stage;
 mod worker;
 
 pub use command::threads_command;

@@ -109,7 +109,7 @@ pub(crate) fn keep_all<D: Desk>(
     all: Vec<Vec<Draft<D::Out>>>,
 ) -> Result<(), Unwritten>
     requires scripts { All IsLawful scripts.now }
-    requires drafts { All (λ drafts. All (IsDraftOf scripts.now) drafts.items) all.items }
+    requires drafts { All (IsDraftOf scripts.now) (in_order all.items) }
     requires done { AreDone D.Out.faults (in_order all.items) }
     requires open { HasOpenFor (length (in_order all.items)) (D.told desk.old) }
     ensures ok { OnOk result (HasKeptAll D.Out.written scripts.now (in_order all.items) (D.told desk.old) (D.told desk.new)) }
@@ -132,7 +132,7 @@ fn keep_each<D: Desk>(
     drafts: Vec<Draft<D::Out>>,
 ) -> Result<(), Unwritten>
     requires scripts { All IsLawful scripts.now }
-    requires drafts { All (IsDraftOf scripts.now) drafts.items }
+    requires drafts { All (IsDraftOf scripts.now) (reverse drafts.items) }
     requires done { AreDone D.Out.faults (reverse drafts.items) }
     requires open { HasOpenFor (length drafts.items) (D.told desk.old) }
     ensures ok { OnOk result (HasKeptAll D.Out.written scripts.now (reverse drafts.items) (D.told desk.old) (D.told desk.new)) }

@@ -22,11 +22,11 @@ returns-in-Waiting g c =
 
 pub returns-in-Failed : goal.returns-in-Failed
 returns-in-Failed g c =
-    let e = c.abandon.ensures in
+    let e = c.abandon-in-Failed.ensures in
     record {
       ok = tt;
-      err = unkept_one g.D.Out.Sink.written c.args.scripts.now c.args.draft c.args.draft.script c.args.draft.at (g.D.Desk.told c.args.desk.now) (g.D.Desk.told c.abandon.new.self) refl refl e.made e.kept
+      err = unkept_one g.D.Out.Sink.written c.args.scripts.now c.args.draft c.args.draft.script c.args.draft.at (g.D.Desk.told c.args.desk.now) (g.D.Desk.told c.abandon-in-Failed.new.self) refl refl e.made e.kept
           (e.faulty (failed_faulty g.D.Out.Sink.faults c.args.draft c.requires.done c.in-Failed.is))
           (record { files = e.files; taken = e.taken; take_faults = e.take_faults; out_faults = e.later });
-      «open» = λ count h. after_drop count (g.D.Out.Sink.written c.args.draft.out) (g.D.Desk.told c.args.desk.now) (g.D.Desk.told c.abandon.new.self) h e.made e.kept e.listed;
+      «open» = λ count h. after_drop count (g.D.Out.Sink.written c.args.draft.out) (g.D.Desk.told c.args.desk.now) (g.D.Desk.told c.abandon-in-Failed.new.self) h e.made e.kept e.listed;
     }
