@@ -207,6 +207,13 @@ no_report_goes Unwritten next n e = n
 pub record IsCut {K : Type 0} (faults : K → ℕ) (first drafts : List (Draft K)) : Type 0 where
   pub places : AreSamePlaces first drafts
   pub done : AreDone faults drafts
+  pub failed : All (λ (d : Draft K). d.progress ≡ Written) drafts → ⊥
+
+not_written : {K : Type 0} (draft : Draft K) → draft.progress ≡ Failed → draft.progress ≡ Written → ⊥
+not_written draft f w = apart (sym f ∙ w)
+  where
+    apart : Failed ≡ Written → ⊥
+    apart e = absurd cc
 
 pub cut_at : {K : Type 0} (faults : K → ℕ) (statements : List NumberedStatement) (at line next : ℕ) (statement : Statement) (took : Took) (first old new : List (Draft K)) → slice_get statements at ≡ Some (record { line = line; statement = statement })
     → length old ≡ length (files_of statements) → AreNext faults statements at next first old → TakesOutputs faults next (file_of statement) took old new → next_after took next ≡ None
@@ -225,6 +232,7 @@ cut_at {K} faults statements at line next statement took first old new e all s t
         let some = rose_some (faults (slice_index_or old next w.is).out) (faults w.is.out) did.1 (s.up_to.waiting next w.is within (omega arith)) in
         record {
           places = same_places faults next took first old new within s.places w;
+          failed = λ written. not_written w.is did.0 (ap (λ (d : Draft K). d.progress) (sym (here_is faults next took old new w w.is within)) ∙ written next w.is (omega (arith, within, so_many)));
           done = done_upto faults next new
               (λ k other less below.
                   ap (λ (d : Draft K). d.progress) (there_is faults next took old new w k other (λ same. absurd (omega (arith, below, same)))) ∙ s.up_to.written k other (omega (arith, less, so_many)) below)
