@@ -9,8 +9,7 @@ use Rattle.plcr_turns.proofs.Fronts.{all_front, all_last}
 use Rattle.plcr_turns.proofs.Gathered.{gathers_next}
 use Rattle.plcr_workers.specs.declared.worker.Worker.{Worker}
 use Rattle.plcr_workers.specs.inner.Hired.{IsGone, lines_left, views_of}
-use Rattle.plcr_workers.proofs.Crews.{AreIn, one_in, nobody_in, all_in, again}
-use Rattle.plcr_workers.proofs.crew.gather.Given.{Over}
+use Rattle.plcr_workers.proofs.Crews.{AreIn, one_in, last_in, again}
 use Rattle.plcr_workers.proofs.crew.gather.Goals as goal
 
 pub take_in-requires-clause-queue : goal.take_in-requires-clause-queue
@@ -20,7 +19,7 @@ take_in-requires-clause-queue g c =
     ((c.loop-worker.invariant.same.0 ∙ c.requires.queue.0, c.loop-worker.invariant.same.2 ∙ c.requires.queue.1), gone.pass)
 
 pub take_in-requires-clause-chief : goal.take_in-requires-clause-chief
-take_in-requires-clause-chief g c = (c.loop-worker.invariant.are_in.gathered.role, c.loop-worker.invariant.are_in.gathered.turn)
+take_in-requires-clause-chief g c = (c.loop-worker.invariant.are_in.are_in.gathered.role, c.loop-worker.invariant.are_in.are_in.gathered.turn)
 
 pub take_in-requires-clause-worker : goal.take_in-requires-clause-worker
 take_in-requires-clause-worker g c =
@@ -36,12 +35,12 @@ loop-worker-preserved g c =
     let worker = c.in-Some.worker in
     let all = subst (All (λ w. IsGone queue list scripts w)) c.in-Some.ensures.items c.loop-worker.invariant.gone in
     let gone = all_last (λ w. IsGone queue list scripts w) c.pop.new.self.items worker all in
-    let was = c.loop-worker.invariant.are_in in
+    let was = c.loop-worker.invariant.are_in.are_in in
     let image = gone.image.image in
-    let are_in = subst (λ (l : List (Worker g.row.K.Denot)). AreIn (length scripts) list c.args.workers.items l c.loop-worker.invariant.taken (view c.loop-worker.chief) c.loop-worker.left.images.items c.loop-worker.left.drafts.items c.loop-worker.left.others.items) c.in-Some.ensures.items was in
-    let gathered = subst (HasGathered (length scripts) list (view worker.turns ∷ views_of c.loop-worker.invariant.taken)) (sym c.take_in.ensures.both)
-        (gathers_next (length scripts) worker.script list (view worker.turns) (views_of c.loop-worker.invariant.taken) (view c.loop-worker.chief) was.gathered gone.so_far.working) in
-    let next = one_in queue (length scripts) list scripts c.args.workers.items c.pop.new.self.items c.loop-worker.invariant.taken worker (view c.loop-worker.chief) (view c.take_in.new.pass) c.loop-worker.left.images.items image
+    let are_in = subst (λ (l : List (Worker _)). AreIn (length scripts) list c.args.workers.items l c.loop-worker.invariant.are_in.taken (view c.loop-worker.chief) c.loop-worker.left.images.items c.loop-worker.left.drafts.items c.loop-worker.left.others.items) c.in-Some.ensures.items was in
+    let gathered = subst (HasGathered (length scripts) list (view worker.turns ∷ views_of c.loop-worker.invariant.are_in.taken)) (sym c.take_in.ensures.both)
+        (gathers_next (length scripts) worker.script list (view worker.turns) (views_of c.loop-worker.invariant.are_in.taken) (view c.loop-worker.chief) was.gathered gone.so_far.working) in
+    let next = one_in queue (length scripts) list scripts c.args.workers.items c.pop.new.self.items c.loop-worker.invariant.are_in.taken worker (view c.loop-worker.chief) (view c.take_in.new.pass) c.loop-worker.left.images.items image
         c.loop-worker.left.drafts.items c.turned_round.result c.loop-worker.left.others.items are_in gone gathered gone.image.held gone.image.walks gone.image.number c.turned_round.ensures in
     let added : c.add_image.new.images.items ≡ c.loop-worker.left.images.items ++ image ∷ [] = subst (λ (o : Option WalkerState). IfSome o (λ i. c.add_image.new.images.items ≡ c.loop-worker.left.images.items ++ i ∷ [])) gone.image.held c.add_image.ensures.added in
     let length_of = c.in-Some.ensures.len in
@@ -50,8 +49,7 @@ loop-worker-preserved g c =
     record {
       same = (same.0 ∙ before.0, same.1 ∙ before.1, same.2 ∙ before.2);
       gone = all_front (λ w. IsGone queue list scripts w) c.pop.new.self.items (worker ∷ []) all;
-      taken = worker ∷ c.loop-worker.invariant.taken;
-      are_in = rw added (rw c.push_reserved.ensures.items (rw c.push_reserved-2.ensures.items next));
+      are_in = record { taken = worker ∷ c.loop-worker.invariant.are_in.taken; are_in = rw added (rw c.push_reserved.ensures.items (rw c.push_reserved-2.ensures.items next)) };
       images_room = (let a = c.add_image.ensures.len in let b = c.add_image.ensures.capacity in let r = c.loop-worker.invariant.images_room in omega (arith, a, b, r, length_of));
       drafts_room = (let a = c.push_reserved-2.ensures.len in let b = c.push_reserved-2.ensures.capacity in let r = c.loop-worker.invariant.drafts_room in omega (arith, a, b, r, length_of));
       others_room = (let a = c.push_reserved.ensures.len in let b = c.push_reserved.ensures.capacity in let r = c.loop-worker.invariant.others_room in omega (arith, a, b, r, length_of));
