@@ -1,4 +1,4 @@
-use Rattle.std.proofs.Common.{◌≡◌, ◌≤◌, ◌+◌, ◌++◌, ◌∷◌, [], All, List, Some, None, Option, length, ◌∙◌, ap, sym, subst, refl, arith}
+use Rattle.std.proofs.Common.{◌≡◌, ◌≤◌, ◌+◌, ◌++◌, ◌∷◌, [], All, List, Some, None, Option, length, reverse, ◌∙◌, ap, sym, subst, refl, arith}
 use Rattle.std.specs.Prelude.{IfSome}
 use Rattle.std.proofs.lemmas.List.{reverse-reverse}
 use Rattle.crossbeam_queue.specs.Passes.{view}
@@ -9,7 +9,7 @@ use Rattle.plcr_turns.proofs.Fronts.{all_front, all_last}
 use Rattle.plcr_turns.proofs.Gathered.{gathers_next}
 use Rattle.plcr_workers.specs.declared.worker.Worker.{Worker}
 use Rattle.plcr_workers.specs.inner.Hired.{IsGone, lines_left, views_of}
-use Rattle.plcr_workers.proofs.Crews.{AreIn, one_in, last_in, again}
+use Rattle.plcr_workers.proofs.Crews.{AreIn, AreSome, nobody_in, one_in, last_in, none_left, again}
 use Rattle.plcr_workers.proofs.crew.gather.Goals as goal
 
 pub take_in-requires-clause-queue : goal.take_in-requires-clause-queue
@@ -54,3 +54,66 @@ loop-worker-preserved g c =
       drafts_room = (let a = c.push_reserved-2.ensures.len in let b = c.push_reserved-2.ensures.capacity in let r = c.loop-worker.invariant.drafts_room in omega (arith, a, b, r, length_of));
       others_room = (let a = c.push_reserved.ensures.len in let b = c.push_reserved.ensures.capacity in let r = c.loop-worker.invariant.others_room in omega (arith, a, b, r, length_of));
     }
+
+pub loop-worker-init : goal.loop-worker-init
+loop-worker-init g c =
+    let images : c.args.room.images.items ≡ [] = none_left c.args.room.images.items (let o = c.args.room.images.ok.0 in let n = c.requires.none.0 in omega (arith, o, n)) in
+    let drafts : c.args.room.drafts.items ≡ [] = none_left c.args.room.drafts.items (let o = c.args.room.drafts.ok.0 in let n = c.requires.none.1 in omega (arith, o, n)) in
+    let others : c.args.room.others.items ≡ [] = none_left c.args.room.others.items (let o = c.args.room.others.ok.0 in let n = c.requires.none.2 in omega (arith, o, n)) in
+    let many : length c.args.workers.items ≡ length c.args.scripts.now = (let o = c.args.workers.ok.0 in let n = c.requires.count in omega (arith, o, n)) in
+    record {
+      same = (refl, refl, refl);
+      gone = c.requires.gone;
+      are_in = record { taken = []; are_in = rw images (rw drafts (rw others (nobody_in (length c.args.scripts.now) c.args.list.now c.args.workers.items (view c.args.chief.now) many c.requires.numbers c.requires.chief))) };
+      images_room = c.requires.images_room;
+      drafts_room = c.requires.drafts_room;
+      others_room = c.requires.others_room;
+    }
+
+pub returns-clause-chief : goal.returns-clause-chief
+returns-clause-chief g c =
+    let done = last_in (length c.args.scripts.now) c.args.list.now c.args.workers.items c.loop-worker.workers.items (view c.loop-worker.chief) c.loop-worker.left.images.items c.loop-worker.left.drafts.items c.loop-worker.left.others.items
+        (let o = c.loop-worker.workers.ok.0 in let n = c.in-None.ensures.cases.0 in omega (arith, o, n)) (let o = c.args.workers.ok.0 in let n = c.requires.count in omega (arith, o, n)) c.loop-worker.invariant.are_in in
+    done.gathered
+
+pub returns-clause-working : goal.returns-clause-working
+returns-clause-working g c =
+    let done = last_in (length c.args.scripts.now) c.args.list.now c.args.workers.items c.loop-worker.workers.items (view c.loop-worker.chief) c.loop-worker.left.images.items c.loop-worker.left.drafts.items c.loop-worker.left.others.items
+        (let o = c.loop-worker.workers.ok.0 in let n = c.in-None.ensures.cases.0 in omega (arith, o, n)) (let o = c.args.workers.ok.0 in let n = c.requires.count in omega (arith, o, n)) c.loop-worker.invariant.are_in in
+    done.working
+
+pub returns-clause-all : goal.returns-clause-all
+returns-clause-all g c =
+    let done = last_in (length c.args.scripts.now) c.args.list.now c.args.workers.items c.loop-worker.workers.items (view c.loop-worker.chief) c.loop-worker.left.images.items c.loop-worker.left.drafts.items c.loop-worker.left.others.items
+        (let o = c.loop-worker.workers.ok.0 in let n = c.in-None.ensures.cases.0 in omega (arith, o, n)) (let o = c.args.workers.ok.0 in let n = c.requires.count in omega (arith, o, n)) c.loop-worker.invariant.are_in in
+    again (length c.args.scripts.now) c.args.list.now c.args.workers.items (view c.loop-worker.chief) c.loop-worker.left.images.items c.loop-worker.left.drafts.items c.loop-worker.left.others.items (let o = c.args.workers.ok.0 in let n = c.requires.count in omega (arith, o, n)) done
+
+pub returns-clause-images : goal.returns-clause-images
+returns-clause-images g c =
+    let done = last_in (length c.args.scripts.now) c.args.list.now c.args.workers.items c.loop-worker.workers.items (view c.loop-worker.chief) c.loop-worker.left.images.items c.loop-worker.left.drafts.items c.loop-worker.left.others.items
+        (let o = c.loop-worker.workers.ok.0 in let n = c.in-None.ensures.cases.0 in omega (arith, o, n)) (let o = c.args.workers.ok.0 in let n = c.requires.count in omega (arith, o, n)) c.loop-worker.invariant.are_in in
+    done.images_are
+
+pub returns-clause-passes : goal.returns-clause-passes
+returns-clause-passes g c =
+    let done = last_in (length c.args.scripts.now) c.args.list.now c.args.workers.items c.loop-worker.workers.items (view c.loop-worker.chief) c.loop-worker.left.images.items c.loop-worker.left.drafts.items c.loop-worker.left.others.items
+        (let o = c.loop-worker.workers.ok.0 in let n = c.in-None.ensures.cases.0 in omega (arith, o, n)) (let o = c.args.workers.ok.0 in let n = c.requires.count in omega (arith, o, n)) c.loop-worker.invariant.are_in in
+    done.passes_are
+
+pub returns-clause-met : goal.returns-clause-met
+returns-clause-met g c =
+    let done = last_in (length c.args.scripts.now) c.args.list.now c.args.workers.items c.loop-worker.workers.items (view c.loop-worker.chief) c.loop-worker.left.images.items c.loop-worker.left.drafts.items c.loop-worker.left.others.items
+        (let o = c.loop-worker.workers.ok.0 in let n = c.in-None.ensures.cases.0 in omega (arith, o, n)) (let o = c.args.workers.ok.0 in let n = c.requires.count in omega (arith, o, n)) c.loop-worker.invariant.are_in in
+    (let m = done.many in let o = c.loop-worker.left.images.ok.0 in omega (arith, m, o))
+
+pub returns-clause-drafts : goal.returns-clause-drafts
+returns-clause-drafts g c =
+    let done = last_in (length c.args.scripts.now) c.args.list.now c.args.workers.items c.loop-worker.workers.items (view c.loop-worker.chief) c.loop-worker.left.images.items c.loop-worker.left.drafts.items c.loop-worker.left.others.items
+        (let o = c.loop-worker.workers.ok.0 in let n = c.in-None.ensures.cases.0 in omega (arith, o, n)) (let o = c.args.workers.ok.0 in let n = c.requires.count in omega (arith, o, n)) c.loop-worker.invariant.are_in in
+    done.drafts_are
+
+pub returns-clause-others : goal.returns-clause-others
+returns-clause-others g c =
+    let done = last_in (length c.args.scripts.now) c.args.list.now c.args.workers.items c.loop-worker.workers.items (view c.loop-worker.chief) c.loop-worker.left.images.items c.loop-worker.left.drafts.items c.loop-worker.left.others.items
+        (let o = c.loop-worker.workers.ok.0 in let n = c.in-None.ensures.cases.0 in omega (arith, o, n)) (let o = c.args.workers.ok.0 in let n = c.requires.count in omega (arith, o, n)) c.loop-worker.invariant.are_in in
+    c.turned_round.ensures ∙ ap reverse done.others_are ∙ reverse-reverse (lines_left c.args.workers.items)
