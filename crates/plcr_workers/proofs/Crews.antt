@@ -63,6 +63,11 @@ pub record AreIn {K : Type 0} (count : ℕ) (list : TableId) (all left taken : L
   pub others_are : others ≡ reverse (lines_left taken)
   pub passes_are : map Some images ≡ reverse (passes_left taken)
 
+-- some of them were
+pub record AreSome {K : Type 0} (count : ℕ) (list : TableId) (all left : List (Worker K)) (chief : View) (images : List WalkerState) (drafts : List (Vec (Draft K) Global)) (others : List (Vec PassLine Global)) : Type 0 where
+  pub taken : List (Worker K)
+  pub are_in : AreIn count list all left taken chief images drafts others
+
 pub one_in : {K : Type 0} (queue : TableId) (count : ℕ) (list : TableId) (scripts : List ScriptValue) (all left taken : List (Worker K)) (w : Worker K) (chief next : View) (images : List WalkerState) (image : WalkerState) (drafts : List (Vec (Draft K) Global)) (own : Vec (Draft K) Global) (others : List (Vec PassLine Global))
     → AreIn count list all (left ++ w ∷ []) taken chief images drafts others → IsGone queue list scripts w → HasGathered count list (view w.turns ∷ views_of taken) next
     → w.image ≡ Some image → image.table ≡ list → image.number ≡ w.script → own.items ≡ reverse w.drafts.items
@@ -115,3 +120,11 @@ pub again : {K : Type 0} (count : ℕ) (list : TableId) (all : List (Worker K)) 
     → AreIn count list all [] all chief images drafts others → HasAll chief
 again count list all chief images drafts others many s =
     has_all_again list (views_of all) chief (subst (λ n. HasGathered n list (views_of all) chief) (sym (views_count all ∙ many)) s.gathered) s.working
+
+pub none_left : {A : Type 0} (xs : List A) → length xs ≡ 0 → xs ≡ []
+none_left [] e = refl
+none_left (x ∷ xs) e = absurd (omega (arith, e))
+
+pub last_in : {K : Type 0} (count : ℕ) (list : TableId) (all left : List (Worker K)) (chief : View) (images : List WalkerState) (drafts : List (Vec (Draft K) Global)) (others : List (Vec PassLine Global)) → length left ≡ 0 → length all ≡ count
+    → AreSome count list all left chief images drafts others → AreIn count list all [] all chief images drafts others
+last_in count list all left chief images drafts others none many s = all_in count list all left s.taken chief images drafts others (none_left left none) many s.are_in

@@ -117,3 +117,7 @@ counted_next statements at statement e =
     let long = ap length (lines_next statements at there.0 statement there.1) ∙ length-append (change_lines (take at statements)) (own_lines there.0 (asked_in statement)) in
     let own = own_count there.0 (asked_in statement) in
     omega arith
+
+pub take_whole : {A : Type 0} (xs : List A) → take (length xs) xs ≡ xs
+take_whole [] = refl
+take_whole (x ∷ xs) = ap (λ l. x ∷ l) (take_whole xs)

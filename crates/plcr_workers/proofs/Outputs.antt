@@ -1,6 +1,6 @@
 -- How many outputs of a script were taken, as its statements are.
 use Rattle.std.proofs.Common.{◌≡◌, ◌≢◌, ◌⊎◌, inl, inr, ℕ, zero, suc, ◌+◌, ◌-◌, ◌^◌, ◌<◌, ◌≤◌, List, [], ◌∷◌, ◌++◌, length, map, take, drop, get_or, slice_get, slice_set, slice_index_or, All, Option, Some, None, unwrap_or, eqb, true, false, Bool, refl, sym, ap, ◌∙◌, subst, length-append, append-nil, arith}
-use Rattle.std.specs.Prelude.{filter_map, option_map, IfSome}
+use Rattle.std.specs.Prelude.{filter_map, option_map, is_some, IfSome}
 use Rattle.std.proofs.lemmas.List.{take_more, get_or-set_same, get_or-set_other, length-set, take-append-drop}
 use Rattle.std.proofs.lemmas.List.Elements.{filter_map-append}
 use Rattle.std.proofs.lemmas.Option.{slice_get_within, get_or_from_slice_get}
@@ -8,6 +8,8 @@ use Rattle.plcr_base.specs.Causes.{Rose}
 use Rattle.plcr_machine.proofs.Cases.{at_or_else, not_both, eqb_same}
 use Rattle.plcr_script.specs.declared.statements.NumberedStatement.{NumberedStatement}
 use Rattle.plcr_script.specs.declared.statements.Statement.{Statement}
+use Rattle.plcr_script.specs.declared.statements.Statement.TheVariants as said
+use Rattle.plcr_turns.specs.declared.lines.Asked.{Asked}
 use Rattle.plcr_script.specs.Reading.{file_of, files_of}
 use Rattle.plcr_workers.specs.declared.acting.Took.{Took}
 use Rattle.plcr_workers.specs.declared.acting.Took.TheVariants.{Silent, Said, Unwritten}
@@ -15,6 +17,7 @@ use Rattle.plcr_workers.specs.declared.lines.PassSaid.{PassSaid}
 use Rattle.plcr_workers.specs.declared.lines.PassSaid.TheVariants.{Entered, Walked, Left, Reported}
 use Rattle.plcr_workers.specs.declared.drafts.Draft.{Draft}
 use Rattle.plcr_workers.specs.declared.drafts.Progress.TheVariants.{Waiting, Written, Failed}
+use Rattle.plcr_workers.specs.Asking.{asked_in}
 use Rattle.plcr_workers.specs.inner.Outputs.{AreDone}
 use Rattle.plcr_workers.specs.inner.Drafts.{IsOutput, WritesNext, TakesOutputs, AreUpTo, AreSamePlaces, IsNoReport, next_after}
 
@@ -204,6 +207,13 @@ no_report_goes Unwritten next n e = n
 pub record IsCut {K : Type 0} (faults : K → ℕ) (first drafts : List (Draft K)) : Type 0 where
   pub places : AreSamePlaces first drafts
   pub done : AreDone faults drafts
+  pub failed : All (λ (d : Draft K). d.progress ≡ Written) drafts → ⊥
+
+not_written : {K : Type 0} (draft : Draft K) → draft.progress ≡ Failed → draft.progress ≡ Written → ⊥
+not_written draft f w = apart (sym f ∙ w)
+  where
+    apart : Failed ≡ Written → ⊥
+    apart e = absurd cc
 
 pub cut_at : {K : Type 0} (faults : K → ℕ) (statements : List NumberedStatement) (at line next : ℕ) (statement : Statement) (took : Took) (first old new : List (Draft K)) → slice_get statements at ≡ Some (record { line = line; statement = statement })
     → length old ≡ length (files_of statements) → AreNext faults statements at next first old → TakesOutputs faults next (file_of statement) took old new → next_after took next ≡ None
@@ -222,6 +232,7 @@ cut_at {K} faults statements at line next statement took first old new e all s t
         let some = rose_some (faults (slice_index_or old next w.is).out) (faults w.is.out) did.1 (s.up_to.waiting next w.is within (omega arith)) in
         record {
           places = same_places faults next took first old new within s.places w;
+          failed = λ written. not_written w.is did.0 (ap (λ (d : Draft K). d.progress) (sym (here_is faults next took old new w w.is within)) ∙ written next w.is (omega (arith, within, so_many)));
           done = done_upto faults next new
               (λ k other less below.
                   ap (λ (d : Draft K). d.progress) (there_is faults next took old new w k other (λ same. absurd (omega (arith, below, same)))) ∙ s.up_to.written k other (omega (arith, less, so_many)) below)
@@ -236,3 +247,32 @@ none_taken faults statements drafts waiting = record {
   up_to = record { written = λ k other less below. absurd (omega (arith, below)); waiting = λ k other less above. waiting k other less };
   places = record { count = refl; each = λ k other less. (refl, refl) };
 }
+
+-- ---- what a statement does, by whether it is a report
+
+asks_no_file : (statement : Statement) (a : Asked) → asked_in statement ≡ Some a → file_of statement ≡ None
+asks_no_file (said.Load header name) a e = refl
+asks_no_file (said.Unload header) a e = refl
+asks_no_file (said.BeginLoad header name) a e = refl
+asks_no_file (said.BeginUnload header) a e = refl
+asks_no_file (said.Step most) a e = refl
+asks_no_file said.End a e = refl
+asks_no_file (said.Enter pass) a e = refl
+asks_no_file (said.Walk pass most) a e = refl
+asks_no_file (said.Leave pass) a e = refl
+asks_no_file (said.Report pass file) a e = absurd cc
+
+pub silent_outputs : {K : Type 0} (faults : K → ℕ) (next : ℕ) (statement : Statement) (a : Asked) (drafts : List (Draft K)) → asked_in statement ≡ Some a → TakesOutputs faults next (file_of statement) Silent drafts drafts
+silent_outputs {K} faults next statement a drafts e = subst (λ (f : Option (List ℕ)). TakesOutputs faults next f Silent drafts drafts) (sym (asks_no_file statement a e)) (refl, tt)
+
+pub report_outputs : {K : Type 0} (faults : K → ℕ) (next : ℕ) (file : Option (List ℕ)) (took : Took) (old new : List (Draft K)) → true ≡ is_some file → WritesNext faults next took old new → TakesOutputs faults next file took old new
+report_outputs faults next None took old new is w = absurd cc
+report_outputs faults next (Some file) took old new is w = w
+
+pub moved_outputs : {K : Type 0} (faults : K → ℕ) (next : ℕ) (file : Option (List ℕ)) (took : Took) (drafts : List (Draft K)) → false ≡ is_some file → IsNoReport took → TakesOutputs faults next file took drafts drafts
+moved_outputs faults next None took drafts is n = (refl, n)
+moved_outputs faults next (Some file) took drafts is n = absurd cc
+
+pub next_within : (file : Option (List ℕ)) (next count : ℕ) → true ≡ is_some file → IfSome file (λ f. next < count) → next < count
+next_within None next count is h = absurd cc
+next_within (Some file) next count is h = h

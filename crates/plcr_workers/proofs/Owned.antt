@@ -5,7 +5,7 @@ use Rattle.plcr_machine.specs.Lists.{name_of}
 use Rattle.plcr_nodes.specs.Entries.{WentOn}
 use Rattle.plcr_nodes.proofs.NamesKept.{name-older}
 use Rattle.plcr_script.specs.declared.statements.Statement.{Statement}
-use Rattle.plcr_script.specs.declared.statements.Statement.TheVariants as statements
+use Rattle.plcr_script.specs.declared.statements.Statement.TheVariants as stated
 use Rattle.plcr_script.specs.declared.statements.NumberedStatement.{NumberedStatement}
 use Rattle.plcr_script.specs.Meanings.{Meanings}
 use Rattle.plcr_turns.specs.declared.lines.Asked.{Asked}
@@ -34,26 +34,26 @@ fault_told fault header (requests.Load h name (Some k)) said is told same kind e
 fault_told fault header (requests.Load h name None) said is told same kind e = absurd (let x = is ∙ e in cc)
 fault_told fault header (requests.Unload h) said is told same kind e = absurd (let x = is ∙ e in cc)
 
-fine_told : (request : Request) (header : ℕ) (said : Said) → fault_in request ≡ None → Some (asked_by request) ≡ asked_in (statements.Load header []) → FaultSaid request said → FaultTold None said
+fine_told : (request : Request) (header : ℕ) (said : Said) → fault_in request ≡ None → Some (asked_by request) ≡ asked_in (stated.Load header []) → FaultSaid request said → FaultTold None said
 fine_told (requests.Load h name (Some k)) header said is same told = absurd cc
 fine_told (requests.Load h name None) header said is same told = told
 fine_told (requests.Unload h) header said is same told = absurd cc
 
-told_by : (fault : Option ℕ) (request : Request) (header : ℕ) (said : Said) → fault_in request ≡ fault → Some (asked_by request) ≡ asked_in (statements.Load header []) → FaultSaid request said → FaultTold fault said
+told_by : (fault : Option ℕ) (request : Request) (header : ℕ) (said : Said) → fault_in request ≡ fault → Some (asked_by request) ≡ asked_in (stated.Load header []) → FaultSaid request said → FaultTold fault said
 told_by None request header said is same told = fine_told request header said is same told
 told_by (Some kind) request header said is same told = fault_told (Some kind) header request said is told refl kind refl
 
 statement_fault : (process : Meanings) (statement : Statement) (request : Request) (said : Said) → Asks process.fault statement request → FaultSaid request said → StatementFault process statement said
-statement_fault process (statements.Load header name) request said a told = told_by (process.fault header) request header said a.fault_is (sym a.asked) told
-statement_fault process (statements.Unload header) request said a told = tt
-statement_fault process (statements.BeginLoad header name) request said a told = tt
-statement_fault process (statements.BeginUnload header) request said a told = tt
-statement_fault process (statements.Step most) request said a told = tt
-statement_fault process statements.End request said a told = tt
-statement_fault process (statements.Enter pass) request said a told = tt
-statement_fault process (statements.Walk pass most) request said a told = tt
-statement_fault process (statements.Leave pass) request said a told = tt
-statement_fault process (statements.Report pass file) request said a told = tt
+statement_fault process (stated.Load header name) request said a told = told_by (process.fault header) request header said a.fault_is (sym a.asked) told
+statement_fault process (stated.Unload header) request said a told = tt
+statement_fault process (stated.BeginLoad header name) request said a told = tt
+statement_fault process (stated.BeginUnload header) request said a told = tt
+statement_fault process (stated.Step most) request said a told = tt
+statement_fault process stated.End request said a told = tt
+statement_fault process (stated.Enter pass) request said a told = tt
+statement_fault process (stated.Walk pass most) request said a told = tt
+statement_fault process (stated.Leave pass) request said a told = tt
+statement_fault process (stated.Report pass file) request said a told = tt
 
 pub adds_line : (process : Meanings) (script line : ℕ) (request : Request) (statement : Statement) (v w : View) (seen known : List Entry) (names : List (List ℕ)) → AppliesLine (record { script = script; line = line; request = request }) v seen w known names
     → Asks process.fault statement request → AddsOwn process script line statement (asked_in statement) v w names

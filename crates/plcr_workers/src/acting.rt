@@ -1,5 +1,5 @@
 //! One statement of a worker.
-ghost use Rattle.std.specs.Prelude.{◌≡◌, ◌<◌, IsNone, None, IfOk, IfSome, OnOk, OnErr, length};
+ghost use Rattle.std.specs.Prelude.{◌≡◌, ◌<◌, IsNone, None, IfOk, IfSome, OnOk, OnErr, is_some, length};
 ghost use Rattle.std.specs.Io.KnownBytes.{append_known};
 ghost use Rattle.plcr_base.specs.Causes.{Rose};
 ghost use Rattle.crossbeam_queue.specs.Passes.{view, IsSamePass, IsPassOf, ruled_capacity};
@@ -8,14 +8,14 @@ ghost use Rattle.plcr_script.specs.Meanings.{meanings};
 ghost use Rattle.plcr_script.specs.Reading.{file_of};
 ghost use Rattle.plcr_turns.specs.Working.{IsWorking, HasNext, AppliesLine};
 ghost use Rattle.plcr_workers.specs.Asking.{asked_in};
-ghost use Rattle.plcr_workers.specs.inner.Drafts.{IsOutput, TakesOutputs};
+ghost use Rattle.plcr_workers.specs.inner.Drafts.{IsNoReport, IsOutput, TakesOutputs, WritesNext};
 ghost use Rattle.plcr_workers.specs.inner.Own.{AddsOwn};
 ghost use Rattle.plcr_workers.specs.inner.Places.{IsAt, PassGoes, walker_of, Asks, Advances};
 
 use crate::drafts::{Draft, Progress};
 use crate::gate::Gate;
 use crate::lines::PassSaid;
-use crate::places::{Place, enter, move_pass};
+use crate::places::{Place, come_in, move_pass};
 use plcr_command::MOST_SCRIPTS;
 use plcr_encode::Context;
 use plcr_imagelist::{Hold, ImageList, Pass};
@@ -107,10 +107,7 @@ pub(crate) fn report<P: Process, G: Gate, K: Sink>(
     ensures goes { PassGoes (walker_of place) result.0 }
     ensures output { IsOutput K.faults result.1 draft.old draft.new }
 {
-    let mut hold = match place {
-        Place::Out(pass) => enter(list, gate, script, line, pass),
-        Place::In(hold) => hold,
-    };
+    let mut hold = come_in(list, gate, script, line, place);
     walk_to_end(&mut hold, list);
     let captured = write_walk(process, context, list, &mut hold, draft);
     let images = hold.met();
@@ -148,6 +145,60 @@ fn write_walk<P: Process, K: Sink>(
 {
     let mut images = hold.images(list);
     draft.write(process, context, &mut images)
+}
+
+/// Whether a statement is a report.
+fn is_report(statement: &Statement) -> bool
+    ensures { result ≡ is_some (file_of statement.now) }
+{
+    matches!(statement, Statement::Report { .. })
+}
+
+/// The same, into the next of the script's outputs.
+fn write_next<P: Process, G: Gate, K: Sink>(
+    process: &P,
+    context: &Context,
+    list: &ImageList,
+    gate: &G,
+    script: u32,
+    line: u32,
+    place: Place,
+    drafts: &mut Vec<Draft<K>>,
+    next: usize,
+) -> (Place, Took)
+    requires context { P.accepts process.now context.now }
+    requires list { IsAt list.now place }
+    requires few { script < MOST_SCRIPTS }
+    requires next { next < length drafts.old.items }
+    ensures list { IsAt list.now result.0 }
+    ensures goes { PassGoes (walker_of place) (walker_of result.0) }
+    ensures outputs { WritesNext K.faults next result.1 drafts.old.items drafts.new.items }
+{
+    let draft = &mut drafts[next];
+    let (pass, took) = report(process, context, list, gate, script, line, place, draft);
+    (Place::Out(pass), took)
+}
+
+/// A statement that moves the pass.
+fn move_on<G: Gate>(
+    list: &ImageList,
+    gate: &G,
+    script: u32,
+    line: u32,
+    statement: &Statement,
+    place: Place,
+) -> (Place, Took)
+    requires list { IsAt list.now place }
+    requires few { script < MOST_SCRIPTS }
+    ensures list { IsAt list.now result.0 }
+    ensures goes { PassGoes (walker_of place) (walker_of result.0) }
+    ensures said { IsNoReport result.1 }
+{
+    let (place, said) = move_pass(list, gate, script, line, statement, place);
+    match said {
+        Some(said) => (place, Took::Said(said)),
+        None => (place, Took::Silent),
+    }
 }
 
 /// Takes a statement of a script. The script's number counts from 0, and `next` is the number of its next output.
@@ -191,19 +242,8 @@ pub(crate) fn take_statement<R: Wait, P: Process, G: Gate, K: Sink>(
         let place = apply(rt, queue, list, turns, &asked, place);
         return (place, Took::Silent);
     }
-    match statement {
-        Statement::Report { .. } => {
-            let draft = &mut drafts[next];
-            let (pass, took) = report(process, context, list, gate, script, line, place, draft);
-            (Place::Out(pass), took)
-        }
-        _ => {
-            let (place, said) = move_pass(list, gate, script, line, statement, place);
-            let took = match said {
-                Some(said) => Took::Said(said),
-                None => Took::Silent,
-            };
-            (place, took)
-        }
+    if is_report(statement) {
+        return write_next(process, context, list, gate, script, line, place, drafts, next);
     }
+    move_on(list, gate, script, line, statement, place)
 }

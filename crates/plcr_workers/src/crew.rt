@@ -90,9 +90,7 @@ pub(crate) fn hire<K: Sink + Drop>(
     ensures new { IfOk result (λ workers. AreNew scripts.now workers.items) }
     ensures hired { IfOk result (λ workers. All (λ w. IsHired queue.now.table.shared.table_id list.now scripts.now w) workers.items) }
 {
-    let _ = list;
-    let mut images = images;
-    images.reverse();
+    let mut images = from_the_last(list, images);
     let mut workers = Vec::with_capacity(alloc, scripts.len())?;
     for script in 0..scripts.len() {
         let Some(image) = images.pop() else {
@@ -110,6 +108,25 @@ pub(crate) fn hire<K: Sink + Drop>(
         });
     }
     Ok(workers)
+}
+
+/// The passes of a list the other way round.
+fn from_the_last(list: &ImageList, images: Vec<Pass>) -> Vec<Pass>
+    requires { AreInOrder list.now images.items }
+    ensures order { AreFromTheLast (length images.items) list.now result.items }
+    ensures count { length result.items ≡ length images.items }
+{
+    let _ = list;
+    turned_round(images)
+}
+
+/// The same things the other way round.
+fn turned_round<T: Drop>(items: Vec<T>) -> Vec<T>
+    ensures { result.items ≡ reverse items.items }
+{
+    let mut items = items;
+    items.reverse();
+    items
 }
 
 /// All workers run, each on a thread of its own where one can be made.
@@ -211,12 +228,18 @@ pub(crate) fn gather<K: Sink + Drop>(
         take_in(queue, chief, turns);
         add_image(&mut left.images, image);
         left.others.push_reserved(lines);
-        let mut drafts = drafts;
-        drafts.reverse();
-        left.drafts.push_reserved(drafts);
+        left.drafts.push_reserved(turned_round(drafts));
     }
-    left.others.reverse();
-    left
+    let Left {
+        images,
+        drafts,
+        others,
+    } = left;
+    Left {
+        images,
+        drafts,
+        others: turned_round(others),
+    }
 }
 
 /// Adds the pass of a worker.

@@ -32,6 +32,26 @@ pub(crate) fn enter<G: Gate>(list: &ImageList, gate: &G, script: u32, line: u32,
     hold
 }
 
+/// The pass goes in, if it is out.
+pub(crate) fn come_in<G: Gate>(
+    list: &ImageList,
+    gate: &G,
+    script: u32,
+    line: u32,
+    place: Place,
+) -> Hold
+    requires list { IsAt list.now place }
+    requires few { script < MOST_SCRIPTS }
+    ensures list { result.walker.table ≡ list.now }
+    ensures walking { IsWalking result }
+    ensures goes { PassGoes (walker_of place) result.walker }
+{
+    match place {
+        Place::Out(pass) => enter(list, gate, script, line, pass),
+        Place::In(hold) => hold,
+    }
+}
+
 /// The pass comes out, if it is in.
 pub(crate) fn come_out(list: &ImageList, place: Place) -> Pass
     requires list { IsAt list.now place }

@@ -11,6 +11,8 @@ use Rattle.plcr_turns.specs.declared.lines.Asked.{Asked}
 use Rattle.plcr_turns.specs.declared.view.View.{View}
 use Rattle.plcr_turns.specs.Lines.{lines_of, wanted_by}
 use Rattle.plcr_turns.specs.Working.{IsWorking}
+use Rattle.plcr_workers.specs.declared.drafts.Draft.{Draft}
+use Rattle.plcr_workers.specs.declared.drafts.Progress.TheVariants.{Written}
 use Rattle.plcr_workers.specs.declared.lines.PassLine.{PassLine}
 use Rattle.plcr_workers.specs.declared.worker.Worker.{Worker}
 use Rattle.plcr_workers.specs.Asking.{change_lines}
@@ -114,6 +116,10 @@ pub record IsReadyToRun {K : Type 0} (faults : K → ℕ) (queue list : TableId)
   pub outputs : HasOutputs faults script w
   pub apart : HaveOwnLines script.statements
 
+-- where all outputs of a worker were written whole, each load and unload line of its script was applied
+abbrev pub IsWhole : {K : Type 0} → ScriptValue → Worker K → Type 0
+IsWhole {K = K} script w = All (λ (d : Draft K). d.progress ≡ Written) w.drafts.items → wanted_by (lines_of w.script (view w.turns).journal) ≡ change_lines script.statements
+
 -- a worker that has ended: of its script the first statements were taken, and its passes are those of the queue and the list
 pub record IsGone {K : Type 0} (queue list : TableId) (scripts : List ScriptValue) (w : Worker K) : Type 0 where
   pub script : ScriptValue
@@ -123,3 +129,4 @@ pub record IsGone {K : Type 0} (queue list : TableId) (scripts : List ScriptValu
   pub so_far : SoFar w.script list script.statements count (view w.turns)
   pub image : HasImage list w
   pub lines : All (λ (l : PassLine). l.at < length script.statements) w.lines.items
+  pub whole : IsWhole script w

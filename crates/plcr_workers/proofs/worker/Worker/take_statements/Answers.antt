@@ -3,9 +3,10 @@ use Rattle.crossbeam_queue.specs.Passes.{view}
 use Rattle.plcr_script.specs.Meanings.{meanings}
 use Rattle.plcr_run.proofs.Composed.{numbered_at}
 use Rattle.plcr_turns.specs.Lines.{lines_of}
+use Rattle.plcr_workers.specs.Asking.{change_lines}
 use Rattle.plcr_workers.specs.inner.Hired.{SoFar}
 use Rattle.plcr_workers.specs.inner.Places.{walker_of}
-use Rattle.plcr_workers.proofs.Going.{left_if_asked, so_far_next}
+use Rattle.plcr_workers.proofs.Going.{left_if_asked, so_far_next, take_whole}
 use Rattle.plcr_workers.proofs.Outputs.{output_left, taken_on, cut_at, none_taken, all_done}
 use Rattle.plcr_workers.proofs.Owned.{own_next, nothing_own}
 use Rattle.plcr_workers.proofs.Passing.{stays, again}
@@ -52,6 +53,14 @@ returns-in-None-clause-taken g c =
     let cut = cut_at g.K.Sink.faults c.args.script.now.statements c.loop-at.at c.line.result c.loop-at.next c.statement.result.now c.take_statement-moved.result.1 c.args.self.now.drafts.items c.loop-at.self.drafts.items c.take_statement-moved.new.drafts.items
         (numbered_at c.args.script.now c.loop-at.at c.line.result c.statement.result.now c.line.ensures c.statement.ensures) c.loop-at.invariant.all c.loop-at.invariant.outputs c.take_statement-moved.ensures.outputs (sym c.in-None.ensures.next) in
     record { number = c.loop-at.invariant.number; places = cut.places; done = cut.done }
+
+pub returns-in-None-clause-whole : goal.returns-in-None-clause-whole
+returns-in-None-clause-whole g c = λ all.
+    absurd ((cut_at g.K.Sink.faults c.args.script.now.statements c.loop-at.at c.line.result c.loop-at.next c.statement.result.now c.take_statement-moved.result.1 c.args.self.now.drafts.items c.loop-at.self.drafts.items c.take_statement-moved.new.drafts.items
+        (numbered_at c.args.script.now c.loop-at.at c.line.result c.statement.result.now c.line.ensures c.statement.ensures) c.loop-at.invariant.all c.loop-at.invariant.outputs c.take_statement-moved.ensures.outputs (sym c.in-None.ensures.next)).failed all)
+
+pub returns-clause-whole : goal.returns-clause-whole
+returns-clause-whole g c = λ all. c.loop-at.invariant.so_far.lines ∙ ap change_lines (take_whole c.args.script.now.statements)
 
 pub returns-in-None-clause-own : goal.returns-in-None-clause-own
 returns-in-None-clause-own g c =
