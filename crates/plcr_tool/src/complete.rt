@@ -12,6 +12,13 @@ ghost use Rattle.plcr_tool.specs.Complete.{
   LongReportsAreRefused,
   WordsShow,
 };
+ghost use Rattle.plcr_tool.specs.Threads.{
+  ThreadsAreComplete,
+  ThreadsRefuseCores,
+  ThreadsRefuseScripts,
+  ThreadsRefuseLong,
+  WordsThreads,
+};
 
 /// On a core and a script that can be taken, `report` has status 0 with all files and lines, or 7,
 /// where no output and no line fails. Where they can be taken, status 3 comes exactly for what is
@@ -35,4 +42,13 @@ pub fn shown_reports_are_complete()
     ensures no_report { ReportRefusalsAreExact }
     ensures too_long { LongReportsAreRefused }
     ensures words { WordsShow }
+{}
+
+/// The same of `threads`, if it returns, on a core and scripts.
+pub fn threads_are_complete()
+    ensures complete { ThreadsAreComplete }
+    ensures no_core { ThreadsRefuseCores }
+    ensures no_script { ThreadsRefuseScripts }
+    ensures too_long { ThreadsRefuseLong }
+    ensures words { WordsThreads }
 {}

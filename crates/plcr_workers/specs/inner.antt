@@ -1,0 +1,7 @@
+-- Definitions that only private functions' contracts cite.
+pub mod Places
+pub mod Hired
+pub mod Outputs
+pub mod Drafts
+pub mod Own
+pub mod Stages
