@@ -28,7 +28,7 @@ use Rattle.plcr_workers.specs.declared.drafts.Progress.TheVariants.{Written}
 use Rattle.plcr_workers.specs.declared.worker.Worker.{Worker}
 use Rattle.plcr_workers.specs.Asking.{asked_in, change_lines, statement_on, statement_of}
 use Rattle.plcr_workers.specs.Known.{IsKnownLine, AreKnown}
-use Rattle.plcr_workers.specs.inner.Hired.{AreNumbered, IsGone, views_of, passes_left}
+use Rattle.plcr_workers.specs.inner.Hired.{AreNumbered, IsGone, IsWholeOf, views_of, passes_left}
 use Rattle.plcr_workers.specs.inner.Own.{IsOwnLine, AreOwn, KnowsOwnOf}
 use Rattle.plcr_workers.proofs.Owned.{own_later}
 
@@ -166,13 +166,13 @@ first_applied process queue list scripts workers chief t names a n script at =
 
 -- where all outputs were written whole, each load and unload line of each script was applied once
 pub whole_applied : {K : Type 0} (process : Meanings) (queue list : TableId) (scripts : List ScriptValue) (workers : List (Worker K)) (chief : View) (t : TurnState) (names : List (List ℕ)) → AllKnow process queue list scripts workers chief t names
-    → ((k : ℕ) (w : Worker K) → slice_get workers k ≡ Some w → All (λ (d : Draft K). d.progress ≡ Written) w.drafts.items)
+    → All (λ (w : Worker K). IsWholeOf scripts w) workers → ((k : ℕ) (w : Worker K) → slice_get workers k ≡ Some w → All (λ (d : Draft K). d.progress ≡ Written) w.drafts.items)
     → (n : ℕ) (script : ScriptValue) → slice_get scripts n ≡ Some script → wanted_by (lines_of n t.journal) ≡ change_lines script.statements
-whole_applied process queue list scripts workers chief t names a written n script at =
+whole_applied process queue list scripts workers chief t names a wholes written n script at =
     let less = slice_get_within scripts n script at in
     let many = a.count in
     let w = element workers n (omega (arith, less, many)) in
-    let gone = subst (λ (x : Worker _). IsGone queue list scripts x) w.1 (a.gone n w.0 (omega (arith, less, many))) in
+    let gone = subst (λ (x : Worker _). IsWholeOf scripts x) w.1 (wholes n w.0 (omega (arith, less, many))) in
     let number : w.0.script ≡ n = ap (λ (x : Worker _). x.script) (sym w.1) ∙ a.numbers n w.0 (omega (arith, less, many)) in
     let same : gone.script ≡ script = some_same (sym gone.stands ∙ ap (slice_get scripts) number ∙ at) in
     let seen = lines_seen process queue list scripts workers chief t names a n w.0 w.2 in
