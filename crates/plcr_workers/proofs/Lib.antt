@@ -8,6 +8,7 @@ pub mod Crews
 pub mod Owned
 pub mod Passing
 pub mod Joined
+pub mod Reported
 pub mod Settled
 pub mod Made
 pub mod Printing

@@ -4,4 +4,5 @@ pub mod Hired
 pub mod Outputs
 pub mod Drafts
 pub mod Own
+pub mod Reports
 pub mod Stages
