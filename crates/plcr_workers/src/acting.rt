@@ -11,6 +11,7 @@ ghost use Rattle.plcr_workers.specs.Asking.{asked_in};
 ghost use Rattle.plcr_workers.specs.inner.Drafts.{IsNoReport, IsOutput, TakesOutputs, WritesNext};
 ghost use Rattle.plcr_workers.specs.inner.Own.{AddsOwn};
 ghost use Rattle.plcr_workers.specs.inner.Places.{IsAt, PassGoes, walker_of, Asks, Advances};
+ghost use Rattle.plcr_workers.specs.inner.Reports.{HasReport};
 
 use crate::drafts::{Draft, Progress};
 use crate::gate::Gate;
@@ -105,23 +106,25 @@ pub(crate) fn report<P: Process, G: Gate, K: Sink>(
     requires few { script < MOST_SCRIPTS }
     ensures list { result.0.table ≡ list.now }
     ensures goes { PassGoes (walker_of place) result.0 }
-    ensures output { IsOutput K.faults result.1 draft.old draft.new }
+    ensures output { IsOutput K.faults (HasReport K.written (P.report process.now context.now) result.0) result.1 draft.old draft.new }
 {
     let mut hold = come_in(list, gate, script, line, place);
     walk_to_end(&mut hold, list);
     let captured = write_walk(process, context, list, &mut hold, draft);
     let images = hold.met();
     let (pass, window) = hold.leave(list);
-    let took = match captured {
-        Ok(bytes) => Took::Said(PassSaid::Reported {
-            bytes,
-            images,
-            low: window.low,
-            high: window.high,
-        }),
-        Err(PutFailed) => Took::Unwritten,
-    };
-    (pass, took)
+    match captured {
+        Ok(bytes) => {
+            let said = PassSaid::Reported {
+                bytes,
+                images,
+                low: window.low,
+                high: window.high,
+            };
+            (pass, Took::Said(said))
+        }
+        Err(PutFailed) => (pass, Took::Unwritten),
+    }
 }
 
 /// Writes the report with the images that a hold met.
@@ -172,7 +175,7 @@ fn write_next<P: Process, G: Gate, K: Sink>(
     requires next { next < length drafts.old.items }
     ensures list { IsAt list.now result.0 }
     ensures goes { PassGoes (walker_of place) (walker_of result.0) }
-    ensures outputs { WritesNext K.faults next result.1 drafts.old.items drafts.new.items }
+    ensures outputs { WritesNext K.faults (HasReport K.written (P.report process.now context.now) (walker_of result.0)) next result.1 drafts.old.items drafts.new.items }
 {
     let draft = &mut drafts[next];
     let (pass, took) = report(process, context, list, gate, script, line, place, draft);
@@ -229,7 +232,7 @@ pub(crate) fn take_statement<R: Wait, P: Process, G: Gate, K: Sink>(
     ensures goes { PassGoes (walker_of place) (walker_of result.0) }
     ensures working { IsWorking script list.now (view turns.new) }
     ensures advances { Advances script line (asked_in statement.now) (view turns.old) (view turns.new) }
-    ensures outputs { TakesOutputs K.faults next (file_of statement.now) result.1 drafts.old.items drafts.new.items }
+    ensures outputs { TakesOutputs K.faults (HasReport K.written (P.report process.now context.now) (walker_of result.0)) next (file_of statement.now) result.1 drafts.old.items drafts.new.items }
     ensures own { AddsOwn (meanings (P.image_fault process.now) (P.report process.now context.now)) script line statement.now (asked_in statement.now) (view turns.old) (view turns.new) (walker_of result.0).names }
 {
     if let Some(request) = request_of(process, statement) {

@@ -6,6 +6,7 @@ ghost use Rattle.plcr_script.specs.Meanings.{meanings};
 ghost use Rattle.plcr_turns.specs.Lines.{lines_of};
 ghost use Rattle.plcr_workers.specs.inner.Own.{AreOwn, HaveOwnLines, KnowsOwn};
 ghost use Rattle.plcr_workers.specs.inner.Places.{IsAt, PassGoes, walker_of};
+ghost use Rattle.plcr_workers.specs.inner.Reports.{AreReports, HasReports};
 ghost use Rattle.plcr_workers.specs.inner.Drafts.{HasOutputs, HasTaken, next_after};
 ghost use Rattle.plcr_workers.specs.inner.Hired.{IsReady, IsWhole, HasRun, Begins, Goes};
 
@@ -52,6 +53,7 @@ impl<K: Sink> Worker<K> {
         ensures run { HasRun queue.entry.now.table.shared.table_id list.entry.now script.entry.now self.old self.new }
         ensures taken { HasTaken K.faults self.old self.new }
         ensures whole { IsWhole script.entry.now self.new }
+        ensures reports { HasReports K.written (P.report process.entry.now context.entry.now) self.old self.new }
         ensures own { KnowsOwn (meanings (P.image_fault process.entry.now) (P.report process.entry.now context.entry.now)) script.entry.now.statements self.new }
     {
         let Some(pass) = self.image.take() else {
@@ -85,6 +87,7 @@ impl<K: Sink> Worker<K> {
         ensures image { PassGoes (walker_of place) (walker_of result) }
         ensures taken { HasTaken K.faults self.old self.new }
         ensures whole { IsWhole script.entry.now self.new }
+        ensures reports { AreReports K.written (P.report process.entry.now context.entry.now) (walker_of result) self.old.drafts.items self.new.drafts.items }
         ensures own { AreOwn (meanings (P.image_fault process.entry.now) (P.report process.entry.now context.entry.now)) script.entry.now.statements (walker_of result).names (lines_of self.new.script (view self.new.turns).journal) }
     {
         let mut place = place;

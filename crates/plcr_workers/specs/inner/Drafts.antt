@@ -14,19 +14,19 @@ use Rattle.plcr_workers.specs.declared.worker.Worker.{Worker}
 use Rattle.plcr_workers.specs.inner.Outputs.{IsWaiting, AreDone}
 
 -- the output of a report was written whole, or a put failed, for which the count of its faults rose
-abbrev pub IsWrittenAs : {K : Type 0} → (K → ℕ) → Took → Draft K → Draft K → Type 0
-IsWrittenAs faults Silent old new = ⊥
-IsWrittenAs faults (Said Entered) old new = ⊥
-IsWrittenAs faults (Said (Walked met ended)) old new = ⊥
-IsWrittenAs faults (Said (Left met low high)) old new = ⊥
-IsWrittenAs faults (Said (Reported bytes images low high)) old new = new.progress ≡ Written
-IsWrittenAs faults Unwritten old new = (new.progress ≡ Failed) × Rose (faults old.out) (faults new.out)
+abbrev pub IsWrittenAs : {K : Type 0} → (K → ℕ) → (Draft K → Draft K → Type 0) → Took → Draft K → Draft K → Type 0
+IsWrittenAs faults tells Silent old new = ⊥
+IsWrittenAs faults tells (Said Entered) old new = ⊥
+IsWrittenAs faults tells (Said (Walked met ended)) old new = ⊥
+IsWrittenAs faults tells (Said (Left met low high)) old new = ⊥
+IsWrittenAs faults tells (Said (Reported bytes images low high)) old new = (new.progress ≡ Written) × tells old new
+IsWrittenAs faults tells Unwritten old new = (new.progress ≡ Failed) × Rose (faults old.out) (faults new.out)
 
--- a statement was taken as a report, of an output of the same statement
-pub record IsOutput {K : Type 0} (faults : K → ℕ) (took : Took) (old new : Draft K) : Type 0 where
+-- a statement was taken as a report, of an output of the same statement, whose bytes tell what they should where it was written whole
+pub record IsOutput {K : Type 0} (faults : K → ℕ) (tells : Draft K → Draft K → Type 0) (took : Took) (old new : Draft K) : Type 0 where
   pub script : new.script ≡ old.script
   pub at : new.at ≡ old.at
-  pub written : IsWrittenAs faults took old new
+  pub written : IsWrittenAs faults tells took old new
 
 -- a statement that isn't a report came to this
 abbrev pub IsNoReportSaid : PassSaid → Type 0
@@ -41,14 +41,14 @@ IsNoReport (Said said) = IsNoReportSaid said
 IsNoReport Unwritten = ⊥
 
 -- a report writes the output that is next, and no other statement writes any
-pub record WritesNext {K : Type 0} (faults : K → ℕ) (next : ℕ) (took : Took) (old new : List (Draft K)) : Type 0 where
+pub record WritesNext {K : Type 0} (faults : K → ℕ) (tells : Draft K → Draft K → Type 0) (next : ℕ) (took : Took) (old new : List (Draft K)) : Type 0 where
   pub is : Draft K
   pub new_is : new ≡ slice_set old next is
-  pub did : (other : Draft K) → IsOutput faults took (slice_index_or old next other) is
+  pub did : (other : Draft K) → IsOutput faults tells took (slice_index_or old next other) is
 
-abbrev pub TakesOutputs : {K : Type 0} → (K → ℕ) → ℕ → Option (List ℕ) → Took → List (Draft K) → List (Draft K) → Type 0
-TakesOutputs faults next None took old new = (new ≡ old) × IsNoReport took
-TakesOutputs faults next (Some file) took old new = WritesNext faults next took old new
+abbrev pub TakesOutputs : {K : Type 0} → (K → ℕ) → (Draft K → Draft K → Type 0) → ℕ → Option (List ℕ) → Took → List (Draft K) → List (Draft K) → Type 0
+TakesOutputs faults tells next None took old new = (new ≡ old) × IsNoReport took
+TakesOutputs faults tells next (Some file) took old new = WritesNext faults tells next took old new
 
 -- the outputs below a number are written whole, and those from it on weren't taken yet
 pub record AreUpTo {K : Type 0} (faults : K → ℕ) (next : ℕ) (drafts : List (Draft K)) : Type 0 where

@@ -7,6 +7,9 @@ use Rattle.plcr_workers.specs.Asking.{change_lines}
 use Rattle.plcr_workers.specs.inner.Hired.{SoFar}
 use Rattle.plcr_workers.specs.inner.Places.{walker_of}
 use Rattle.plcr_workers.proofs.Going.{left_if_asked, so_far_next, take_whole}
+use Rattle.plcr_script.specs.Reading.{file_of}
+use Rattle.plcr_workers.specs.inner.Reports.{HasReport}
+use Rattle.plcr_workers.proofs.Reported.{none_reported, reported_on, reported_cut, all_reported}
 use Rattle.plcr_workers.proofs.Outputs.{output_left, taken_on, cut_at, none_taken, all_done}
 use Rattle.plcr_workers.proofs.Owned.{own_next, nothing_own}
 use Rattle.plcr_workers.proofs.Passing.{stays, again}
@@ -35,6 +38,7 @@ loop-at-init g c = record {
   fits = (let none = c.requires.begins.none in omega arith);
   room = c.requires.begins.room;
   all = c.requires.outputs.count;
+  reported = none_reported g.K.Sink.written (g.P.Process.report c.args.process.now c.args.context.now) (walker_of c.args.place) c.args.self.now.drafts.items;
   outputs = none_taken g.K.Sink.faults c.args.script.now.statements c.args.self.now.drafts.items c.requires.outputs.waiting;
 }
 
@@ -50,13 +54,24 @@ returns-in-None-clause-goes g c = record {
 
 pub returns-in-None-clause-taken : goal.returns-in-None-clause-taken
 returns-in-None-clause-taken g c =
-    let cut = cut_at g.K.Sink.faults c.args.script.now.statements c.loop-at.at c.line.result c.loop-at.next c.statement.result.now c.take_statement-moved.result.1 c.args.self.now.drafts.items c.loop-at.self.drafts.items c.take_statement-moved.new.drafts.items
+    let cut = cut_at g.K.Sink.faults (HasReport g.K.Sink.written (g.P.Process.report c.args.process.now c.args.context.now) (walker_of c.take_statement-moved.result.0)) c.args.script.now.statements c.loop-at.at c.line.result c.loop-at.next c.statement.result.now c.take_statement-moved.result.1 c.args.self.now.drafts.items c.loop-at.self.drafts.items c.take_statement-moved.new.drafts.items
         (numbered_at c.args.script.now c.loop-at.at c.line.result c.statement.result.now c.line.ensures c.statement.ensures) c.loop-at.invariant.all c.loop-at.invariant.outputs c.take_statement-moved.ensures.outputs (sym c.in-None.ensures.next) in
     record { number = c.loop-at.invariant.number; places = cut.places; done = cut.done }
 
+pub returns-in-None-clause-reports : goal.returns-in-None-clause-reports
+returns-in-None-clause-reports g c =
+    reported_cut g.K.Sink.written (g.P.Process.report c.args.process.now c.args.context.now) (walker_of c.loop-at.place) (walker_of c.take_statement-moved.result.0) g.K.Sink.faults c.loop-at.next (file_of c.statement.result.now) c.take_statement-moved.result.1
+    c.args.self.now.drafts.items c.loop-at.self.drafts.items c.take_statement-moved.new.drafts.items c.take_statement-moved.ensures.goes
+    (output_left c.args.script.now.statements c.loop-at.at c.line.result c.loop-at.next c.statement.result.now c.loop-at.self.drafts.items
+      (numbered_at c.args.script.now c.loop-at.at c.line.result c.statement.result.now c.line.ensures c.statement.ensures) c.loop-at.invariant.all c.loop-at.invariant.outputs.counted) c.loop-at.invariant.reported c.take_statement-moved.ensures.outputs (sym c.in-None.ensures.next)
+
+pub returns-clause-reports : goal.returns-clause-reports
+returns-clause-reports g c =
+    all_reported g.K.Sink.written (g.P.Process.report c.args.process.now c.args.context.now) (walker_of c.loop-at.place) c.loop-at.next c.args.self.now.drafts.items c.loop-at.self.drafts.items c.loop-at.invariant.reported
+
 pub returns-in-None-clause-whole : goal.returns-in-None-clause-whole
 returns-in-None-clause-whole g c = λ all.
-    absurd ((cut_at g.K.Sink.faults c.args.script.now.statements c.loop-at.at c.line.result c.loop-at.next c.statement.result.now c.take_statement-moved.result.1 c.args.self.now.drafts.items c.loop-at.self.drafts.items c.take_statement-moved.new.drafts.items
+    absurd ((cut_at g.K.Sink.faults (HasReport g.K.Sink.written (g.P.Process.report c.args.process.now c.args.context.now) (walker_of c.take_statement-moved.result.0)) c.args.script.now.statements c.loop-at.at c.line.result c.loop-at.next c.statement.result.now c.take_statement-moved.result.1 c.args.self.now.drafts.items c.loop-at.self.drafts.items c.take_statement-moved.new.drafts.items
         (numbered_at c.args.script.now c.loop-at.at c.line.result c.statement.result.now c.line.ensures c.statement.ensures) c.loop-at.invariant.all c.loop-at.invariant.outputs c.take_statement-moved.ensures.outputs (sym c.in-None.ensures.next)).failed all)
 
 pub returns-clause-whole : goal.returns-clause-whole
@@ -89,8 +104,12 @@ loop-at-preserved g c = record {
   lines = c.add_line.ensures.lines (length c.args.script.now.statements) (let less = c.loop-at-test.true in omega arith) c.loop-at.invariant.lines;
   fits = (let l = c.add_line.ensures.len in let f = c.loop-at.invariant.fits in omega arith);
   room = (let l = c.add_line.ensures.capacity in let f = c.loop-at.invariant.room in omega arith);
-  all = (let n = (taken_on g.K.Sink.faults c.args.script.now.statements c.loop-at.at c.line.result c.loop-at.next c.in-Some.more c.statement.result.now c.take_statement-moved.result.1 c.args.self.now.drafts.items c.loop-at.self.drafts.items c.take_statement-moved.new.drafts.items
+  all = (let n = (taken_on g.K.Sink.faults (HasReport g.K.Sink.written (g.P.Process.report c.args.process.now c.args.context.now) (walker_of c.take_statement-moved.result.0)) c.args.script.now.statements c.loop-at.at c.line.result c.loop-at.next c.in-Some.more c.statement.result.now c.take_statement-moved.result.1 c.args.self.now.drafts.items c.loop-at.self.drafts.items c.take_statement-moved.new.drafts.items
       (numbered_at c.args.script.now c.loop-at.at c.line.result c.statement.result.now c.line.ensures c.statement.ensures) c.loop-at.invariant.all c.loop-at.invariant.outputs c.take_statement-moved.ensures.outputs (sym c.in-Some.ensures.next)).places.count in n ∙ c.requires.outputs.count);
-  outputs = taken_on g.K.Sink.faults c.args.script.now.statements c.loop-at.at c.line.result c.loop-at.next c.in-Some.more c.statement.result.now c.take_statement-moved.result.1 c.args.self.now.drafts.items c.loop-at.self.drafts.items c.take_statement-moved.new.drafts.items
+  reported = reported_on g.K.Sink.written (g.P.Process.report c.args.process.now c.args.context.now) (walker_of c.loop-at.place) (walker_of c.take_statement-moved.result.0) g.K.Sink.faults c.loop-at.next c.in-Some.more (file_of c.statement.result.now) c.take_statement-moved.result.1
+      c.args.self.now.drafts.items c.loop-at.self.drafts.items c.take_statement-moved.new.drafts.items c.take_statement-moved.ensures.goes
+      (output_left c.args.script.now.statements c.loop-at.at c.line.result c.loop-at.next c.statement.result.now c.loop-at.self.drafts.items
+      (numbered_at c.args.script.now c.loop-at.at c.line.result c.statement.result.now c.line.ensures c.statement.ensures) c.loop-at.invariant.all c.loop-at.invariant.outputs.counted) c.loop-at.invariant.reported c.take_statement-moved.ensures.outputs (sym c.in-Some.ensures.next);
+  outputs = taken_on g.K.Sink.faults (HasReport g.K.Sink.written (g.P.Process.report c.args.process.now c.args.context.now) (walker_of c.take_statement-moved.result.0)) c.args.script.now.statements c.loop-at.at c.line.result c.loop-at.next c.in-Some.more c.statement.result.now c.take_statement-moved.result.1 c.args.self.now.drafts.items c.loop-at.self.drafts.items c.take_statement-moved.new.drafts.items
       (numbered_at c.args.script.now c.loop-at.at c.line.result c.statement.result.now c.line.ensures c.statement.ensures) c.loop-at.invariant.all c.loop-at.invariant.outputs c.take_statement-moved.ensures.outputs (sym c.in-Some.ensures.next);
 }

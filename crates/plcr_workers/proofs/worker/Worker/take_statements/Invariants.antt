@@ -8,6 +8,7 @@ use Rattle.plcr_workers.specs.inner.Own.{AreOwn}
 use Rattle.plcr_workers.specs.inner.Places.{IsAt, PassGoes, walker_of}
 use Rattle.plcr_workers.specs.inner.Hired.{SoFar}
 use Rattle.plcr_workers.proofs.Outputs.{AreNext}
+use Rattle.plcr_workers.proofs.Reported.{AreReported}
 use Rattle.plcr_workers.proofs.worker.Worker.take_statements.Given as goal
 
 abbrev pub invariant-loop-at : goal.invariant-loop-at
@@ -22,5 +23,6 @@ invariant-loop-at g l = record {
   fits : vec_len l.self.lines ≤ l.at;
   room : length l.script.statements ≤ vec_capacity l.self.lines;
   all : length l.self.drafts.items ≡ length (files_of l.script.statements);
+  reported : AreReported g.K.Sink.written (g.P.Process.report l.process l.context) (walker_of l.place) l.next l.fn.self.drafts.items l.self.drafts.items;
   outputs : AreNext g.K.Sink.faults l.script.statements l.at l.next l.fn.self.drafts.items l.self.drafts.items;
 }
