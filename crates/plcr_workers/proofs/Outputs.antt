@@ -168,7 +168,7 @@ taken_on {K} faults tells statements at line next more statement took first old 
 
 -- the first output that wasn't written whole has faults
 done_upto : {K : Type 0} (faults : K → ℕ) (next : ℕ) (drafts : List (Draft K)) → ((k : ℕ) (other : Draft K) → k < length drafts → k < next → (slice_index_or drafts k other).progress ≡ Written)
-    → ((other : Draft K) → next < length drafts → 0 < faults (slice_index_or drafts next other).out) → AreDone faults drafts
+    → ((other : Draft K) → next < length drafts → ((slice_index_or drafts next other).progress ≢ Written) × (0 < faults (slice_index_or drafts next other).out)) → AreDone faults drafts
 done_upto faults next [] written failed = tt
 done_upto faults zero (d ∷ ds) written failed = inr (failed d (omega arith))
 done_upto faults (suc next) (d ∷ ds) written failed =
@@ -236,7 +236,7 @@ cut_at {K} faults tells statements at line next statement took first old new e a
           done = done_upto faults next new
               (λ k other less below.
                   ap (λ (d : Draft K). d.progress) (there_is faults tells next took old new w k other (λ same. absurd (omega (arith, below, same)))) ∙ s.up_to.written k other (omega (arith, less, so_many)) below)
-              (λ other less. subst (λ (d : Draft K). 0 < faults d.out) (sym (here_is faults tells next took old new w other within)) some);
+              (λ other less. subst (λ (d : Draft K). (d.progress ≢ Written) × (0 < faults d.out)) (sym (here_is faults tells next took old new w other within)) some);
         }
 
 -- before the first statement no output was taken

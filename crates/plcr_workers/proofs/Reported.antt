@@ -127,7 +127,7 @@ reported_later written report old new next first drafts goes s = record {
   same = s.same;
 }
 
-get_or_any : {A : Type 0} (xs : List A) (n : ℕ) (c d : A) → n < length xs → slice_index_or xs n c ≡ slice_index_or xs n d
+pub get_or_any : {A : Type 0} (xs : List A) (n : ℕ) (c d : A) → n < length xs → slice_index_or xs n c ≡ slice_index_or xs n d
 get_or_any [] n c d less = absurd (omega (arith, less))
 get_or_any (x ∷ xs) zero c d less = refl
 get_or_any (x ∷ xs) (suc n) c d less = get_or_any xs n c d (omega (arith, less))
