@@ -9,6 +9,7 @@ pub mod Owned
 pub mod Passing
 pub mod Joined
 pub mod Reported
+pub mod Lawful
 pub mod Settled
 pub mod Made
 pub mod Printing
