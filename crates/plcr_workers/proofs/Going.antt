@@ -121,3 +121,9 @@ counted_next statements at statement e =
 pub take_whole : {A : Type 0} (xs : List A) → take (length xs) xs ≡ xs
 take_whole [] = refl
 take_whole (x ∷ xs) = ap (λ l. x ∷ l) (take_whole xs)
+
+pub take_past : {A : Type 0} (n : ℕ) (xs : List A) → length xs ≤ n → take n xs ≡ xs
+take_past zero [] less = refl
+take_past (suc n) [] less = refl
+take_past zero (x ∷ xs) less = absurd (omega (arith, less))
+take_past (suc n) (x ∷ xs) less = ap (λ l. x ∷ l) (take_past n xs (omega (arith, less)))

@@ -174,14 +174,16 @@ done_upto faults zero (d ∷ ds) written failed = inr (failed d (omega arith))
 done_upto faults (suc next) (d ∷ ds) written failed =
     inl (written 0 d (omega arith) (omega arith), done_upto faults next ds (λ k other less below. written (suc k) other (omega (arith, less)) (omega (arith, below))) (λ other less. failed other (omega (arith, less))))
 
-pub all_done : {K : Type 0} (faults : K → ℕ) (statements : List NumberedStatement) (next : ℕ) (first drafts : List (Draft K)) → length drafts ≡ length (files_of statements) → AreNext faults statements (length statements) next first drafts → AreDone faults drafts
-all_done faults statements next first drafts all s =
-    let counted = s.counted ∙ ap (λ l. length (files_of l)) (take_whole statements) in
+take_past : (n : ℕ) (xs : List NumberedStatement) → length xs ≤ n → take n xs ≡ xs
+take_past zero [] less = refl
+take_past (suc n) [] less = refl
+take_past zero (x ∷ xs) less = absurd (omega (arith, less))
+take_past (suc n) (x ∷ xs) less = ap (λ (l : List NumberedStatement). x ∷ l) (take_past n xs (omega (arith, less)))
+
+pub all_done : {K : Type 0} (faults : K → ℕ) (statements : List NumberedStatement) (at next : ℕ) (first drafts : List (Draft K)) → length drafts ≡ length (files_of statements) → length statements ≤ at → AreNext faults statements at next first drafts → AreDone faults drafts
+all_done faults statements at next first drafts all past s =
+    let counted = s.counted ∙ ap (λ l. length (files_of l)) (take_past at statements past) in
     done_upto faults next drafts s.up_to.written (λ other less. absurd (omega (arith, less, counted, all)))
-  where
-    take_whole : (xs : List NumberedStatement) → take (length xs) xs ≡ xs
-    take_whole [] = refl
-    take_whole (x ∷ xs) = ap (λ l. x ∷ l) (take_whole xs)
 
 rose_some : (a b : ℕ) → Rose a b → a ≡ 0 → 0 < b
 rose_some a b (inl less) e = omega (arith, less)
@@ -236,7 +238,7 @@ cut_at {K} faults tells statements at line next statement took first old new e a
           done = done_upto faults next new
               (λ k other less below.
                   ap (λ (d : Draft K). d.progress) (there_is faults tells next took old new w k other (λ same. absurd (omega (arith, below, same)))) ∙ s.up_to.written k other (omega (arith, less, so_many)) below)
-              (λ other less. subst (λ (d : Draft K). (d.progress ≢ Written) × (0 < faults d.out)) (sym (here_is faults tells next took old new w other within)) some);
+              (λ other less. subst (λ (d : Draft K). (d.progress ≢ Written) × (0 < faults d.out)) (sym (here_is faults tells next took old new w other within)) (not_written w.is did.0, some));
         }
 
 -- before the first statement no output was taken

@@ -56,7 +56,7 @@ pub report_later : {K : Type 0} (written : K → Option (List ℕ)) (report : Li
 report_later written report old new before after goes h = record { bytes = h.bytes; tells = held_later report old new h.bytes goes h.tells; gains = h.gains }
 
 -- a lawful walk doesn't end before it began: else each image would have been met
-sum_of : List Image → ℕ
+abbrev sum_of : List Image → ℕ
 sum_of [] = 0
 sum_of (x ∷ met) = x.load + sum_of met
 

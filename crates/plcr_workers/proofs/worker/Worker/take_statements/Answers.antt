@@ -6,7 +6,7 @@ use Rattle.plcr_turns.specs.Lines.{lines_of}
 use Rattle.plcr_workers.specs.Asking.{change_lines}
 use Rattle.plcr_workers.specs.inner.Hired.{SoFar}
 use Rattle.plcr_workers.specs.inner.Places.{walker_of}
-use Rattle.plcr_workers.proofs.Going.{left_if_asked, so_far_next, take_whole}
+use Rattle.plcr_workers.proofs.Going.{left_if_asked, so_far_next, take_past}
 use Rattle.plcr_script.specs.Reading.{file_of}
 use Rattle.plcr_workers.specs.inner.Reports.{HasReport}
 use Rattle.plcr_workers.proofs.Reported.{none_reported, reported_on, reported_cut, all_reported}
@@ -75,7 +75,7 @@ returns-in-None-clause-whole g c = λ all.
         (numbered_at c.args.script.now c.loop-at.at c.line.result c.statement.result.now c.line.ensures c.statement.ensures) c.loop-at.invariant.all c.loop-at.invariant.outputs c.take_statement-moved.ensures.outputs (sym c.in-None.ensures.next)).failed all)
 
 pub returns-clause-whole : goal.returns-clause-whole
-returns-clause-whole g c = λ all. c.loop-at.invariant.so_far.lines ∙ ap change_lines (take_whole c.args.script.now.statements)
+returns-clause-whole g c = λ all. c.loop-at.invariant.so_far.lines ∙ ap change_lines (take_past c.loop-at.at c.args.script.now.statements (let past = c.loop-at-test.false in omega arith))
 
 pub returns-in-None-clause-own : goal.returns-in-None-clause-own
 returns-in-None-clause-own g c =
@@ -87,7 +87,7 @@ pub returns-clause-taken : goal.returns-clause-taken
 returns-clause-taken g c = record {
   number = c.loop-at.invariant.number;
   places = c.loop-at.invariant.outputs.places;
-  done = all_done g.K.Sink.faults c.args.script.now.statements c.loop-at.next c.args.self.now.drafts.items c.loop-at.self.drafts.items c.loop-at.invariant.all c.loop-at.invariant.outputs;
+  done = all_done g.K.Sink.faults c.args.script.now.statements c.loop-at.at c.loop-at.next c.args.self.now.drafts.items c.loop-at.self.drafts.items c.loop-at.invariant.all (let past = c.loop-at-test.false in omega arith) c.loop-at.invariant.outputs;
 }
 
 pub loop-at-preserved : goal.loop-at-preserved
@@ -113,3 +113,6 @@ loop-at-preserved g c = record {
   outputs = taken_on g.K.Sink.faults (HasReport g.K.Sink.written (g.P.Process.report c.args.process.now c.args.context.now) (walker_of c.take_statement-moved.result.0)) c.args.script.now.statements c.loop-at.at c.line.result c.loop-at.next c.in-Some.more c.statement.result.now c.take_statement-moved.result.1 c.args.self.now.drafts.items c.loop-at.self.drafts.items c.take_statement-moved.new.drafts.items
       (numbered_at c.args.script.now c.loop-at.at c.line.result c.statement.result.now c.line.ensures c.statement.ensures) c.loop-at.invariant.all c.loop-at.invariant.outputs c.take_statement-moved.ensures.outputs (sym c.in-Some.ensures.next);
 }
+
+pub returns-in-None-clause-image : goal.returns-in-None-clause-image
+returns-in-None-clause-image g c = again (walker_of c.args.place) (walker_of c.loop-at.place) (walker_of c.take_statement-moved.result.0) c.loop-at.invariant.goes c.take_statement-moved.ensures.goes
