@@ -49,7 +49,7 @@ turned_round count list images many each place other less =
 -- one output list more
 in_order_more : {K : Type 0} (all : List (Vec (Draft K) Global)) (drafts : Vec (Draft K) Global) → in_order (all ++ drafts ∷ []) ≡ reverse drafts.items ++ in_order all
 in_order_more [] drafts = sym (append-nil (reverse drafts.items))
-in_order_more (first ∷ all) drafts = ap (λ l. l ++ reverse first.items) (in_order_more all drafts) ∙ sym (append_assoc (reverse drafts.items) (in_order all) (reverse first.items))
+in_order_more (first ∷ all) drafts = ap (λ l. l ++ reverse first.items) (in_order_more all drafts) ∙ append_assoc (reverse drafts.items) (in_order all) (reverse first.items)
 
 -- the workers that were taken in so far, the last ones, with what they left
 pub record AreIn {K : Type 0} (count : ℕ) (list : TableId) (all left taken : List (Worker K)) (chief : View) (images : List WalkerState) (drafts : List (Vec (Draft K) Global)) (others : List (Vec PassLine Global)) : Type 0 where
@@ -78,7 +78,7 @@ one_in queue count list scripts all left taken w chief next images image drafts 
     let many = s.many in
     let place : w.script ≡ length left = each_last (λ k (x : Worker _). x.script ≡ k) left w s.numbers in
     record {
-      parts = s.parts ∙ sym (append_assoc left (w ∷ []) taken);
+      parts = s.parts ∙ append_assoc left (w ∷ []) taken;
       gathered = gathered;
       working = (
         subst (λ n. IsWorking n list (view w.turns)) place gone.so_far.working,

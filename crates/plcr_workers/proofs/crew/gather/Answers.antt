@@ -49,9 +49,9 @@ loop-worker-preserved g c =
     record {
       same = (same.0 ∙ before.0, same.1 ∙ before.1, same.2 ∙ before.2);
       gone = all_front (λ w. IsGone queue list scripts w) c.pop.new.self.items (worker ∷ []) all;
-      are_in = record { taken = worker ∷ c.loop-worker.invariant.are_in.taken; are_in = rw added (rw c.push_reserved.ensures.items (rw c.push_reserved-2.ensures.items next)) };
+      are_in = record { taken = worker ∷ c.loop-worker.invariant.are_in.taken; are_in = rw added (rw c.push_reserved.ensures.items (rw c.push_reserved-in-Some.ensures.items next)) };
       images_room = (let a = c.add_image.ensures.len in let b = c.add_image.ensures.capacity in let r = c.loop-worker.invariant.images_room in omega (arith, a, b, r, length_of));
-      drafts_room = (let a = c.push_reserved-2.ensures.len in let b = c.push_reserved-2.ensures.capacity in let r = c.loop-worker.invariant.drafts_room in omega (arith, a, b, r, length_of));
+      drafts_room = (let a = c.push_reserved-in-Some.ensures.len in let b = c.push_reserved-in-Some.ensures.capacity in let r = c.loop-worker.invariant.drafts_room in omega (arith, a, b, r, length_of));
       others_room = (let a = c.push_reserved.ensures.len in let b = c.push_reserved.ensures.capacity in let r = c.loop-worker.invariant.others_room in omega (arith, a, b, r, length_of));
     }
 
@@ -73,47 +73,47 @@ loop-worker-init g c =
 pub returns-clause-chief : goal.returns-clause-chief
 returns-clause-chief g c =
     let done = last_in (length c.args.scripts.now) c.args.list.now c.args.workers.items c.loop-worker.workers.items (view c.loop-worker.chief) c.loop-worker.left.images.items c.loop-worker.left.drafts.items c.loop-worker.left.others.items
-        (let o = c.loop-worker.workers.ok.0 in let n = c.in-None.ensures.cases.0 in omega (arith, o, n)) (let o = c.args.workers.ok.0 in let n = c.requires.count in omega (arith, o, n)) c.loop-worker.invariant.are_in in
+        (let o = c.loop-worker.workers.ok.0 in let n = c.in_default.ensures.cases.0 in omega (arith, o, n)) (let o = c.args.workers.ok.0 in let n = c.requires.count in omega (arith, o, n)) c.loop-worker.invariant.are_in in
     done.gathered
 
 pub returns-clause-working : goal.returns-clause-working
 returns-clause-working g c =
     let done = last_in (length c.args.scripts.now) c.args.list.now c.args.workers.items c.loop-worker.workers.items (view c.loop-worker.chief) c.loop-worker.left.images.items c.loop-worker.left.drafts.items c.loop-worker.left.others.items
-        (let o = c.loop-worker.workers.ok.0 in let n = c.in-None.ensures.cases.0 in omega (arith, o, n)) (let o = c.args.workers.ok.0 in let n = c.requires.count in omega (arith, o, n)) c.loop-worker.invariant.are_in in
+        (let o = c.loop-worker.workers.ok.0 in let n = c.in_default.ensures.cases.0 in omega (arith, o, n)) (let o = c.args.workers.ok.0 in let n = c.requires.count in omega (arith, o, n)) c.loop-worker.invariant.are_in in
     done.working
 
 pub returns-clause-all : goal.returns-clause-all
 returns-clause-all g c =
     let done = last_in (length c.args.scripts.now) c.args.list.now c.args.workers.items c.loop-worker.workers.items (view c.loop-worker.chief) c.loop-worker.left.images.items c.loop-worker.left.drafts.items c.loop-worker.left.others.items
-        (let o = c.loop-worker.workers.ok.0 in let n = c.in-None.ensures.cases.0 in omega (arith, o, n)) (let o = c.args.workers.ok.0 in let n = c.requires.count in omega (arith, o, n)) c.loop-worker.invariant.are_in in
+        (let o = c.loop-worker.workers.ok.0 in let n = c.in_default.ensures.cases.0 in omega (arith, o, n)) (let o = c.args.workers.ok.0 in let n = c.requires.count in omega (arith, o, n)) c.loop-worker.invariant.are_in in
     again (length c.args.scripts.now) c.args.list.now c.args.workers.items (view c.loop-worker.chief) c.loop-worker.left.images.items c.loop-worker.left.drafts.items c.loop-worker.left.others.items (let o = c.args.workers.ok.0 in let n = c.requires.count in omega (arith, o, n)) done
 
 pub returns-clause-images : goal.returns-clause-images
 returns-clause-images g c =
     let done = last_in (length c.args.scripts.now) c.args.list.now c.args.workers.items c.loop-worker.workers.items (view c.loop-worker.chief) c.loop-worker.left.images.items c.loop-worker.left.drafts.items c.loop-worker.left.others.items
-        (let o = c.loop-worker.workers.ok.0 in let n = c.in-None.ensures.cases.0 in omega (arith, o, n)) (let o = c.args.workers.ok.0 in let n = c.requires.count in omega (arith, o, n)) c.loop-worker.invariant.are_in in
+        (let o = c.loop-worker.workers.ok.0 in let n = c.in_default.ensures.cases.0 in omega (arith, o, n)) (let o = c.args.workers.ok.0 in let n = c.requires.count in omega (arith, o, n)) c.loop-worker.invariant.are_in in
     done.images_are
 
 pub returns-clause-passes : goal.returns-clause-passes
 returns-clause-passes g c =
     let done = last_in (length c.args.scripts.now) c.args.list.now c.args.workers.items c.loop-worker.workers.items (view c.loop-worker.chief) c.loop-worker.left.images.items c.loop-worker.left.drafts.items c.loop-worker.left.others.items
-        (let o = c.loop-worker.workers.ok.0 in let n = c.in-None.ensures.cases.0 in omega (arith, o, n)) (let o = c.args.workers.ok.0 in let n = c.requires.count in omega (arith, o, n)) c.loop-worker.invariant.are_in in
+        (let o = c.loop-worker.workers.ok.0 in let n = c.in_default.ensures.cases.0 in omega (arith, o, n)) (let o = c.args.workers.ok.0 in let n = c.requires.count in omega (arith, o, n)) c.loop-worker.invariant.are_in in
     done.passes_are
 
 pub returns-clause-met : goal.returns-clause-met
 returns-clause-met g c =
     let done = last_in (length c.args.scripts.now) c.args.list.now c.args.workers.items c.loop-worker.workers.items (view c.loop-worker.chief) c.loop-worker.left.images.items c.loop-worker.left.drafts.items c.loop-worker.left.others.items
-        (let o = c.loop-worker.workers.ok.0 in let n = c.in-None.ensures.cases.0 in omega (arith, o, n)) (let o = c.args.workers.ok.0 in let n = c.requires.count in omega (arith, o, n)) c.loop-worker.invariant.are_in in
+        (let o = c.loop-worker.workers.ok.0 in let n = c.in_default.ensures.cases.0 in omega (arith, o, n)) (let o = c.args.workers.ok.0 in let n = c.requires.count in omega (arith, o, n)) c.loop-worker.invariant.are_in in
     (let m = done.many in let o = c.loop-worker.left.images.ok.0 in omega (arith, m, o))
 
 pub returns-clause-drafts : goal.returns-clause-drafts
 returns-clause-drafts g c =
     let done = last_in (length c.args.scripts.now) c.args.list.now c.args.workers.items c.loop-worker.workers.items (view c.loop-worker.chief) c.loop-worker.left.images.items c.loop-worker.left.drafts.items c.loop-worker.left.others.items
-        (let o = c.loop-worker.workers.ok.0 in let n = c.in-None.ensures.cases.0 in omega (arith, o, n)) (let o = c.args.workers.ok.0 in let n = c.requires.count in omega (arith, o, n)) c.loop-worker.invariant.are_in in
+        (let o = c.loop-worker.workers.ok.0 in let n = c.in_default.ensures.cases.0 in omega (arith, o, n)) (let o = c.args.workers.ok.0 in let n = c.requires.count in omega (arith, o, n)) c.loop-worker.invariant.are_in in
     done.drafts_are
 
 pub returns-clause-others : goal.returns-clause-others
 returns-clause-others g c =
     let done = last_in (length c.args.scripts.now) c.args.list.now c.args.workers.items c.loop-worker.workers.items (view c.loop-worker.chief) c.loop-worker.left.images.items c.loop-worker.left.drafts.items c.loop-worker.left.others.items
-        (let o = c.loop-worker.workers.ok.0 in let n = c.in-None.ensures.cases.0 in omega (arith, o, n)) (let o = c.args.workers.ok.0 in let n = c.requires.count in omega (arith, o, n)) c.loop-worker.invariant.are_in in
+        (let o = c.loop-worker.workers.ok.0 in let n = c.in_default.ensures.cases.0 in omega (arith, o, n)) (let o = c.args.workers.ok.0 in let n = c.requires.count in omega (arith, o, n)) c.loop-worker.invariant.are_in in
     c.turned_round.ensures ∙ ap reverse done.others_are ∙ reverse-reverse (lines_left c.args.workers.items)

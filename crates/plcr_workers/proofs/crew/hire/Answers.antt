@@ -1,4 +1,4 @@
-use Rattle.std.proofs.Common.{◌≡◌, ℕ, ◌+◌, ◌<◌, ◌≤◌, ◌×◌, ◌∙◌, ◌++◌, List, ◌∷◌, [], length, map, All, Some, None, slice_get, slice_index_or, sym, ap, subst, add-one, refl, arith}
+use Rattle.std.proofs.Common.{◌≡◌, ℕ, ◌+◌, ◌<◌, ◌≤◌, ◌∙◌, ◌++◌, List, ◌∷◌, [], length, map, All, Some, None, slice_get, slice_index_or, sym, ap, subst, add-one, refl, arith}
 use Rattle.std.proofs.lemmas.List.{length-map, length-append}
 use Rattle.crossbeam_queue.specs.Passes.{view}
 use Rattle.plcr_imagelist.specs.Holds.{WalkerState}
@@ -14,10 +14,15 @@ use Rattle.plcr_workers.specs.inner.Hired.{SoFar, IsHired, AreNew, IsNew, AreFro
 use Rattle.plcr_workers.proofs.Hires.{fresh_so_far, some_value}
 use Rattle.plcr_workers.proofs.Crews.{each_front, each_last, each_more}
 use Rattle.plcr_workers.proofs.Joined.{element}
+use Rattle.plcr_workers.proofs.Reported.{get_or_any}
 use Rattle.plcr_workers.proofs.crew.hire.Goals as goal
 
 totals_count : (scripts : List ScriptValue) → length (totals_in scripts) ≡ length scripts
 totals_count scripts = length-map scripts (λ (script : ScriptValue). length (change_lines script.statements))
+
+-- a script that was looked up is as long as that at its place
+script_long : (scripts : List ScriptValue) (n : ℕ) (found there : ScriptValue) → found ≡ slice_index_or scripts n found → slice_index_or scripts n there ≡ there → n < length scripts → length found.statements ≡ length there.statements
+script_long scripts n found there is at less = ap (λ (s : ScriptValue). length s.statements) (is ∙ get_or_any scripts n found there less ∙ at)
 
 pub hand_out-turns-requires-clause-script : goal.hand_out-turns-requires-clause-script
 hand_out-turns-requires-clause-script g c =
@@ -71,7 +76,9 @@ loop-script-preserved g c =
                 pass = c.hand_out-turns.ensures.queue.1;
                 few = omega (arith, less, few);
                 so_far = so_far;
-                room = (let r = c.in_ok-lines.ensures.capacity in let l = ap (λ (s : ScriptValue). length s.statements) script.1 in omega (arith, r, l, c.len.ensures));
+                room = (let r = c.in_ok-lines.ensures.capacity in
+                    let l = script_long c.args.scripts.now n c.index-scripts-script-in-loop-script.result script.0 c.index-scripts-script-in-loop-script.is script.1 less in
+                    let m = c.len-in-loop-script.ensures in omega (arith, r, l, m));
                 none = c.in_ok-lines.ensures.len;
               };
               image = record { image = c.in-Some.image; held = refl; walks = image.0; number = number };
@@ -81,7 +88,10 @@ loop-script-preserved g c =
           (each_more (λ place w. IsNew c.args.scripts.now place w) c.loop-script.workers.items _ c.loop-script.invariant.new (record {
             number = sym new_count;
             none = c.in_ok-drafts.ensures.len;
-            room = λ s at. (let r = c.in_ok-drafts.ensures.capacity in let l = ap (λ (x : ScriptValue). length x.statements) (some_value (sym at ∙ ap (slice_get c.args.scripts.now) new_count ∙ script.2)) in let m = ap (λ (x : ScriptValue). length x.statements) script.1 in omega (arith, r, l, m));
+            room = λ s at. (let r = c.in_ok-drafts.ensures.capacity in
+                let same = ap (λ (x : ScriptValue). length x.statements) (some_value (sym at ∙ ap (slice_get c.args.scripts.now) new_count ∙ script.2)) in
+                let l = script_long c.args.scripts.now n c.index-scripts-script.result script.0 c.index-scripts-script.is script.1 less in
+                let m = c.len.ensures in omega (arith, r, l, m, same));
           }));
       count = (let m = c.push_reserved.ensures.len in omega (arith, m, counted));
       room = (let m = c.push_reserved.ensures.capacity in let r = c.loop-script.invariant.room in omega (arith, m, r));
