@@ -71,16 +71,16 @@ files_rest (s ∷ statements) (suc at) =
 
 -- a statement that is no report has no file
 pub not_report : (st : Statement) → ((pass : ℕ) (file : List ℕ) → st ≡ statements.Report pass file → ⊥) → reading.file_of st ≡ None
-not_report (statements.Load header name) no = refl
-not_report (statements.Unload header) no = refl
-not_report (statements.BeginLoad header name) no = refl
-not_report (statements.BeginUnload header) no = refl
-not_report (statements.Step most) no = refl
-not_report statements.End no = refl
-not_report (statements.Enter pass) no = refl
-not_report (statements.Walk pass most) no = refl
-not_report (statements.Leave pass) no = refl
-not_report (statements.Report pass file) no = absurd (no pass file refl)
+not_report (statements.Load header name) other = refl
+not_report (statements.Unload header) other = refl
+not_report (statements.BeginLoad header name) other = refl
+not_report (statements.BeginUnload header) other = refl
+not_report (statements.Step most) other = refl
+not_report statements.End other = refl
+not_report (statements.Enter pass) other = refl
+not_report (statements.Walk pass most) other = refl
+not_report (statements.Leave pass) other = refl
+not_report (statements.Report pass file) other = absurd (other pass file refl)
 
 -- ---- the desk
 
@@ -368,8 +368,8 @@ still_new {K = K} faults scripts count olds news old now new within m other = su
 pub ok_of : {A E X : Type 0} {r : Result A E} {a : A} → r ≡ Ok a → OnOk r X → X
 ok_of {A} {E} {X} is h = subst (λ (r : Result A E). OnOk r X) is h
 
-pub err_of : {A E : Type 0} {P : E → Type 0} {r : Result A E} {e : E} → r ≡ Err e → IfErr r P → P e
-err_of {A} {E} {P} is h = subst (λ (r : Result A E). IfErr r P) is h
+pub err_of : {A E : Type 0} (P : E → Type 0) {r : Result A E} {e : E} → r ≡ Err e → IfErr r P → P e
+err_of {A} {E} P is h = subst (λ (r : Result A E). IfErr r P) is h
 
 pub on_err_of : {A E X : Type 0} {r : Result A E} {e : E} → r ≡ Err e → OnErr r X → X
 on_err_of {A} {E} {X} is h = subst (λ (r : Result A E). OnErr r X) is h

@@ -19,7 +19,7 @@ make_for-requires-clause-room g c =
 pub returns-in-Err-clause-err : goal.returns-in-Err-clause-err
 returns-in-Err-clause-err g c =
     let less = c.loop-script-test.true in let count = c.requires.count in
-    makes_cut g.D.Out.Sink.faults c.args.scripts.now c.args.workers.now c.loop-script.script c.loop-script.workers c.make_for.new.worker _ (g.D.Desk.told c.args.desk.now) (g.D.Desk.told c.loop-script.desk) (g.D.Desk.told c.make_for.new.desk) (slice_get-get_or c.args.scripts.now c.loop-script.script _ less) (omega (arith, less, count)) (new_empty c.args.scripts.now c.args.workers.now c.requires.new) c.loop-script.invariant _ c.make_for.ensures.same c.in-Err.at (err_of c.in-Err.is c.make_for.ensures.err)
+    makes_cut g.D.Out.Sink.faults c.args.scripts.now c.args.workers.now c.loop-script.script c.loop-script.workers c.make_for.new.worker _ (g.D.Desk.told c.args.desk.now) (g.D.Desk.told c.loop-script.desk) (g.D.Desk.told c.make_for.new.desk) (slice_get-get_or c.args.scripts.now c.loop-script.script _ less) (omega (arith, less, count)) (new_empty c.args.scripts.now c.args.workers.now c.requires.new) c.loop-script.invariant _ c.make_for.ensures.same c.in-Err.at (err_of _ c.in-Err.is c.make_for.ensures.err)
 
 pub returns-in-Err-clause-same : goal.returns-in-Err-clause-same
 returns-in-Err-clause-same g c =
