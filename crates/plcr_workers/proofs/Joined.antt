@@ -3,7 +3,7 @@
 use Rattle.std.proofs.Common.{◌≡◌, ℕ, zero, suc, ◌+◌, ◌-◌, ◌<◌, ◌≤◌, List, [], ◌∷◌, ◌++◌, length, map, take, drop, reverse, get_or, slice_get, All, Option, Some, None, unwrap_or, refl, sym, ap, ◌∙◌, subst, length-append, arith}
 use Rattle.std.specs.Prelude.{option_and_then}
 use Rattle.std.proofs.lemmas.List.{get_or-reverse, length-reverse, length-map, take-append-drop}
-use Rattle.std.proofs.lemmas.List.Elements.{filter_map-append}
+use Rattle.std.proofs.lemmas.List.Elements.{All-tail, filter_map-append}
 use Rattle.std.proofs.lemmas.Option.{slice_get_within}
 use Rattle.atomic_table.specs.Seated.{TableId}
 use Rattle.crossbeam_queue.specs.Passes.{view}
@@ -22,13 +22,14 @@ use Rattle.plcr_turns.specs.Views.{IsTaken}
 use Rattle.plcr_turns.specs.Gathering.{AreWorking, HasGathered}
 use Rattle.plcr_turns.proofs.Gathered.{each_once}
 use Rattle.plcr_turns.proofs.Turned.{lines_more, line_here, line_else}
-use Rattle.plcr_turns.proofs.Fronts.{take_front}
+use Rattle.plcr_turns.proofs.Fronts.{all_front, take_front}
 use Rattle.plcr_workers.specs.declared.drafts.Draft.{Draft}
 use Rattle.plcr_workers.specs.declared.drafts.Progress.TheVariants.{Written}
 use Rattle.plcr_workers.specs.declared.worker.Worker.{Worker}
 use Rattle.plcr_workers.specs.Asking.{asked_in, change_lines, statement_on, statement_of}
 use Rattle.plcr_workers.specs.Known.{IsKnownLine, AreKnown}
-use Rattle.plcr_workers.specs.inner.Hired.{AreNumbered, IsGone, views_of, passes_left}
+use Rattle.plcr_workers.specs.inner.Hired.{AreNumbered, IsGone, IsWholeOf, views_of, passes_left}
+use Rattle.plcr_workers.specs.inner.Outputs.{outputs_of}
 use Rattle.plcr_workers.specs.inner.Own.{IsOwnLine, AreOwn, KnowsOwnOf}
 use Rattle.plcr_workers.proofs.Owned.{own_later}
 
@@ -164,15 +165,25 @@ first_applied process queue list scripts workers chief t names a n script at =
       ap wanted_by (seen ∙ ap (λ k. lines_of k (view w.0.turns).journal) (sym number)) ∙ gone.so_far.lines ∙ ap (λ (s : ScriptValue). change_lines (take gone.count s.statements)) same ∙ first_lines gone.count script.statements,
     )
 
+-- what holds of all outputs holds of those of each worker
+pub outputs_each : {K : Type 0} (P : Draft K → Type 0) (workers : List (Worker K)) → All P (outputs_of workers) → (k : ℕ) (w : Worker K) → slice_get workers k ≡ Some w → All P w.drafts.items
+outputs_each P [] all k w at = absurd cc
+outputs_each P (x ∷ workers) all zero w at = subst (λ (y : Worker _). All P y.drafts.items) (some_same at) (all_front P x.drafts.items (outputs_of workers) all)
+outputs_each P (x ∷ workers) all (suc k) w at = outputs_each P workers (behind x.drafts.items all) k w at
+  where
+    behind : (ds : List (Draft _)) → All P (ds ++ outputs_of workers) → All P (outputs_of workers)
+    behind [] h = h
+    behind (d ∷ ds) h = behind ds (All-tail P d (ds ++ outputs_of workers) h)
+
 -- where all outputs were written whole, each load and unload line of each script was applied once
 pub whole_applied : {K : Type 0} (process : Meanings) (queue list : TableId) (scripts : List ScriptValue) (workers : List (Worker K)) (chief : View) (t : TurnState) (names : List (List ℕ)) → AllKnow process queue list scripts workers chief t names
-    → ((k : ℕ) (w : Worker K) → slice_get workers k ≡ Some w → All (λ (d : Draft K). d.progress ≡ Written) w.drafts.items)
+    → All (λ (w : Worker K). IsWholeOf scripts w) workers → ((k : ℕ) (w : Worker K) → slice_get workers k ≡ Some w → All (λ (d : Draft K). d.progress ≡ Written) w.drafts.items)
     → (n : ℕ) (script : ScriptValue) → slice_get scripts n ≡ Some script → wanted_by (lines_of n t.journal) ≡ change_lines script.statements
-whole_applied process queue list scripts workers chief t names a written n script at =
+whole_applied process queue list scripts workers chief t names a wholes written n script at =
     let less = slice_get_within scripts n script at in
     let many = a.count in
     let w = element workers n (omega (arith, less, many)) in
-    let gone = subst (λ (x : Worker _). IsGone queue list scripts x) w.1 (a.gone n w.0 (omega (arith, less, many))) in
+    let gone = subst (λ (x : Worker _). IsWholeOf scripts x) w.1 (wholes n w.0 (omega (arith, less, many))) in
     let number : w.0.script ≡ n = ap (λ (x : Worker _). x.script) (sym w.1) ∙ a.numbers n w.0 (omega (arith, less, many)) in
     let same : gone.script ≡ script = some_same (sym gone.stands ∙ ap (slice_get scripts) number ∙ at) in
     let seen = lines_seen process queue list scripts workers chief t names a n w.0 w.2 in

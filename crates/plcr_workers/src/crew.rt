@@ -7,7 +7,7 @@ ghost use Rattle.plcr_script.specs.Meanings.{meanings};
 ghost use Rattle.plcr_turns.specs.Views.{HasAll};
 ghost use Rattle.plcr_workers.specs.Asking.{asked_in, change_lines};
 ghost use Rattle.plcr_workers.specs.inner.Drafts.{HasOutputs, HasTaken, HaveTaken};
-ghost use Rattle.plcr_workers.specs.inner.Hired.{IsHired, IsReadyToRun, IsGone, AreNew, AreNumbered, AreInOrder, AreFromTheLast, totals_in, asks_one, lines_left, passes_left, views_of};
+ghost use Rattle.plcr_workers.specs.inner.Hired.{IsHired, IsReadyToRun, IsGone, IsWholeOf, AreNew, AreNumbered, AreInOrder, AreFromTheLast, totals_in, asks_one, lines_left, passes_left, views_of};
 ghost use Rattle.plcr_workers.specs.inner.Own.{KnowsOwnOf};
 ghost use Rattle.plcr_workers.specs.inner.Outputs.{in_order, outputs_of};
 
@@ -151,6 +151,7 @@ pub(crate) fn run_all<
     ensures taken { HaveTaken K.faults workers.old workers.new }
     ensures own { All (λ w. KnowsOwnOf (meanings (P.image_fault process.now) (P.report process.now context.now)) scripts.now w) workers.new }
     ensures gone { All (λ w. IsGone queue.now.table.shared.table_id list.now scripts.now w) workers.new }
+    ensures whole { All (λ w. IsWholeOf scripts.now w) workers.new }
 {
     thread::for_each_mut(
         rt,
@@ -158,7 +159,7 @@ pub(crate) fn run_all<
         MOST_SCRIPTS,
         &|_, worker: &mut Worker<K>|
             requires { P.accepts process.now context.now × (ruled_capacity queue.now ≡ 1) × IsReadyToRun K.faults queue.now.table.shared.table_id list.now scripts.now worker.old }
-            ensures { IsGone queue.entry.now.table.shared.table_id list.entry.now scripts.entry.now worker.new × HasTaken K.faults worker.old worker.new × KnowsOwnOf (meanings (P.image_fault process.entry.now) (P.report process.entry.now context.entry.now)) scripts.entry.now worker.new }
+            ensures { IsGone queue.entry.now.table.shared.table_id list.entry.now scripts.entry.now worker.new × HasTaken K.faults worker.old worker.new × KnowsOwnOf (meanings (P.image_fault process.entry.now) (P.report process.entry.now context.entry.now)) scripts.entry.now worker.new × IsWholeOf scripts.entry.now worker.new }
         {
             let script = &scripts[worker.script as usize];
             worker.run(rt, queue, list, script, process, context, gate)

@@ -129,4 +129,9 @@ pub record IsGone {K : Type 0} (queue list : TableId) (scripts : List ScriptValu
   pub so_far : SoFar w.script list script.statements count (view w.turns)
   pub image : HasImage list w
   pub lines : All (λ (l : PassLine). l.at < length script.statements) w.lines.items
+
+-- the same of the script of its number
+pub record IsWholeOf {K : Type 0} (scripts : List ScriptValue) (w : Worker K) : Type 0 where
+  pub script : ScriptValue
+  pub stands : slice_get scripts w.script ≡ Some script
   pub whole : IsWhole script w
