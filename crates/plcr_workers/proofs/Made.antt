@@ -363,6 +363,11 @@ new_empty scripts workers new k other less =
 pub still_new : {K : Type 0} (faults : K → ℕ) (scripts : List ScriptValue) (count : ℕ) (olds news : List (Worker K)) (old now : Told) → AreNew scripts olds → count < length olds → MakingAll faults scripts count olds news old now → (other : Worker K) → IsNew scripts count (get_or news count other)
 still_new {K = K} faults scripts count olds news old now new within m other = subst (λ (w : Worker K). IsNew scripts count w) (sym (m.later count other (omega arith) within)) (new count other within)
 
+-- ---- what an index gives
+
+pub stands_in : {A : Type 0} (xs : List A) (i : ℕ) (x : A) → i < length xs → x ≡ get_or xs i x → slice_get xs i ≡ Some x
+stands_in xs i x less is = slice_get-get_or xs i x less ∙ ap Some (sym is)
+
 -- ---- what was answered
 
 pub ok_of : {A E X : Type 0} {r : Result A E} {a : A} → r ≡ Ok a → OnOk r X → X
