@@ -378,3 +378,7 @@ err_of {A} {E} P is h = subst (λ (r : Result A E). IfErr r P) is h
 
 pub on_err_of : {A E X : Type 0} {r : Result A E} {e : E} → r ≡ Err e → OnErr r X → X
 on_err_of {A} {E} {X} is h = subst (λ (r : Result A E). OnErr r X) is h
+
+pub on_err_map : {A E X Y : Type 0} (r : Result A E) → (X → Y) → OnErr r X → OnErr r Y
+on_err_map (Ok a) f h = tt
+on_err_map (Err e) f h = f h
