@@ -113,12 +113,12 @@ pub run_tells : (core : List ℕ) (scripts : List (List ℕ)) (job : Job) (past 
 run_tells core scripts job past Done old mid new lines lines' faults faults' read same ran = record {
   value = job;
   read = read_after (IsJob SIDE_BY_SIDE) (job_files core scripts) job old mid new read same;
-  ends = record { writer = ran.3.met.writer; is = ran.3.met.is; journal = ran.0; tells = ran.3.tells; whole = λ zero. (ran.1, ran.4) };
+  ends = record { writer = ran.3.met.writer; is = ran.3.met.is; journal = ran.0; tells = ran.3.tells; applied = λ zero. ran.5; printed = λ zero. (ran.1, ran.4) };
 }
 run_tells core scripts job past Stopped old mid new lines lines' faults faults' read same ran = record {
   value = job;
   read = read_after (IsJob SIDE_BY_SIDE) (job_files core scripts) job old mid new read same;
-  ends = record { writer = ran.2.met.writer; is = ran.2.met.is; journal = ran.0; tells = ran.2.tells; whole = λ zero. absurd (omega (arith, zero)) };
+  ends = record { writer = ran.2.met.writer; is = ran.2.met.is; journal = ran.0; tells = ran.2.tells; applied = λ zero. absurd (omega (arith, zero)); printed = λ zero. absurd (omega (arith, zero)) };
 }
 run_tells core scripts job past (Refused refusal) old mid new lines lines' faults faults' read same ran = tt
 run_tells core scripts job past Misused old mid new lines lines' faults faults' read same ran = tt

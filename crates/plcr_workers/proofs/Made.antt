@@ -71,16 +71,16 @@ files_rest (s ∷ statements) (suc at) =
 
 -- a statement that is no report has no file
 pub not_report : (st : Statement) → ((pass : ℕ) (file : List ℕ) → st ≡ statements.Report pass file → ⊥) → reading.file_of st ≡ None
-not_report (statements.Load header name) no = refl
-not_report (statements.Unload header) no = refl
-not_report (statements.BeginLoad header name) no = refl
-not_report (statements.BeginUnload header) no = refl
-not_report (statements.Step most) no = refl
-not_report statements.End no = refl
-not_report (statements.Enter pass) no = refl
-not_report (statements.Walk pass most) no = refl
-not_report (statements.Leave pass) no = refl
-not_report (statements.Report pass file) no = absurd (no pass file refl)
+not_report (statements.Load header name) other = refl
+not_report (statements.Unload header) other = refl
+not_report (statements.BeginLoad header name) other = refl
+not_report (statements.BeginUnload header) other = refl
+not_report (statements.Step most) other = refl
+not_report statements.End other = refl
+not_report (statements.Enter pass) other = refl
+not_report (statements.Walk pass most) other = refl
+not_report (statements.Leave pass) other = refl
+not_report (statements.Report pass file) other = absurd (other pass file refl)
 
 -- ---- the desk
 
@@ -363,13 +363,22 @@ new_empty scripts workers new k other less =
 pub still_new : {K : Type 0} (faults : K → ℕ) (scripts : List ScriptValue) (count : ℕ) (olds news : List (Worker K)) (old now : Told) → AreNew scripts olds → count < length olds → MakingAll faults scripts count olds news old now → (other : Worker K) → IsNew scripts count (get_or news count other)
 still_new {K = K} faults scripts count olds news old now new within m other = subst (λ (w : Worker K). IsNew scripts count w) (sym (m.later count other (omega arith) within)) (new count other within)
 
+-- ---- what an index gives
+
+pub stands_in : {A : Type 0} (xs : List A) (i : ℕ) (x : A) → i < length xs → x ≡ get_or xs i x → slice_get xs i ≡ Some x
+stands_in xs i x less is = slice_get-get_or xs i x less ∙ ap Some (sym is)
+
 -- ---- what was answered
 
 pub ok_of : {A E X : Type 0} {r : Result A E} {a : A} → r ≡ Ok a → OnOk r X → X
 ok_of {A} {E} {X} is h = subst (λ (r : Result A E). OnOk r X) is h
 
-pub err_of : {A E : Type 0} {P : E → Type 0} {r : Result A E} {e : E} → r ≡ Err e → IfErr r P → P e
-err_of {A} {E} {P} is h = subst (λ (r : Result A E). IfErr r P) is h
+pub err_of : {A E : Type 0} (P : E → Type 0) {r : Result A E} {e : E} → r ≡ Err e → IfErr r P → P e
+err_of {A} {E} P is h = subst (λ (r : Result A E). IfErr r P) is h
 
 pub on_err_of : {A E X : Type 0} {r : Result A E} {e : E} → r ≡ Err e → OnErr r X → X
 on_err_of {A} {E} {X} is h = subst (λ (r : Result A E). OnErr r X) is h
+
+pub on_err_map : {A E X Y : Type 0} (r : Result A E) → (X → Y) → OnErr r X → OnErr r Y
+on_err_map (Ok a) f h = tt
+on_err_map (Err e) f h = f h

@@ -1,7 +1,8 @@
 -- Passes meet the writer, one after the other.
-use Rattle.std.proofs.Common.{◌≡◌, ℕ, true, List, [], ◌∷◌, ◌++◌, Option, refl, sym, ap, ◌∙◌, subst, eqb, arith}
+use Rattle.std.proofs.Common.{◌≡◌, ℕ, ◌<◌, true, List, [], ◌∷◌, ◌++◌, Option, length, refl, sym, ap, ◌∙◌, subst, eqb, get_or, arith}
 use Rattle.std.specs.Prelude.{All}
 use Rattle.std.proofs.lemmas.Bool.{or_right}
+use Rattle.atomic_table.specs.Seated.{TableId}
 use Rattle.std.proofs.lemmas.List.Elements.{All-nil, All-cons, All-weaker}
 use Rattle.plcr_machine.specs.declared.entry.Entry.{Entry}
 use Rattle.plcr_machine.specs.Lists.{Grows}
@@ -11,9 +12,12 @@ use Rattle.plcr_nodes.proofs.Seeing.{grows_again}
 use Rattle.plcr_imagelist.specs.States.{WriterState, IsAtRest}
 use Rattle.plcr_imagelist.specs.Holds.{WalkerState}
 use Rattle.plcr_imagelist.specs.Listing.{AddsChanges}
+use Rattle.plcr_imagelist.specs.Opening.{opened_walkers}
 use Rattle.plcr_imagelist.specs.Tellings.{IsMet}
 use Rattle.plcr_imagelist.proofs.Changed.{met_adds, adds_more}
 use Rattle.plcr_imagelist.proofs.Looking.{went_again}
+use Rattle.plcr_imagelist.proofs.Opened.{walkers_numbered}
+use Rattle.plcr_workers.specs.inner.Hired.{AreInOrder}
 use Rattle.plcr_workers.specs.inner.Stages.{HasMetThese}
 
 pub met_none : (writer : WriterState) → HasMetThese [] writer writer
@@ -47,3 +51,14 @@ met_one passes pass start old new rest m met =
       known = All-cons Knows pass passes (subst (λ (ns : List (List ℕ)). WentOn pass.names ns) (sym names) met.named)
           (All-weaker (λ (i : WalkerState). WentOn i.names old.names) Knows (λ i before. subst (λ (ns : List (List ℕ)). WentOn i.names ns) (sym names) (went_again i.names old.names met.names before met.sees.named)) passes m.known);
     }
+
+-- ---- the passes of a list that was just opened
+
+pub opened_count : (table : TableId) (nodes passes : ℕ) (images : List WalkerState) → images ≡ opened_walkers table nodes passes passes → length images ≡ passes
+opened_count table nodes passes images are = ap length are ∙ (walkers_numbered table nodes passes passes).0
+
+pub opened_in_order : (table : TableId) (nodes passes : ℕ) (images : List WalkerState) → images ≡ opened_walkers table nodes passes passes → AreInOrder table images
+opened_in_order table nodes passes images are place other less =
+    let count = opened_count table nodes passes images are in
+    let is = ap (λ (l : List WalkerState). get_or l place other) are ∙ (walkers_numbered table nodes passes passes).1 place other (omega (arith, less, count)) in
+    (ap (λ (w : WalkerState). w.table) is, ap (λ (w : WalkerState). w.number) is)

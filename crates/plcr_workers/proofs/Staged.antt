@@ -22,13 +22,14 @@ use Rattle.plcr_command.specs.Lines.{cannot_write}
 use Rattle.plcr_command.specs.Endings.{kept_names}
 use Rattle.plcr_turns.specs.declared.lines.ChangeLine.{ChangeLine}
 use Rattle.plcr_workers.specs.declared.drafts.Draft.{Draft}
+use Rattle.plcr_workers.specs.declared.drafts.Progress.TheVariants.{Written}
 use Rattle.plcr_workers.specs.declared.lines.PassLine.{PassLine}
 use Rattle.plcr_workers.specs.declared.making.Unwritten.{Unwritten}
 use Rattle.plcr_workers.specs.declared.worker.Worker.{Worker}
 use Rattle.plcr_workers.specs.Log.{threads_log}
 use Rattle.plcr_workers.specs.Command.{AllKept, NotAllKept, NotPrinted}
 use Rattle.plcr_workers.specs.inner.Outputs.{name_at, draft_names, outputs_of, AreFiles, HasKeptAll, HasKeptUpTo, HasDropped, HasOpenFor, IsDraftOf, NotAllMade, StandsAt}
-use Rattle.plcr_workers.specs.inner.Stages.{HasWorked, LeftOf, LogEnds, RunEnds, Settles}
+use Rattle.plcr_workers.specs.inner.Stages.{AppliesAll, HasWorked, LeftOf, LogEnds, RunEnds, Settles}
 use Rattle.plcr_workers.proofs.Settled.{rose_first}
 use Rattle.plcr_workers.proofs.Worked.{all_behind}
 
@@ -172,12 +173,12 @@ settled_nothing written scripts drafts (Err unmade) old new (Ok kept) s = absurd
 settled_nothing written scripts drafts (Err unmade) old new (Err unwritten) s = s.1.nothing
 
 module _ {K : Type 0} (written : K → Option (List ℕ)) (faults : K → ℕ) (job : Job) (workers : List (Worker K)) (drafts : List (Draft K)) (same : drafts ≡ outputs_of workers)
-    (old mid new : Told) (lines lines' : Option (List ℕ)) (counts counts' : ℕ) (past : Option WriterState) (journal : List ChangeLine) (left : LeftOf job past journal) where
+    (old mid new : Told) (lines lines' : Option (List ℕ)) (counts counts' : ℕ) (past : Option WriterState) (journal : List ChangeLine) (left : LeftOf job past journal) (applies : AppliesAll job.scripts workers journal) where
 
   -- all were kept, and so the printing ended
   pub kept_ends : (made : Result (Unit {0}) Unwritten) (done : Unit {0}) (others : List (List PassLine)) (ending : Ending) → Worked faults job.scripts workers old mid made → Settles written job.scripts drafts made mid new (Ok done)
       → LogEnds lines lines' (threads_log job.scripts journal others) counts counts' ending → RunEnds job (seen old lines counts) (seen new lines' counts') past ending
-  kept_ends (Ok ok) done others Done w k ends = (journal, others, all_kept written faults job workers drafts same old mid new lines lines' counts counts' journal others w k ends, left, ends)
+  kept_ends (Ok ok) done others Done w k ends = (journal, others, all_kept written faults job workers drafts same old mid new lines lines' counts counts' journal others w k ends, left, ends, applies w.wholes (subst (All (λ (d : Draft K). d.progress ≡ Written)) same k.whole))
   kept_ends (Ok ok) done others Stopped w k ends = (journal, inr (not_printed written faults job workers drafts same old mid new lines lines' counts counts' journal others w k ends.0 ends.1), left)
   kept_ends (Ok ok) done others (Refused refusal) w k ends = absurd ends
   kept_ends (Ok ok) done others Misused w k ends = absurd ends

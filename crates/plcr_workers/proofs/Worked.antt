@@ -40,14 +40,14 @@ use Rattle.plcr_workers.specs.declared.worker.Worker.{Worker}
 use Rattle.plcr_workers.specs.Command.{IsJournalOf, IsWriterOf, meanings_in}
 use Rattle.plcr_workers.specs.Log.{file_of}
 use Rattle.plcr_workers.specs.inner.Drafts.{AreSamePlaces, HasTaken, HaveTaken}
-use Rattle.plcr_workers.specs.inner.Hired.{IsHired, IsReadyToRun, IsGone, AreNew, AreNumbered, AreFromTheLast, lines_left, passes_left, views_of}
+use Rattle.plcr_workers.specs.inner.Hired.{IsHired, IsReadyToRun, IsGone, IsWholeOf, AreNew, AreNumbered, AreFromTheLast, lines_left, passes_left, views_of}
 use Rattle.plcr_workers.specs.inner.Own.{HaveOwnLines, KnowsOwnOf}
 use Rattle.plcr_workers.specs.Known.{HasEnded}
-use Rattle.plcr_workers.proofs.Joined.{AllKnow, all_known, first_applied, pass_of}
+use Rattle.plcr_workers.proofs.Joined.{AllKnow, all_known, first_applied, outputs_each, pass_of, whole_applied}
 use Rattle.plcr_workers.proofs.Outcomes.{known_journals_are, known_journals_run}
 use Rattle.plcr_workers.proofs.Owned.{nothing_own}
 use Rattle.plcr_workers.specs.inner.Outputs.{AllMade, AreDone, AreMade, AreSameWorkers, IsDraftOf, IsSameWorker, draft_names, name_at, outputs_of}
-use Rattle.plcr_workers.specs.inner.Stages.{AreLinesOf, HasMetThese, HasWorked}
+use Rattle.plcr_workers.specs.inner.Stages.{AppliesAll, AreLinesOf, HasMetThese, HasWorked}
 
 -- ---- the outputs
 
@@ -237,10 +237,10 @@ ready_all faults queue list scripts workers old new made numbers hired apart k o
     let own = subst (λ (s : ScriptValue). HaveOwnLines s.statements) (get_or_from_slice_get scripts k h.script h.script stands) (apart k h.script here) in
     ready_one faults queue list scripts w h (subst (λ (n : ℕ). AreMade faults n h.script.statements (length h.script.statements) w.drafts.items) (sym number) (made.each k other h.script stands within)) own
 
-pub has_worked : {K : Type 0} (faults : K → ℕ) (scripts : List ScriptValue) (olds news : List (Worker K)) (old new : Told) → AllMade faults scripts olds old new → HaveTaken faults olds news → HasWorked faults scripts news old new
-has_worked faults scripts olds news old new made taken =
+pub has_worked : {K : Type 0} (faults : K → ℕ) (scripts : List ScriptValue) (olds news : List (Worker K)) (old new : Told) → AllMade faults scripts olds old new → HaveTaken faults olds news → All (λ w. IsWholeOf scripts w) news → HasWorked faults scripts news old new
+has_worked faults scripts olds news old new made taken wholes =
     let t = outputs_taken faults scripts olds news taken made.are in
-    record { made = made.made; names = t.names ∙ made.names; are = t.are; done = t.done }
+    record { made = made.made; names = t.names ∙ made.names; are = t.are; done = t.done; wholes = wholes }
 
 -- ---- what workers know that never ran
 
@@ -260,29 +260,36 @@ know_all process queue list scripts workers hired k other within = hired_knows p
 
 -- ---- the journal
 
-pub journal_is : {K : Type 0} (process : Meanings) (queue list : TableId) (scripts : List ScriptValue) (workers : List (Worker K)) (chief : View) (t : TurnState) (images : List WalkerState) (w : WriterState) → length workers ≡ length scripts → AreNumbered workers
-    → HasGathered (length scripts) list (views_of workers) chief → AreWorking 0 list (views_of workers) → All (λ x. IsGone queue list scripts x) workers → All (λ x. KnowsOwnOf process scripts x) workers → IsTaken chief t → IsTurn t
-    → map Some images ≡ reverse (passes_left workers) → HasMetThese images t.writer w → IsJournalOf process scripts t.journal w
-journal_is process queue list scripts workers chief t images w count numbers gathered working gone own taken turn left met =
-    let all : AllKnow process queue list scripts workers chief t w.names = record {
-      gathered = gathered;
-      working = working;
-      numbers = numbers;
-      count = count;
-      gone = gone;
-      own = own;
-      met = λ n x image at has. pass_of (λ (i : WalkerState). WentOn i.names w.names) workers images n x image left met.known at has;
-      taken = taken;
-      turn = turn;
-    } in
-    let ended : HasEnded t w = record { grows = met.grows; went = met.went; changes = met.changes; sizes = met.sizes } in
-    let known = all_known process queue list scripts workers chief t w.names all in
-    record {
-      lines = first_applied process queue list scripts workers chief t w.names all;
-      alone = subst (λ (n : ℕ). All (λ (l : ChangeLine). l.script < n) t.journal) (sym taken.count ∙ gathered.count_is) turn.alone;
-      changes = known_journals_are process scripts t w turn ended known;
-      outcomes = known_journals_run process scripts t w turn ended known;
-    }
+module _ {K : Type 0} (process : Meanings) (queue list : TableId) (scripts : List ScriptValue) (workers : List (Worker K)) (chief : View) (t : TurnState) (images : List WalkerState) (w : WriterState) (count : length workers ≡ length scripts) (numbers : AreNumbered workers)
+    (gathered : HasGathered (length scripts) list (views_of workers) chief) (working : AreWorking 0 list (views_of workers)) (gone : All (λ x. IsGone queue list scripts x) workers) (own : All (λ x. KnowsOwnOf process scripts x) workers) (taken : IsTaken chief t) (turn : IsTurn t)
+    (left : map Some images ≡ reverse (passes_left workers)) (met : HasMetThese images t.writer w) where
+
+  all_know : AllKnow process queue list scripts workers chief t w.names
+  all_know = record {
+    gathered = gathered;
+    working = working;
+    numbers = numbers;
+    count = count;
+    gone = gone;
+    own = own;
+    met = λ n x image at has. pass_of (λ (i : WalkerState). WentOn i.names w.names) workers images n x image left met.known at has;
+    taken = taken;
+    turn = turn;
+  }
+
+  pub journal_is : IsJournalOf process scripts t.journal w
+  journal_is =
+      let ended : HasEnded t w = record { grows = met.grows; went = met.went; changes = met.changes; sizes = met.sizes } in
+      let known = all_known process queue list scripts workers chief t w.names all_know in
+      record {
+        lines = first_applied process queue list scripts workers chief t w.names all_know;
+        alone = subst (λ (n : ℕ). All (λ (l : ChangeLine). l.script < n) t.journal) (sym taken.count ∙ gathered.count_is) turn.alone;
+        changes = known_journals_are process scripts t w turn ended known;
+        outcomes = known_journals_run process scripts t w turn ended known;
+      }
+
+  pub journal_applies : AppliesAll scripts workers t.journal
+  journal_applies wholes written = whole_applied process queue list scripts workers chief t w.names all_know wholes (outputs_each (λ (d : Draft K). d.progress ≡ Written) workers written)
 
 pub few_lines : (count : ℕ) (list : TableId) (views : List View) (chief : View) (t : TurnState) → HasGathered count list views chief → IsTaken chief t → IsTurn t → All (λ (l : ChangeLine). l.script < count) t.journal
 few_lines count list views chief t gathered taken turn = subst (λ (n : ℕ). All (λ (l : ChangeLine). l.script < n) t.journal) (sym taken.count ∙ gathered.count_is) turn.alone

@@ -91,6 +91,10 @@ abbrev pub meanings_in : Core → List ScriptValue → Meanings
 meanings_in core [] = meanings (fault_at core) (λ images. [])
 meanings_in core (script ∷ scripts) = meanings_of core script
 
+-- each load and unload line of each script was applied, once and in the script's order
+abbrev pub AllApplied : List ScriptValue → List ChangeLine → Type 0
+AllApplied scripts journal = (number : ℕ) (script : ScriptValue) → slice_get scripts number ≡ Some script → wanted_by (lines_of number journal) ≡ change_lines script.statements
+
 -- a journal of these scripts and the history that the writer has seen are one another's: it has of each script the first of its load and unload lines, in order, each once, and no other lines; its accepted lines are the changes of the history, in order; and each line came to what those before it make of it
 pub record IsJournalOf (process : Meanings) (scripts : List ScriptValue) (journal : List ChangeLine) (w : WriterState) : Type 0 where
   pub lines : (number : ℕ) (script : ScriptValue) → slice_get scripts number ≡ Some script → (count : ℕ) × (wanted_by (lines_of number journal) ≡ take count (change_lines script.statements))
@@ -98,13 +102,14 @@ pub record IsJournalOf (process : Meanings) (scripts : List ScriptValue) (journa
   pub changes : changes_of w.names w.history ≡ accepted_changes scripts journal
   pub outcomes : JournalRuns process scripts w [] [] journal
 
--- the run of a job's scripts left a writer, and its journal is one another's with what this has seen; where all was done, that journal is the one that was printed
+-- the run of a job's scripts left a writer, and its journal is one another's with what this has seen; where all was done, that journal has each line of the scripts, and is the one that was printed
 pub record RanTogether (past : Option WriterState) (status : ℕ) (job : Job) (old new : Seen) : Type 0 where
   pub writer : WriterState
   pub is : past ≡ Some writer
   pub journal : List ChangeLine
   pub tells : IsJournalOf (meanings_in job.core job.scripts) job.scripts journal writer
-  pub whole : status ≡ 0 → (others : List (List PassLine)) × (new.lines ≡ append_known old.lines (threads_log job.scripts journal others))
+  pub applied : status ≡ 0 → AllApplied job.scripts journal
+  pub printed : status ≡ 0 → (others : List (List PassLine)) × (new.lines ≡ append_known old.lines (threads_log job.scripts journal others))
 
 -- where `threads CORE SCRIPT...` came to its run, what the journal tells is true
 abbrev pub ThreadsTell : List ℕ → List (List ℕ) → Seen → Seen → Option WriterState → ℕ → Type 0

@@ -18,7 +18,7 @@ ghost use Rattle.plcr_workers.specs.Log.{scripts_text, threads_log};
 ghost use Rattle.plcr_workers.specs.inner.Hired.{AreNew, AreNumbered, IsGone, IsHired};
 ghost use Rattle.plcr_workers.specs.inner.Outputs.{AreDone, HasOpenFor, IsDraftOf, NotAllMade, StandsAt, in_order, name_at, outputs_of};
 ghost use Rattle.plcr_workers.specs.inner.Own.{HaveOwnLines, KnowsOwnOf};
-ghost use Rattle.plcr_workers.specs.inner.Stages.{AreLinesOf, HasWorked, IsStage, LogEnds, RunEnds, Settles, items_of};
+ghost use Rattle.plcr_workers.specs.inner.Stages.{AppliesAll, AreLinesOf, HasWorked, IsStage, LogEnds, RunEnds, Settles, items_of};
 
 use crate::crew::{Left, gather, run_all};
 use crate::drafts::Draft;
@@ -159,7 +159,7 @@ fn end_workers<R: Wait, K: Sink + Drop>(
     requires others_room { vec_len room.others + vec_len workers ≤ vec_capacity room.others }
     requires none { (vec_len room.images ≡ 0) × (vec_len room.drafts ≡ 0) × (vec_len room.others ≡ 0) }
     ensures writer { IsWriterOf scripts.now (Some result.writer) }
-    ensures tells { (process : Meanings) → All (λ w. KnowsOwnOf process scripts.now w) workers.items → IsJournalOf process scripts.now result.journal.items result.writer }
+    ensures tells { (process : Meanings) → All (λ w. KnowsOwnOf process scripts.now w) workers.items → IsJournalOf process scripts.now result.journal.items result.writer × AppliesAll scripts.now workers.items result.journal.items }
     ensures journal { All (λ (l : JournalLine). l.script < length scripts.now) result.journal.items }
     ensures drafts { in_order result.drafts.items ≡ outputs_of workers.items }
     ensures others { AreLinesOf scripts.now result.others.items }

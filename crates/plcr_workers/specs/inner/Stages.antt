@@ -27,12 +27,13 @@ use Rattle.plcr_workers.specs.Log.{threads_log}
 use Rattle.plcr_turns.specs.Gathering.{HasGathered}
 use Rattle.plcr_workers.specs.declared.opening.Stage.{Stage}
 use Rattle.plcr_workers.specs.declared.drafts.Draft.{Draft}
+use Rattle.plcr_workers.specs.declared.drafts.Progress.TheVariants.{Written}
 use Rattle.plcr_workers.specs.declared.lines.PassLine.{PassLine}
 use Rattle.plcr_workers.specs.declared.making.Unwritten.{Unwritten}
 use Rattle.plcr_workers.specs.declared.worker.Worker.{Worker}
-use Rattle.plcr_workers.specs.inner.Hired.{IsHired, AreNew}
+use Rattle.plcr_workers.specs.inner.Hired.{IsHired, IsWholeOf, AreNew}
 use Rattle.plcr_workers.specs.inner.Outputs.{AreDone, HasDropped, HasKeptAll, HasKeptUpTo, HasMade, IsDraftOf, draft_names, outputs_of}
-use Rattle.plcr_workers.specs.Command.{AllKept, HasStopped, IsJournalOf, IsWriterOf, LeftByScripts, RanTogether, meanings_in}
+use Rattle.plcr_workers.specs.Command.{AllApplied, AllKept, HasStopped, IsJournalOf, IsWriterOf, LeftByScripts, RanTogether, meanings_in}
 
 -- the writer has met these passes, and made nothing meanwhile
 pub record HasMetThese (passes : List WalkerState) (old new : WriterState) : Type 0 where
@@ -61,6 +62,12 @@ pub record HasWorked {K : Type 0} (faults : K → ℕ) (scripts : List ScriptVal
   pub names : draft_names scripts (outputs_of workers) ≡ written_by scripts
   pub are : All (IsDraftOf scripts) (outputs_of workers)
   pub done : AreDone faults (outputs_of workers)
+  pub wholes : All (λ (w : Worker K). IsWholeOf scripts w) workers
+
+-- where such workers have written all outputs whole, all lines were applied
+abbrev pub AppliesAll : {K : Type 0} → List ScriptValue → List (Worker K) → List ChangeLine → Type 0
+AppliesAll {K = K} scripts workers journal =
+    All (λ (w : Worker K). IsWholeOf scripts w) workers → All (λ (d : Draft K). d.progress ≡ Written) (outputs_of workers) → AllApplied scripts journal
 
 -- each of these lines is that of a statement of the script at its place
 pub record AreLinesOf (scripts : List ScriptValue) (others : List (Vec PassLine Global)) : Type 0 where
@@ -92,7 +99,7 @@ pub record LeftOf (job : Job) (past : Option WriterState) (journal : List Change
 
 -- how the run of a job ends
 abbrev pub RunEnds : Job → Seen → Seen → Option WriterState → Ending → Type 0
-RunEnds job old new past Done = (journal : List ChangeLine) × (others : List (List PassLine)) × AllKept job old new × LeftOf job past journal × (new.lines ≡ append_known old.lines (threads_log job.scripts journal others))
+RunEnds job old new past Done = (journal : List ChangeLine) × (others : List (List PassLine)) × AllKept job old new × LeftOf job past journal × (new.lines ≡ append_known old.lines (threads_log job.scripts journal others)) × AllApplied job.scripts journal
 RunEnds job old new past Stopped = (journal : List ChangeLine) × HasStopped job old new × LeftOf job past journal
 RunEnds job old new past (Refused OutOfMemory) = (new ≡ old) × (past ≡ None)
 RunEnds job old new past (Refused refusal) = ⊥

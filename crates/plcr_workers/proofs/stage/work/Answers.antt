@@ -33,7 +33,7 @@ run_all-requires-clause-ready g c =
 
 pub returns-clause-ok : goal.returns-clause-ok
 returns-clause-ok g c =
-    has_worked g.D.Out.Sink.faults c.args.job.now.scripts c.make_all.new.workers c.run_all.new.workers (g.D.Desk.told c.args.desk.now) (g.D.Desk.told c.make_all.new.desk) (ok_of c.in_default-make_all.is c.make_all.ensures.ok) c.run_all.ensures.taken
+    has_worked g.D.Out.Sink.faults c.args.job.now.scripts c.make_all.new.workers c.run_all.new.workers (g.D.Desk.told c.args.desk.now) (g.D.Desk.told c.make_all.new.desk) (ok_of c.in_default-make_all.is c.make_all.ensures.ok) c.run_all.ensures.taken c.run_all.ensures.whole
 
 pub returns-clause-own : goal.returns-clause-own
 returns-clause-own g c =
