@@ -149,6 +149,25 @@ fn refuses_and_stops(rt: HostRuntime) -> Result<(), Fail> {
     Ok(())
 }
 
+// A state that stands in a wrapping one is the same state.
+#[test]
+fn reports_a_wrapped_thread_state(rt: HostRuntime) -> Result<(), Fail> {
+    let alloc = rt.alloc();
+    let mut desk = desk(
+        alloc,
+        Core::WrappedState,
+        b"report 0 a\n",
+        Vec::new(alloc),
+        Vec::new(alloc),
+    )?;
+    let mut lines = lines(alloc)?;
+    let status = report_command(alloc, "c", "s", &mut desk, &mut lines, &mut None);
+    assert_eq!(rt; status, 0);
+    assert_eq!(rt; lines.bytes(), b"1 report a 271 0 0 0\n".as_slice());
+    assert_eq!(rt; desk.file("a").ok_or("not kept")?, REPORT.as_slice());
+    Ok(())
+}
+
 #[test]
 fn stops_at_a_line(rt: HostRuntime) -> Result<(), Fail> {
     let alloc = rt.alloc();

@@ -226,7 +226,7 @@ module _ {K : Type 0} (written : K → Option (List ℕ)) (faults : K → ℕ) (
     (tells : (process : Meanings) → All (λ x. KnowsOwnOf process job.scripts x) lent → IsJournalOf process job.scripts journal w × AppliesAll job.scripts lent journal) where
 
   outputs_same : drafts ≡ outputs_of workers
-  outputs_same = are ∙ ap outputs_of front
+  outputs_same = are ∙ ap (λ (l : List (Worker K)). outputs_of l) front
 
   told : IsJournalOf (meanings_in job.core job.scripts) job.scripts journal w × AppliesAll job.scripts lent journal
   told = tells (meanings_in job.core job.scripts) (subst (λ (l : List (Worker K)). All (λ x. KnowsOwnOf (meanings_in job.core job.scripts) job.scripts x) l) (sym front) own)
