@@ -23,7 +23,15 @@ fn reports_one_thread(rt: HostRuntime) -> Result<(), Fail> {
     let core = String::from_str(alloc, "c")?;
     let script = String::from_str(alloc, "s")?;
     let words = vec![in alloc; report, core, script]?;
-    let status = top(&rt, alloc, words.as_slice(), &mut desk, &mut lines, &NoGate, &mut None);
+    let status = top(
+        &rt,
+        alloc,
+        words.as_slice(),
+        &mut desk,
+        &mut lines,
+        &NoGate,
+        &mut None,
+    );
     assert_eq!(rt; status, 0);
     assert_eq!(rt; lines.bytes(), b"1 report a.plcrash 271 0 0 0\n".as_slice());
     assert_eq!(rt;
@@ -43,7 +51,15 @@ fn said<R: Threads + Wait + Sync>(
     let owned = words(alloc, said)?;
     let mut desk = desk(alloc, Core::Whole, script, Vec::new(alloc), Vec::new(alloc))?;
     let mut lines = lines(alloc)?;
-    let status = top(rt, alloc, owned.as_slice(), &mut desk, &mut lines, &NoGate, &mut None);
+    let status = top(
+        rt,
+        alloc,
+        owned.as_slice(),
+        &mut desk,
+        &mut lines,
+        &NoGate,
+        &mut None,
+    );
     Ok((status, lines))
 }
 

@@ -64,7 +64,6 @@ module _ {K : Type 0} (written : K → Option (List ℕ)) (scripts : List Script
 
 module _ {K : Type 0} (written : K → Option (List ℕ)) (faults : K → ℕ) (job : Job) (workers : List (Worker K)) (drafts : List (Draft K)) (same : drafts ≡ outputs_of workers)
     (old mid new : Told) (lines lines' : Option (List ℕ)) (counts counts' : ℕ) where
-
   names_are : HasWorked faults job.scripts workers old mid → draft_names job.scripts drafts ≡ written_by job.scripts
   names_are w = ap (λ (l : List (Draft K)). draft_names job.scripts l) same ∙ w.names
 
@@ -176,7 +175,6 @@ settled_nothing written scripts drafts (Err unmade) old new (Err unwritten) s = 
 
 module _ {K : Type 0} (written : K → Option (List ℕ)) (faults : K → ℕ) (job : Job) (workers : List (Worker K)) (drafts : List (Draft K)) (same : drafts ≡ outputs_of workers)
     (old mid new : Told) (lines lines' : Option (List ℕ)) (counts counts' : ℕ) (past : Option WriterState) (journal : List ChangeLine) (left : LeftOf job past journal) (applies : AppliesAll job.scripts workers journal) where
-
   -- all were kept, and so the printing ended
   pub kept_ends : (made : Result (Unit {0}) Unwritten) (done : Unit {0}) (others : List (List PassLine)) (ending : Ending) → Worked faults job.scripts workers old mid made → Settles written job.scripts drafts made mid new (Ok done)
       → LogEnds lines lines' (threads_log job.scripts journal others) counts counts' ending → RunEnds job (seen old lines counts) (seen new lines' counts') past ending
@@ -190,9 +188,12 @@ module _ {K : Type 0} (written : K → Option (List ℕ)) (faults : K → ℕ) (
   pub cut_ends : (made : Result (Unit {0}) Unwritten) (unwritten : Unwritten) → Worked faults job.scripts workers old mid made → Settles written job.scripts drafts made mid new (Err unwritten)
       → Prints lines lines' (cannot_write (name_at job.scripts unwritten.script unwritten.at)) counts counts' → RunEnds job (seen old lines counts) (seen new lines' counts') past Stopped
   cut_ends (Ok ok) unwritten w k prints = (journal, inl (not_kept written faults job workers drafts same old mid new lines lines' counts counts' unwritten.script unwritten.at w k prints), left)
-  cut_ends (Err unmade) unwritten w k prints =
-      (journal, inl (not_made written faults job workers drafts same old mid new lines lines' counts counts' unwritten.script unwritten.at
-      (subst (λ (u : Unwritten). NotAllMade job.scripts workers u.script u.at old mid) (sym k.0) w) k.1 prints), left)
+  cut_ends (Err unmade) unwritten w k prints = (
+    journal,
+    inl (not_made written faults job workers drafts same old mid new lines lines' counts counts' unwritten.script unwritten.at
+        (subst (λ (u : Unwritten). NotAllMade job.scripts workers u.script u.at old mid) (sym k.0) w) k.1 prints),
+    left,
+  )
 
 -- the report whose file is named stands in its script
 pub cut_stands : {K : Type 0} (written : K → Option (List ℕ)) (faults : K → ℕ) (scripts : List ScriptValue) (workers : List (Worker K)) (drafts : List (Draft K)) (same : drafts ≡ outputs_of workers) (old mid new : Told) (made : Result (Unit {0}) Unwritten) (unwritten : Unwritten)
@@ -224,7 +225,6 @@ left_of job w journal met tells = record { met = met; tells = subst (λ (x : Wri
 module _ {K : Type 0} (written : K → Option (List ℕ)) (faults : K → ℕ) (job : Job) (workers lent : List (Worker K)) (front : lent ≡ workers) (drafts : List (Draft K)) (are : drafts ≡ outputs_of lent) (old mid new : Told) (lines lines' : Option (List ℕ)) (counts counts' : ℕ)
     (made : Result (Unit {0}) Unwritten) (w : WriterState) (journal : List ChangeLine) (worked : Worked faults job.scripts workers old mid made) (own : All (λ x. KnowsOwnOf (meanings_in job.core job.scripts) job.scripts x) workers) (met : IsWriterOf job.scripts (Some w))
     (tells : (process : Meanings) → All (λ x. KnowsOwnOf process job.scripts x) lent → IsJournalOf process job.scripts journal w × AppliesAll job.scripts lent journal) where
-
   outputs_same : drafts ≡ outputs_of workers
   outputs_same = are ∙ ap (λ (l : List (Worker K)). outputs_of l) front
 

@@ -41,9 +41,10 @@ returns-clause-tells g c = λ process own.
     let count = sym c.args.workers.ok.0 ∙ c.requires.count in
     let met = subst (λ (x : WriterState). HasMetThese images x w) c.end.ensures.writer c.meet_all-writer.ensures.met in
     let left = c.gather-left.ensures in
-    subst (λ (j : List ChangeLine). IsJournalOf process scripts j w × AppliesAll scripts workers j) (sym c.end.ensures.journal)
-    (journal_is process queue list scripts workers chief t images w count c.requires.numbers left.chief left.working c.requires.gone own c.take_last.ensures.taken c.take_last.ensures.turn left.passes met,
-    journal_applies process queue list scripts workers chief t images w count c.requires.numbers left.chief left.working c.requires.gone own c.take_last.ensures.taken c.take_last.ensures.turn left.passes met)
+    subst (λ (j : List ChangeLine). IsJournalOf process scripts j w × AppliesAll scripts workers j) (sym c.end.ensures.journal) (
+      journal_is process queue list scripts workers chief t images w count c.requires.numbers left.chief left.working c.requires.gone own c.take_last.ensures.taken c.take_last.ensures.turn left.passes met,
+      journal_applies process queue list scripts workers chief t images w count c.requires.numbers left.chief left.working c.requires.gone own c.take_last.ensures.taken c.take_last.ensures.turn left.passes met,
+    )
 
 pub returns-clause-journal : goal.returns-clause-journal
 returns-clause-journal g c =

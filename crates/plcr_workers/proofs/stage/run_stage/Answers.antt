@@ -62,10 +62,10 @@ returns-in-Ok-clause-ends g c =
 pub returns-in-Ok-clause-goes_on : goal.returns-in-Ok-clause-goes_on
 returns-in-Ok-clause-goes_on g c = record {
   desk = run_goes g.D.Out.Sink.written g.D.Out.Sink.faults c.args.job.now c.work-made.new.workers _ (lent_whole c.args.stage.workers.len c.work-made.new.workers c.args.stage.workers.items (c.work-made.ensures.count ∙ sym c.requires.stage.count ∙ c.args.stage.workers.ok.0) (sym c.args.stage.workers.ok.0))
-    (in_order c.end_workers-ran.result.drafts.items) c.end_workers-ran.ensures.drafts (g.D.Desk.told c.args.desk.now) (g.D.Desk.told c.work-made.new.desk) (g.D.Desk.told c.settle.new.desk) (g.L.Sink.written c.args.lines.now) (g.L.Sink.written c.print_log.new.lines) (g.L.Sink.faults c.args.lines.now) (g.L.Sink.faults c.print_log.new.lines)
-    c.work-made.result c.end_workers-ran.result.writer c.end_workers-ran.result.journal.items
-    (worked_by g.D.Out.Sink.faults c.args.job.now.scripts c.work-made.new.workers (g.D.Desk.told c.args.desk.now) (g.D.Desk.told c.work-made.new.desk) c.work-made.result c.work-made.ensures.ok c.work-made.ensures.err)
-    c.work-made.ensures.own c.end_workers-ran.ensures.writer c.end_workers-ran.ensures.tells
+      (in_order c.end_workers-ran.result.drafts.items) c.end_workers-ran.ensures.drafts (g.D.Desk.told c.args.desk.now) (g.D.Desk.told c.work-made.new.desk) (g.D.Desk.told c.settle.new.desk) (g.L.Sink.written c.args.lines.now) (g.L.Sink.written c.print_log.new.lines) (g.L.Sink.faults c.args.lines.now) (g.L.Sink.faults c.print_log.new.lines)
+      c.work-made.result c.end_workers-ran.result.writer c.end_workers-ran.result.journal.items
+      (worked_by g.D.Out.Sink.faults c.args.job.now.scripts c.work-made.new.workers (g.D.Desk.told c.args.desk.now) (g.D.Desk.told c.work-made.new.desk) c.work-made.result c.work-made.ensures.ok c.work-made.ensures.err)
+      c.work-made.ensures.own c.end_workers-ran.ensures.writer c.end_workers-ran.ensures.tells
       c.settle.result c.settle.ensures.settles;
   line_faults = c.print_log.ensures.later;
 }
@@ -91,10 +91,10 @@ returns-in-Err-clause-ends g c =
 pub returns-in-Err-clause-goes_on : goal.returns-in-Err-clause-goes_on
 returns-in-Err-clause-goes_on g c = record {
   desk = run_goes g.D.Out.Sink.written g.D.Out.Sink.faults c.args.job.now c.work-made.new.workers _ (lent_whole c.args.stage.workers.len c.work-made.new.workers c.args.stage.workers.items (c.work-made.ensures.count ∙ sym c.requires.stage.count ∙ c.args.stage.workers.ok.0) (sym c.args.stage.workers.ok.0))
-    (in_order c.end_workers-ran.result.drafts.items) c.end_workers-ran.ensures.drafts (g.D.Desk.told c.args.desk.now) (g.D.Desk.told c.work-made.new.desk) (g.D.Desk.told c.settle.new.desk) (g.L.Sink.written c.args.lines.now) (g.L.Sink.written c.print_failed.new.lines) (g.L.Sink.faults c.args.lines.now) (g.L.Sink.faults c.print_failed.new.lines)
-    c.work-made.result c.end_workers-ran.result.writer c.end_workers-ran.result.journal.items
-    (worked_by g.D.Out.Sink.faults c.args.job.now.scripts c.work-made.new.workers (g.D.Desk.told c.args.desk.now) (g.D.Desk.told c.work-made.new.desk) c.work-made.result c.work-made.ensures.ok c.work-made.ensures.err)
-    c.work-made.ensures.own c.end_workers-ran.ensures.writer c.end_workers-ran.ensures.tells
+      (in_order c.end_workers-ran.result.drafts.items) c.end_workers-ran.ensures.drafts (g.D.Desk.told c.args.desk.now) (g.D.Desk.told c.work-made.new.desk) (g.D.Desk.told c.settle.new.desk) (g.L.Sink.written c.args.lines.now) (g.L.Sink.written c.print_failed.new.lines) (g.L.Sink.faults c.args.lines.now) (g.L.Sink.faults c.print_failed.new.lines)
+      c.work-made.result c.end_workers-ran.result.writer c.end_workers-ran.result.journal.items
+      (worked_by g.D.Out.Sink.faults c.args.job.now.scripts c.work-made.new.workers (g.D.Desk.told c.args.desk.now) (g.D.Desk.told c.work-made.new.desk) c.work-made.result c.work-made.ensures.ok c.work-made.ensures.err)
+      c.work-made.ensures.own c.end_workers-ran.ensures.writer c.end_workers-ran.ensures.tells
       c.settle.result c.settle.ensures.settles;
   line_faults = c.print_failed.ensures.later;
 }
