@@ -9,4 +9,5 @@ pub mod Statused
 pub mod Running
 pub mod Stored
 pub mod Threaded
+pub mod Worded
 pub mod Written

@@ -6,6 +6,7 @@ ghost use Rattle.plcr_tool.specs.Complete.{
   CoreRefusalsAreExact,
   ScriptRefusalsAreExact,
   LongJobsAreRefused,
+  WordsMake,
   WordsReport,
   ShownReportsAreComplete,
   ReportRefusalsAreExact,
@@ -51,4 +52,10 @@ pub fn threads_are_complete()
     ensures no_script { ThreadsRefuseScripts }
     ensures too_long { ThreadsRefuseLong }
     ensures words { WordsThreads }
+{}
+
+/// Words of the form `make N CORE SCRIPT` do what `make` does. What it answers where nothing fails is
+/// told by `makes_are_complete` of plcr_maker.
+pub fn makes_are_chosen()
+    ensures words { WordsMake }
 {}

@@ -40,6 +40,8 @@ pub enum Core {
     Overlapping,
     Wrapping,
     WithoutThread,
+    /// The thread's state stands in another one, behind a flavor and a count.
+    WrappedState,
 }
 
 fn add_u32s(bytes: &mut Vec<u8>, numbers: &[u32]) -> Result<(), AllocError> {
@@ -93,8 +95,12 @@ fn add_image(bytes: &mut Vec<u8>, k: u32) -> Result<(), AllocError>
     add_u32s(bytes, &[0x1b, 24, 0, 0, 0, k.swap_bytes()])
 }
 
-fn add_thread(bytes: &mut Vec<u8>) -> Result<(), AllocError> {
-    add_u32s(bytes, &[4, 184, 4, 42])?;
+/// The words before the registers of a thread whose state is its own.
+const PLAIN_STATE: [u32; 4] = [4, 184, 4, 42];
+
+/// The command of a thread, with the words before its registers.
+fn add_thread(bytes: &mut Vec<u8>, head: &[u32]) -> Result<(), AllocError> {
+    add_u32s(bytes, head)?;
     for register in 0..21u32 {
         let value = match register {
             7 => 0x7000,
@@ -112,6 +118,7 @@ pub fn core_bytes(alloc: Global, core: Core) -> Result<Vec<u8>, AllocError> {
         Core::Executable => (2, 2, 256),
         Core::Overlapping | Core::Wrapping => (4, 3, 328),
         Core::WithoutThread => (4, 1, 72),
+        Core::WrappedState => (4, 2, 264),
         Core::WithImages => return image_core(alloc, 8, 1),
         _ => (4, 2, 256),
     };
@@ -127,7 +134,8 @@ pub fn core_bytes(alloc: Global, core: Core) -> Result<Vec<u8>, AllocError> {
     }
     match core {
         Core::WithoutThread => {}
-        _ => add_thread(&mut bytes)?,
+        Core::WrappedState => add_thread(&mut bytes, &[4, 192, 7, 44, 4, 42])?,
+        _ => add_thread(&mut bytes, &PLAIN_STATE)?,
     }
     if matches!(core, Core::Cut) {
         bytes.truncate(100);
@@ -149,7 +157,7 @@ pub fn image_core(alloc: Global, images: u32, threads: u32) -> Result<Vec<u8>, A
     }
     add_segment(&mut bytes, 0x7000, 0x1000)?;
     for _ in 0..threads {
-        add_thread(&mut bytes)?;
+        add_thread(&mut bytes, &PLAIN_STATE)?;
     }
     for k in 0..images {
         add_image(&mut bytes, k)?;

@@ -81,7 +81,15 @@ fn shows_by_its_words(rt: HostRuntime) -> Result<(), Fail> {
     let show = String::from_str(alloc, "show")?;
     let report = String::from_str(alloc, "r")?;
     let words = vec![in alloc; show, report]?;
-    let status = top(&rt, alloc, words.as_slice(), &mut desk, &mut lines, &NoGate, &mut None);
+    let status = top(
+        &rt,
+        alloc,
+        words.as_slice(),
+        &mut desk,
+        &mut lines,
+        &NoGate,
+        &mut None,
+    );
     assert_eq!(rt; status, 0);
     assert_eq!(rt; lines.bytes(), TEXT.as_bytes());
     Ok(())

@@ -23,7 +23,15 @@ fn reports_one_thread(rt: HostRuntime) -> Result<(), Fail> {
     let core = String::from_str(alloc, "c")?;
     let script = String::from_str(alloc, "s")?;
     let words = vec![in alloc; report, core, script]?;
-    let status = top(&rt, alloc, words.as_slice(), &mut desk, &mut lines, &NoGate, &mut None);
+    let status = top(
+        &rt,
+        alloc,
+        words.as_slice(),
+        &mut desk,
+        &mut lines,
+        &NoGate,
+        &mut None,
+    );
     assert_eq!(rt; status, 0);
     assert_eq!(rt; lines.bytes(), b"1 report a.plcrash 271 0 0 0\n".as_slice());
     assert_eq!(rt;
@@ -43,7 +51,15 @@ fn said<R: Threads + Wait + Sync>(
     let owned = words(alloc, said)?;
     let mut desk = desk(alloc, Core::Whole, script, Vec::new(alloc), Vec::new(alloc))?;
     let mut lines = lines(alloc)?;
-    let status = top(rt, alloc, owned.as_slice(), &mut desk, &mut lines, &NoGate, &mut None);
+    let status = top(
+        rt,
+        alloc,
+        owned.as_slice(),
+        &mut desk,
+        &mut lines,
+        &NoGate,
+        &mut None,
+    );
     Ok((status, lines))
 }
 
@@ -146,6 +162,25 @@ fn refuses_and_stops(rt: HostRuntime) -> Result<(), Fail> {
             if kept { Some(100) } else { None }
         );
     }
+    Ok(())
+}
+
+// A state that stands in a wrapping one is the same state.
+#[test]
+fn reports_a_wrapped_thread_state(rt: HostRuntime) -> Result<(), Fail> {
+    let alloc = rt.alloc();
+    let mut desk = desk(
+        alloc,
+        Core::WrappedState,
+        b"report 0 a\n",
+        Vec::new(alloc),
+        Vec::new(alloc),
+    )?;
+    let mut lines = lines(alloc)?;
+    let status = report_command(alloc, "c", "s", &mut desk, &mut lines, &mut None);
+    assert_eq!(rt; status, 0);
+    assert_eq!(rt; lines.bytes(), b"1 report a 271 0 0 0\n".as_slice());
+    assert_eq!(rt; desk.file("a").ok_or("not kept")?, REPORT.as_slice());
     Ok(())
 }
 

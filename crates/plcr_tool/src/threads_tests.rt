@@ -156,7 +156,9 @@ fn run<R: Threads + Wait + Sync, G: Gate>(
 }
 
 const LOAD_A: &str = "load 0x100000000 A\n";
+
 const LOAD_BOTH: &str = "load 0x100000000 A\nload 0x100004000 B\n";
+
 const REPORT: &str = "report 0 t\n";
 
 #[test]
@@ -299,8 +301,7 @@ fn counts_its_scripts(rt: HostRuntime) -> Result<(), Fail> {
     assert_eq!(rt; came.status, 1);
     assert_eq!(rt;
         came.lines.bytes(),
-        b"usage: report CORE SCRIPT / show REPORT / make N CORE SCRIPT / threads CORE SCRIPT...\n"
-            .as_slice()
+        b"usage: report CORE SCRIPT / show REPORT / make N CORE SCRIPT / threads CORE SCRIPT...\n".as_slice()
     );
     assert!(rt; came.past.is_none());
     Ok(())

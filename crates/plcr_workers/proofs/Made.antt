@@ -63,11 +63,13 @@ files_rest [] (suc at) = ([], refl)
 files_rest (s ∷ statements) zero = (files_of (s ∷ statements), refl)
 files_rest (s ∷ statements) (suc at) =
     let r = files_rest statements at in
-    let one = s ∷ [] in
-    (r.0, filter_map-append (λ (x : NumberedStatement). reading.file_of x.statement) one statements
-    ∙ ap (λ (l : List (List ℕ)). files_of one ++ l) r.1
-    ∙ sym (append_assoc (files_of one) (files_of (take at statements)) r.0)
-    ∙ ap (λ (l : List (List ℕ)). l ++ r.0) (sym (filter_map-append (λ (x : NumberedStatement). reading.file_of x.statement) one (take at statements))))
+    let one = s ∷ [] in (
+      r.0,
+      filter_map-append (λ (x : NumberedStatement). reading.file_of x.statement) one statements
+          ∙ ap (λ (l : List (List ℕ)). files_of one ++ l) r.1
+          ∙ sym (append_assoc (files_of one) (files_of (take at statements)) r.0)
+          ∙ ap (λ (l : List (List ℕ)). l ++ r.0) (sym (filter_map-append (λ (x : NumberedStatement). reading.file_of x.statement) one (take at statements))),
+    )
 
 -- a statement that is no report has no file
 pub not_report : (st : Statement) → ((pass : ℕ) (file : List ℕ) → st ≡ statements.Report pass file → ⊥) → reading.file_of st ≡ None
@@ -189,9 +191,10 @@ module _ {K : Type 0} (faults : K → ℕ) (number : ℕ) (statements : List Num
 
   pub making_all : (at : ℕ) (drafts : List (Draft K)) (old now : Told) → at ≡ length statements → MakingEach faults number statements at drafts old now
       → AreMade faults number statements (length statements) drafts × HasMade (files_of statements) old now
-  making_all at drafts old now all m =
-      (subst (λ (n : ℕ). AreMade faults number statements n drafts) all m.outputs,
-      subst (λ (l : List (List ℕ)). HasMade l old now) (ap (λ (n : ℕ). files_of (take n statements)) all ∙ ap files_of (take_all (length statements) statements (omega arith))) m.made)
+  making_all at drafts old now all m = (
+    subst (λ (n : ℕ). AreMade faults number statements n drafts) all m.outputs,
+    subst (λ (l : List (List ℕ)). HasMade l old now) (ap (λ (n : ℕ). files_of (take n statements)) all ∙ ap files_of (take_all (length statements) statements (omega arith))) m.made,
+  )
 
 -- ---- the outputs of all workers
 

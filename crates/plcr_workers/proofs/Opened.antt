@@ -2,7 +2,7 @@
 use Rattle.std.proofs.Common.{◌≡◌, ℕ, ◌+◌, ◌<◌, ◌≤◌, List, [], ◌∷◌, ◌++◌, Option, Some, None, length, sym, subst, length-append, arith}
 use Rattle.std.specs.Prelude.{Result, Ok, Err}
 use Rattle.plcr_base.specs.Told.{IfTold, add, add_told}
-use Rattle.plcr_io.specs.Desk.{Told, HasOpen, file}
+use Rattle.plcr_io.specs.Desk.{Told, Balances, HasOpen, file}
 use Rattle.plcr_workers.specs.inner.Outputs.{HasOpenFor}
 
 -- the same by its three lists
@@ -18,6 +18,16 @@ one_open count (Some m) (Some k) (Some d) some h = omega (arith, some, h)
 
 pub has_open : (count : ℕ) (told : Told) → 0 < count → HasOpenFor count told → HasOpen told
 has_open count told some h = one_open count told.made told.kept told.dropped some h
+
+none_open : (made : Option (List (List ℕ))) (kept : Option (List (List ℕ × List ℕ))) (dropped : Option (List (List ℕ))) → IfTold made (λ m. IfTold kept (λ k. IfTold dropped (λ d. length k + length d ≤ length m))) → OpenIn 0 made kept dropped
+none_open None kept dropped h = tt
+none_open (Some m) None dropped h = tt
+none_open (Some m) (Some k) None h = tt
+none_open (Some m) (Some k) (Some d) h = omega (arith, h)
+
+-- no more were kept and given up than were made
+pub opens_none : (told : Told) → Balances told → HasOpenFor 0 told
+opens_none told h = none_open told.made told.kept told.dropped h
 
 made_in : (count : ℕ) (name : List ℕ) (made : Option (List (List ℕ))) (kept : Option (List (List ℕ × List ℕ))) (dropped : Option (List (List ℕ))) → OpenIn count made kept dropped → OpenIn (count + 1) (add made name) kept dropped
 made_in count name None kept dropped h = tt

@@ -136,6 +136,7 @@ module _ {K : Type 0} (written : K → Option (List ℕ)) (scripts : List Script
       known : (name b bytes : List ℕ) (was : Option (List (List ℕ × List ℕ))) → b ≡ bytes → Gains was (add_told was (file name (Some b))) ((name, bytes) ∷ [])
       known name b bytes None e = tt
       known name b bytes (Some k) e = λ i. k ++ (name, e i) ∷ []
+
       told : (name bytes : List ℕ) (was : Option (List ℕ)) → IfTold was (λ b. b ≡ bytes) → new.kept ≡ add_told old.kept (file name was) → Gains old.kept new.kept ((name, bytes) ∷ [])
       told name bytes None is k = subst (λ (x : Option (List (List ℕ × List ℕ))). Gains old.kept x ((name, bytes) ∷ [])) (sym k) (nothing_told old.kept)
         where
@@ -143,6 +144,7 @@ module _ {K : Type 0} (written : K → Option (List ℕ)) (scripts : List Script
           nothing_told None = tt
           nothing_told (Some k) = tt
       told name bytes (Some b) is k = subst (λ (x : Option (List (List ℕ × List ℕ))). Gains old.kept x ((name, bytes) ∷ [])) (sym k) (known name b bytes old.kept is)
+
       one_file : (files : List (List ℕ × List ℕ)) → AreFiles written scripts (draft ∷ []) files → Gains old.kept new.kept files
       one_file [] are = absurd are
       one_file (f ∷ files) are =
@@ -201,6 +203,7 @@ waits_faulty faults draft (inl h) is = absurd (not_both_waiting (sym h.0 ∙ is)
     kind Waiting = true
     kind Written = false
     kind Failed = false
+
     not_both_waiting : Written ≡ Waiting → ⊥
     not_both_waiting e = not_both false (ap kind e) refl
 waits_faulty faults draft (inr h) is = h.1
@@ -212,6 +215,7 @@ failed_faulty faults draft (inl h) is = absurd (not_both_failed (sym h.0 ∙ is)
     kind Waiting = false
     kind Written = false
     kind Failed = true
+
     not_both_failed : Written ≡ Failed → ⊥
     not_both_failed e = not_both false (ap kind e) refl
 failed_faulty faults draft (inr h) is = h.1

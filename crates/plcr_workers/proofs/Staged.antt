@@ -1,8 +1,8 @@
 -- What a run on threads comes to, once its outputs are kept and its lines are printed.
-use Rattle.std.proofs.Common.{inl, inr, ◌≡◌, ℕ, List, [], ◌∷◌, ◌++◌, length, Option, Some, None, Result, Ok, Err, map, refl, sym, ap, subst, ◌∙◌, arith}
+use Rattle.std.proofs.Common.{inl, inr, ◌≡◌, ℕ, List, [], ◌∷◌, ◌++◌, ◌+◌, ◌≤◌, length, take, drop, Option, Some, None, Result, Ok, Err, map, refl, sym, ap, subst, ◌∙◌, append-nil, take_all, arith}
 use Rattle.std.specs.Prelude.{All, OnOk, IfErr, unwrap_or}
 use Rattle.std.specs.Io.KnownBytes.{append_known}
-use Rattle.std.proofs.lemmas.List.{map-append, length-map}
+use Rattle.std.proofs.lemmas.List.{drop_all, map-append, length-map}
 use Rattle.std.proofs.lemmas.List.Elements.{All-head}
 use Rattle.plcr_base.specs.Causes.{Rose}
 use Rattle.plcr_base.specs.Told.{IfTold, Gains, AppendsProperFront, Prints}
@@ -10,6 +10,7 @@ use Rattle.plcr_base.proofs.Appended.{append_nothing}
 use Rattle.plcr_base.proofs.Gained.{gains_none}
 use Rattle.plcr_base.proofs.Risen.{rose_second}
 use Rattle.plcr_io.specs.Desk.{Told}
+use Rattle.plcr_script.specs.Meanings.{Meanings}
 use Rattle.plcr_script.specs.Scripts.{ScriptValue}
 use Rattle.plcr_script.specs.Reading.{written_by}
 use Rattle.plcr_imagelist.specs.States.{WriterState}
@@ -27,10 +28,11 @@ use Rattle.plcr_workers.specs.declared.lines.PassLine.{PassLine}
 use Rattle.plcr_workers.specs.declared.making.Unwritten.{Unwritten}
 use Rattle.plcr_workers.specs.declared.worker.Worker.{Worker}
 use Rattle.plcr_workers.specs.Log.{threads_log}
-use Rattle.plcr_workers.specs.Command.{AllKept, NotAllKept, NotPrinted}
+use Rattle.plcr_workers.specs.Command.{AllKept, IsJournalOf, IsWriterOf, NotAllKept, NotPrinted, meanings_in}
 use Rattle.plcr_workers.specs.inner.Outputs.{name_at, draft_names, outputs_of, AreFiles, HasKeptAll, HasKeptUpTo, HasDropped, HasOpenFor, IsDraftOf, NotAllMade, StandsAt}
+use Rattle.plcr_workers.specs.inner.Own.{KnowsOwnOf}
 use Rattle.plcr_workers.specs.inner.Stages.{AppliesAll, HasWorked, LeftOf, LogEnds, RunEnds, Settles}
-use Rattle.plcr_workers.proofs.Settled.{rose_first}
+use Rattle.plcr_workers.proofs.Settled.{nothing_twice, rose_first}
 use Rattle.plcr_workers.proofs.Worked.{all_behind}
 
 -- the same list, where it is told
@@ -62,7 +64,6 @@ module _ {K : Type 0} (written : K → Option (List ℕ)) (scripts : List Script
 
 module _ {K : Type 0} (written : K → Option (List ℕ)) (faults : K → ℕ) (job : Job) (workers : List (Worker K)) (drafts : List (Draft K)) (same : drafts ≡ outputs_of workers)
     (old mid new : Told) (lines lines' : Option (List ℕ)) (counts counts' : ℕ) where
-
   names_are : HasWorked faults job.scripts workers old mid → draft_names job.scripts drafts ≡ written_by job.scripts
   names_are w = ap (λ (l : List (Draft K)). draft_names job.scripts l) same ∙ w.names
 
@@ -174,7 +175,6 @@ settled_nothing written scripts drafts (Err unmade) old new (Err unwritten) s = 
 
 module _ {K : Type 0} (written : K → Option (List ℕ)) (faults : K → ℕ) (job : Job) (workers : List (Worker K)) (drafts : List (Draft K)) (same : drafts ≡ outputs_of workers)
     (old mid new : Told) (lines lines' : Option (List ℕ)) (counts counts' : ℕ) (past : Option WriterState) (journal : List ChangeLine) (left : LeftOf job past journal) (applies : AppliesAll job.scripts workers journal) where
-
   -- all were kept, and so the printing ended
   pub kept_ends : (made : Result (Unit {0}) Unwritten) (done : Unit {0}) (others : List (List PassLine)) (ending : Ending) → Worked faults job.scripts workers old mid made → Settles written job.scripts drafts made mid new (Ok done)
       → LogEnds lines lines' (threads_log job.scripts journal others) counts counts' ending → RunEnds job (seen old lines counts) (seen new lines' counts') past ending
@@ -188,14 +188,68 @@ module _ {K : Type 0} (written : K → Option (List ℕ)) (faults : K → ℕ) (
   pub cut_ends : (made : Result (Unit {0}) Unwritten) (unwritten : Unwritten) → Worked faults job.scripts workers old mid made → Settles written job.scripts drafts made mid new (Err unwritten)
       → Prints lines lines' (cannot_write (name_at job.scripts unwritten.script unwritten.at)) counts counts' → RunEnds job (seen old lines counts) (seen new lines' counts') past Stopped
   cut_ends (Ok ok) unwritten w k prints = (journal, inl (not_kept written faults job workers drafts same old mid new lines lines' counts counts' unwritten.script unwritten.at w k prints), left)
-  cut_ends (Err unmade) unwritten w k prints =
-      (journal, inl (not_made written faults job workers drafts same old mid new lines lines' counts counts' unwritten.script unwritten.at
-      (subst (λ (u : Unwritten). NotAllMade job.scripts workers u.script u.at old mid) (sym k.0) w) k.1 prints), left)
+  cut_ends (Err unmade) unwritten w k prints = (
+    journal,
+    inl (not_made written faults job workers drafts same old mid new lines lines' counts counts' unwritten.script unwritten.at
+        (subst (λ (u : Unwritten). NotAllMade job.scripts workers u.script u.at old mid) (sym k.0) w) k.1 prints),
+    left,
+  )
 
 -- the report whose file is named stands in its script
-pub cut_stands : {K : Type 0} (written : K → Option (List ℕ)) (faults : K → ℕ) (scripts : List ScriptValue) (workers : List (Worker K)) (drafts : List (Draft K)) (old mid new : Told) (made : Result (Unit {0}) Unwritten) (unwritten : Unwritten)
-    → Worked faults scripts workers old mid made → All (IsDraftOf scripts) drafts → Settles written scripts drafts made mid new (Err unwritten) → StandsAt scripts unwritten.script unwritten.at
-cut_stands written faults scripts workers drafts old mid new (Ok ok) unwritten w are k =
+pub cut_stands : {K : Type 0} (written : K → Option (List ℕ)) (faults : K → ℕ) (scripts : List ScriptValue) (workers : List (Worker K)) (drafts : List (Draft K)) (same : drafts ≡ outputs_of workers) (old mid new : Told) (made : Result (Unit {0}) Unwritten) (unwritten : Unwritten)
+    → Worked faults scripts workers old mid made → Settles written scripts drafts made mid new (Err unwritten) → StandsAt scripts unwritten.script unwritten.at
+cut_stands written faults scripts workers drafts same old mid new (Ok ok) unwritten w k =
+    let are : All (IsDraftOf scripts) drafts = subst (All (IsDraftOf scripts)) (sym same) w.are in
     let behind : All (IsDraftOf scripts) (k.draft ∷ k.after) = all_behind (IsDraftOf scripts) k.before (k.draft ∷ k.after) (subst (All (IsDraftOf scripts)) k.parts are) in
     subst (λ (s : ℕ). StandsAt scripts s unwritten.at) k.place.0 (subst (λ (a : ℕ). StandsAt scripts k.draft.script a) k.place.1 (All-head (IsDraftOf scripts) k.draft k.after behind))
-cut_stands written faults scripts workers drafts old mid new (Err unmade) unwritten w are k = subst (λ (u : Unwritten). StandsAt scripts u.script u.at) (sym k.0) w.stands
+cut_stands written faults scripts workers drafts same old mid new (Err unmade) unwritten w k = subst (λ (u : Unwritten). StandsAt scripts u.script u.at) (sym k.0) w.stands
+
+-- where all were made the outputs are those of statements, and the first that was not written whole has faults
+pub worked_ok : {K : Type 0} (faults : K → ℕ) (scripts : List ScriptValue) (workers : List (Worker K)) (old new : Told) (made : Result (Unit {0}) Unwritten) → Worked faults scripts workers old new made → made ≡ Ok tt → HasWorked faults scripts workers old new
+worked_ok faults scripts workers old new made w is = subst (Worked faults scripts workers old new) is w
+
+-- ---- a run whose workers were lent and came back
+
+-- what was lent whole is what came back
+pub lent_whole : {A : Type 0} (n : ℕ) (new items : List A) → length new ≡ length items → length items ≡ n → take n (new ++ drop (length new) items) ≡ new
+lent_whole n new items same all =
+    let none : drop (length new) items ≡ [] = drop_all (length new) items (omega (arith, same)) in
+    ap (λ l. take n (new ++ l)) none ∙ ap (λ l. take n l) (append-nil new) ∙ take_all n new (omega (arith, same, all))
+
+some_writer : {a b : WriterState} → Some a ≡ Some b → a ≡ b
+some_writer {a} {b} e = ap (λ (o : Option WriterState). unwrap_or o a) e
+
+left_of : (job : Job) (w : WriterState) (journal : List ChangeLine) → IsWriterOf job.scripts (Some w) → IsJournalOf (meanings_in job.core job.scripts) job.scripts journal w → LeftOf job (Some w) journal
+left_of job w journal met tells = record { met = met; tells = subst (λ (x : WriterState). IsJournalOf (meanings_in job.core job.scripts) job.scripts journal x) (some_writer met.is) tells }
+
+module _ {K : Type 0} (written : K → Option (List ℕ)) (faults : K → ℕ) (job : Job) (workers lent : List (Worker K)) (front : lent ≡ workers) (drafts : List (Draft K)) (are : drafts ≡ outputs_of lent) (old mid new : Told) (lines lines' : Option (List ℕ)) (counts counts' : ℕ)
+    (made : Result (Unit {0}) Unwritten) (w : WriterState) (journal : List ChangeLine) (worked : Worked faults job.scripts workers old mid made) (own : All (λ x. KnowsOwnOf (meanings_in job.core job.scripts) job.scripts x) workers) (met : IsWriterOf job.scripts (Some w))
+    (tells : (process : Meanings) → All (λ x. KnowsOwnOf process job.scripts x) lent → IsJournalOf process job.scripts journal w × AppliesAll job.scripts lent journal) where
+  outputs_same : drafts ≡ outputs_of workers
+  outputs_same = are ∙ ap (λ (l : List (Worker K)). outputs_of l) front
+
+  told : IsJournalOf (meanings_in job.core job.scripts) job.scripts journal w × AppliesAll job.scripts lent journal
+  told = tells (meanings_in job.core job.scripts) (subst (λ (l : List (Worker K)). All (λ x. KnowsOwnOf (meanings_in job.core job.scripts) job.scripts x) l) (sym front) own)
+
+  applies : AppliesAll job.scripts workers journal
+  applies = subst (λ (l : List (Worker K)). AppliesAll job.scripts l journal) front told.1
+
+  pub run_kept : (result : Result (Unit {0}) Unwritten) (done : Unit {0}) (others : List (List PassLine)) (ending : Ending) → result ≡ Ok done → Settles written job.scripts drafts made mid new result
+      → LogEnds lines lines' (threads_log job.scripts journal others) counts counts' ending → RunEnds job (seen old lines counts) (seen new lines' counts') (Some w) ending
+  run_kept result done others ending is settles ends =
+      kept_ends written faults job workers drafts outputs_same old mid new lines lines' counts counts' (Some w) journal (left_of job w journal met told.0) applies made done others ending worked
+      (subst (λ (r : Result (Unit {0}) Unwritten). Settles written job.scripts drafts made mid new r) is settles) ends
+
+  pub run_cut : (result : Result (Unit {0}) Unwritten) (unwritten : Unwritten) → result ≡ Err unwritten → Settles written job.scripts drafts made mid new result
+      → Prints lines lines' (cannot_write (name_at job.scripts unwritten.script unwritten.at)) counts counts' → RunEnds job (seen old lines counts) (seen new lines' counts') (Some w) Stopped
+  run_cut result unwritten is settles prints =
+      cut_ends written faults job workers drafts outputs_same old mid new lines lines' counts counts' (Some w) journal (left_of job w journal met told.0) applies made unwritten worked
+      (subst (λ (r : Result (Unit {0}) Unwritten). Settles written job.scripts drafts made mid new r) is settles) prints
+
+  pub run_stands : (result : Result (Unit {0}) Unwritten) (unwritten : Unwritten) → result ≡ Err unwritten → Settles written job.scripts drafts made mid new result → StandsAt job.scripts unwritten.script unwritten.at
+  run_stands result unwritten is settles =
+      cut_stands written faults job.scripts workers drafts outputs_same old mid new made unwritten worked
+      (subst (λ (r : Result (Unit {0}) Unwritten). Settles written job.scripts drafts made mid new r) is settles)
+
+  pub run_goes : (result : Result (Unit {0}) Unwritten) → Settles written job.scripts drafts made mid new result → TookNothing old new
+  run_goes result settles = nothing_twice old mid new (worked_nothing faults job.scripts workers old mid made worked) (settled_nothing written job.scripts drafts made mid new result settles)

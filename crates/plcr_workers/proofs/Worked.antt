@@ -94,7 +94,7 @@ outputs_taken faults scripts (o ∷ olds) [] taken all = absurd (let count = tak
 outputs_taken {K = K} faults scripts (o ∷ olds) (n ∷ news) taken all =
     let first : HasTaken faults o n = taken.each 0 o (omega arith) in
     let rest = outputs_taken faults scripts olds news (record { count = (let count = taken.count in omega (arith, count)); each = λ k other less. taken.each (suc k) other (omega (arith, less)) })
-        (all_behind (IsDraftOf scripts) o.drafts.items (outputs_of olds) all) in
+    (all_behind (IsDraftOf scripts) o.drafts.items (outputs_of olds) all) in
     let Named : Draft K → List ℕ = λ d. name_at scripts d.script d.at in
     record {
       names = map-append Named n.drafts.items (outputs_of news) ∙ (λ i. same_names scripts o.drafts.items n.drafts.items first.places i ++ rest.names i) ∙ sym (map-append Named o.drafts.items (outputs_of olds));
@@ -263,7 +263,6 @@ know_all process queue list scripts workers hired k other within = hired_knows p
 module _ {K : Type 0} (process : Meanings) (queue list : TableId) (scripts : List ScriptValue) (workers : List (Worker K)) (chief : View) (t : TurnState) (images : List WalkerState) (w : WriterState) (count : length workers ≡ length scripts) (numbers : AreNumbered workers)
     (gathered : HasGathered (length scripts) list (views_of workers) chief) (working : AreWorking 0 list (views_of workers)) (gone : All (λ x. IsGone queue list scripts x) workers) (own : All (λ x. KnowsOwnOf process scripts x) workers) (taken : IsTaken chief t) (turn : IsTurn t)
     (left : map Some images ≡ reverse (passes_left workers)) (met : HasMetThese images t.writer w) where
-
   all_know : AllKnow process queue list scripts workers chief t w.names
   all_know = record {
     gathered = gathered;

@@ -150,11 +150,7 @@ fn keep_each<D: Desk>(
 }
 
 /// Keeps an output that was written whole, and gives up another.
-fn keep<D: Desk>(
-    scripts: &[Script],
-    desk: &mut D,
-    draft: Draft<D::Out>,
-) -> Result<(), Unwritten>
+fn keep<D: Desk>(scripts: &[Script], desk: &mut D, draft: Draft<D::Out>) -> Result<(), Unwritten>
     requires scripts { All IsLawful scripts.now }
     requires draft { IsDraftOf scripts.now draft }
     requires done { AreDone D.Out.faults (draft ∷ []) }

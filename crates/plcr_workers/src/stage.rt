@@ -192,7 +192,7 @@ fn settle<D: Desk>(
     drafts: Vec<Vec<Draft<D::Out>>>,
 ) -> Result<(), Unwritten>
     requires scripts { All IsLawful scripts.now }
-    requires drafts { All (IsDraftOf scripts.now) (in_order drafts.items) }
+    requires drafts { made ≡ Ok tt → All (IsDraftOf scripts.now) (in_order drafts.items) }
     requires done { made ≡ Ok tt → AreDone D.Out.faults (in_order drafts.items) }
     requires open { HasOpenFor (length (in_order drafts.items)) (D.told desk.old) }
     ensures settles { Settles D.Out.written scripts.now (in_order drafts.items) made (D.told desk.old) (D.told desk.new) result }
