@@ -151,15 +151,10 @@ leaves_by core scripts old new past (Refused OutOfMemory) status is leaves = rec
 leaves_by core scripts old new past Misused status is leaves = record { done = λ zero. absurd (omega (arith, is, zero)); stopped = λ five. absurd (omega (arith, is, five)); others = λ a b. leaves }
 
 -- want of memory before anything was taken
-pub wants_first : (core : List ℕ) (scripts : List (List ℕ)) (old : Seen) (status : ℕ) → status ≡ 7 → ThreadsDoes core scripts old old status
-wants_first core scripts old status is = record {
-  ending = Refused OutOfMemory;
-  number = is;
-  did = record {
-    cause = inl (record { some = []; others = job_files core scripts; parts = refl; taken = gains_none old.desk.taken });
-    nothing = nothing_none old.desk;
-    printed = inl (sym (append_nothing old.lines));
-    silent = λ want. refl;
-  };
-  goes = record { files = refl; take_faults = omega arith; out_faults = omega arith; line_faults = omega arith };
+pub wants_first : (core : List ℕ) (scripts : List (List ℕ)) (old : Seen) → Threads core scripts old old (Refused OutOfMemory)
+wants_first core scripts old = record {
+  cause = inl (record { some = []; others = job_files core scripts; parts = refl; taken = gains_none old.desk.taken });
+  nothing = nothing_none old.desk;
+  printed = inl (sym (append_nothing old.lines));
+  silent = λ want. refl;
 }

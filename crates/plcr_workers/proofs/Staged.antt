@@ -158,7 +158,7 @@ worked_by faults scripts workers old new (Err unwritten) ok err = err
 -- of how many outputs there are none fewer are open
 pub worked_open : {K : Type 0} (faults : K → ℕ) (scripts : List ScriptValue) (workers : List (Worker K)) (old new : Told) (made : Result (Unit {0}) Unwritten) → Worked faults scripts workers old new made → HasOpenFor 0 old → HasOpenFor (length (outputs_of workers)) new
 worked_open faults scripts workers old new (Ok done) w start =
-    let a = ap length w.names in let b = length-map (outputs_of workers) (λ d. name_at scripts d.script d.at) in
+    let a = ap length w.names in let b = length-map (outputs_of workers) (λ (d : Draft _). name_at scripts d.script d.at) in
     subst (λ (n : ℕ). HasOpenFor n new) (omega (arith, a, b)) (w.made.«open» 0 start)
 worked_open faults scripts workers old new (Err unwritten) u start =
     subst (λ (n : ℕ). HasOpenFor n new) (let c = u.count in omega (arith, c)) (u.made.«open» 0 start)

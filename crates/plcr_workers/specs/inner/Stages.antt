@@ -13,6 +13,7 @@ use Rattle.plcr_imagelist.specs.Listing.{AddsChanges}
 use Rattle.plcr_io.specs.Desk.{Told}
 use Rattle.plcr_script.specs.Scripts.{ScriptValue}
 use Rattle.plcr_script.specs.Reading.{written_by}
+use Rattle.plcr_core.specs.declared.read.Core.{Core}
 use Rattle.plcr_command.specs.declared.jobs.Job.{Job}
 use Rattle.plcr_command.specs.declared.endings.Ending.{Ending}
 use Rattle.plcr_command.specs.declared.endings.Ending.TheVariants.{Done, Stopped, Refused, Misused}
@@ -96,6 +97,10 @@ LogEnds old new text before after Misused = ⊥
 pub record LeftOf (job : Job) (past : Option WriterState) (journal : List ChangeLine) : Type 0 where
   pub met : IsWriterOf job.scripts past
   pub tells : IsJournalOf (meanings_in job.core job.scripts) job.scripts journal met.writer
+
+-- a core and scripts that were read
+abbrev pub job_of : Core → List ScriptValue → Job
+job_of core scripts = record { core = core; scripts = scripts }
 
 -- how the run of a job ends
 abbrev pub RunEnds : Job → Seen → Seen → Option WriterState → Ending → Type 0
