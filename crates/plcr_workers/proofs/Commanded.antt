@@ -18,8 +18,9 @@ use Rattle.plcr_command.specs.Jobs.{IsJob, job_files}
 use Rattle.plcr_command.specs.Endings.{Ended, Goes, HasRead, status_of}
 use Rattle.plcr_command.proofs.Kept.{kept_since, unprinted_since}
 use Rattle.plcr_command.proofs.Takings.{read_after, read_some, nothing_none}
+use Rattle.plcr_turns.specs.declared.lines.ChangeLine.{ChangeLine}
 use Rattle.plcr_workers.specs.declared.command.TheConstants.{SIDE_BY_SIDE}
-use Rattle.plcr_workers.specs.Command.{AllKept, NotAllKept, NotPrinted, HasStopped, RanTogether, Threads, ThreadsDoes, ThreadsLeave, ThreadsTell}
+use Rattle.plcr_workers.specs.Command.{AllKept, NotAllKept, NotPrinted, RanTogether, StoppedBy, Threads, ThreadsDoes, ThreadsLeave, ThreadsTell}
 use Rattle.plcr_workers.specs.inner.Stages.{RunEnds, LeavesBy, TellsBy}
 
 all_since : (job : Job) (old mid new : Told) (lines lines' : Option (List ℕ)) (faults faults' : ℕ) → MadeNothing old mid → AllKept job (seen mid lines faults) (seen new lines' faults') → AllKept job (seen old lines faults) (seen new lines' faults')
@@ -45,14 +46,18 @@ some_since job old mid new lines lines' faults faults' nothing k = record {
   cause = subst (λ (n : ℕ). Rose n new.out_faults) nothing.out_faults k.cause;
 }
 
-cut_since : (job : Job) (old mid new : Told) (lines lines' : Option (List ℕ)) (faults faults' : ℕ) → MadeNothing old mid → NotPrinted job (seen mid lines faults) (seen new lines' faults') → NotPrinted job (seen old lines faults) (seen new lines' faults')
-cut_since job old mid new lines lines' faults faults' nothing k = record {
-  journal = k.journal;
+cut_since : (job : Job) (journal : List ChangeLine) (old mid new : Told) (lines lines' : Option (List ℕ)) (faults faults' : ℕ) → MadeNothing old mid → NotPrinted job journal (seen mid lines faults) (seen new lines' faults') → NotPrinted job journal (seen old lines faults) (seen new lines' faults')
+cut_since job journal old mid new lines lines' faults faults' nothing k = record {
   others = k.others;
   files = k.files;
   names = k.names;
   cut = unprinted_since _ _ _ old mid new lines lines' faults faults' nothing k.cut;
+  applied = k.applied;
 }
+
+stopped_since : (job : Job) (journal : List ChangeLine) (old mid new : Told) (lines lines' : Option (List ℕ)) (faults faults' : ℕ) → MadeNothing old mid → StoppedBy job journal (seen mid lines faults) (seen new lines' faults') → StoppedBy job journal (seen old lines faults) (seen new lines' faults')
+stopped_since job journal old mid new lines lines' faults faults' nothing (inl keep) = inl (some_since job old mid new lines lines' faults faults' nothing keep)
+stopped_since job journal old mid new lines lines' faults faults' nothing (inr log) = inr (cut_since job journal old mid new lines lines' faults faults' nothing log)
 
 -- the command did what its run did
 pub threads_run : (core : List ℕ) (scripts : List (List ℕ)) (job : Job) (past : Option WriterState) (ending : Ending) (old mid new : Told) (lines lines' : Option (List ℕ)) (faults faults' : ℕ) → IsRead (IsJob SIDE_BY_SIDE) (job_files core scripts) old mid job → MadeNothing old mid → new.taken ≡ mid.taken
@@ -65,10 +70,7 @@ threads_run core scripts job past Done old mid new lines lines' faults faults' r
 threads_run core scripts job past Stopped old mid new lines lines' faults faults' read nothing same ran = record {
   value = job;
   read = read_after (IsJob SIDE_BY_SIDE) (job_files core scripts) job old mid new read same;
-  ends = elim ran.1 [
-    | inl keep ↦ inl (some_since job old mid new lines lines' faults faults' nothing keep)
-    | inr log ↦ inr (cut_since job old mid new lines lines' faults faults' nothing log)
-  ];
+  ends = (ran.0, stopped_since job ran.0 old mid new lines lines' faults faults' nothing ran.1);
 }
 threads_run core scripts job past (Refused OutOfMemory) old mid new lines lines' faults faults' read nothing same ran =
     let desk : new ≡ mid = ap (λ (s : Seen). s.desk) ran.0 in
@@ -108,20 +110,20 @@ run_left core scripts job past (Refused (ReportRefused fault)) old mid new lines
 run_left core scripts job past Misused old mid new lines lines' faults faults' read same ran = absurd ran
 
 -- and so its journal tells what this has seen
-pub run_tells : (core : List ℕ) (scripts : List (List ℕ)) (job : Job) (past : Option WriterState) (ending : Ending) (old mid new : Told) (lines lines' : Option (List ℕ)) (faults faults' : ℕ) → IsRead (IsJob SIDE_BY_SIDE) (job_files core scripts) old mid job → new.taken ≡ mid.taken
+pub run_tells : (core : List ℕ) (scripts : List (List ℕ)) (job : Job) (past : Option WriterState) (ending : Ending) (old mid new : Told) (lines lines' : Option (List ℕ)) (faults faults' : ℕ) → IsRead (IsJob SIDE_BY_SIDE) (job_files core scripts) old mid job → MadeNothing old mid → new.taken ≡ mid.taken
     → RunEnds job (seen mid lines faults) (seen new lines' faults') past ending → TellsBy core scripts (seen old lines faults) (seen new lines' faults') past ending
-run_tells core scripts job past Done old mid new lines lines' faults faults' read same ran = record {
+run_tells core scripts job past Done old mid new lines lines' faults faults' read nothing same ran = record {
   value = job;
   read = read_after (IsJob SIDE_BY_SIDE) (job_files core scripts) job old mid new read same;
-  ends = record { writer = ran.3.met.writer; is = ran.3.met.is; journal = ran.0; tells = ran.3.tells; applied = λ zero. ran.5; printed = λ zero. (ran.1, ran.4) };
+  ends = record { writer = ran.3.met.writer; is = ran.3.met.is; journal = ran.0; tells = ran.3.tells; applied = λ zero. ran.5; stopped = λ five. absurd (omega (arith, five)); printed = λ zero. (ran.1, ran.4) };
 }
-run_tells core scripts job past Stopped old mid new lines lines' faults faults' read same ran = record {
+run_tells core scripts job past Stopped old mid new lines lines' faults faults' read nothing same ran = record {
   value = job;
   read = read_after (IsJob SIDE_BY_SIDE) (job_files core scripts) job old mid new read same;
-  ends = record { writer = ran.2.met.writer; is = ran.2.met.is; journal = ran.0; tells = ran.2.tells; applied = λ zero. absurd (omega (arith, zero)); printed = λ zero. absurd (omega (arith, zero)) };
+  ends = record { writer = ran.2.met.writer; is = ran.2.met.is; journal = ran.0; tells = ran.2.tells; applied = λ zero. absurd (omega (arith, zero)); stopped = λ five. stopped_since job ran.0 old mid new lines lines' faults faults' nothing ran.1; printed = λ zero. absurd (omega (arith, zero)) };
 }
-run_tells core scripts job past (Refused refusal) old mid new lines lines' faults faults' read same ran = tt
-run_tells core scripts job past Misused old mid new lines lines' faults faults' read same ran = tt
+run_tells core scripts job past (Refused refusal) old mid new lines lines' faults faults' read nothing same ran = tt
+run_tells core scripts job past Misused old mid new lines lines' faults faults' read nothing same ran = tt
 
 neither : {A : Type 0} (status other : ℕ) → status ≡ other → (other ≡ 0 → ⊥) → (other ≡ 5 → ⊥) → (status ≡ 0) ⊎ (status ≡ 5) → A
 neither status other is zero five (inl e) = absurd (zero (sym is ∙ e))

@@ -34,7 +34,7 @@ use Rattle.plcr_workers.specs.declared.making.Unwritten.{Unwritten}
 use Rattle.plcr_workers.specs.declared.worker.Worker.{Worker}
 use Rattle.plcr_workers.specs.inner.Hired.{IsHired, IsWholeOf, AreNew}
 use Rattle.plcr_workers.specs.inner.Outputs.{AreDone, HasDropped, HasKeptAll, HasKeptUpTo, HasMade, IsDraftOf, draft_names, outputs_of}
-use Rattle.plcr_workers.specs.Command.{AllApplied, AllKept, HasStopped, IsJournalOf, IsWriterOf, LeftByScripts, RanTogether, meanings_in}
+use Rattle.plcr_workers.specs.Command.{AllApplied, AllKept, StoppedBy, IsJournalOf, IsWriterOf, LeftByScripts, RanTogether, meanings_in}
 
 -- the writer has met these passes, and made nothing meanwhile
 pub record HasMetThese (passes : List WalkerState) (old new : WriterState) : Type 0 where
@@ -105,7 +105,7 @@ job_of core scripts = record { core = core; scripts = scripts }
 -- how the run of a job ends
 abbrev pub RunEnds : Job → Seen → Seen → Option WriterState → Ending → Type 0
 RunEnds job old new past Done = (journal : List ChangeLine) × (others : List (List PassLine)) × AllKept job old new × LeftOf job past journal × (new.lines ≡ append_known old.lines (threads_log job.scripts journal others)) × AllApplied job.scripts journal
-RunEnds job old new past Stopped = (journal : List ChangeLine) × HasStopped job old new × LeftOf job past journal
+RunEnds job old new past Stopped = (journal : List ChangeLine) × StoppedBy job journal old new × LeftOf job past journal
 RunEnds job old new past (Refused OutOfMemory) = (new ≡ old) × (past ≡ None)
 RunEnds job old new past (Refused refusal) = ⊥
 RunEnds job old new past Misused = ⊥

@@ -25,7 +25,7 @@ returns-in-Ok-clause-leaves g c =
 pub returns-in-Ok-clause-tells : goal.returns-in-Ok-clause-tells
 returns-in-Ok-clause-tells g c =
     run_tells c.args.core.now (texts c.args.scripts.now) c.in-Ok.job c.run_job.new.past c.run_job.result (g.D.Desk.told c.args.desk.now) (g.D.Desk.told c.read_job.new.desk) (g.D.Desk.told c.run_job.new.desk) (g.L.Sink.written c.args.lines.now) (g.L.Sink.written c.run_job.new.lines) (g.L.Sink.faults c.args.lines.now) (g.L.Sink.faults c.run_job.new.lines)
-    c.in-Ok.ensures.read c.run_job.ensures.goes_on.desk.taken c.run_job.ensures.ends
+    c.in-Ok.ensures.read c.read_job.ensures.nothing c.run_job.ensures.goes_on.desk.taken c.run_job.ensures.ends
 
 pub returns-in-Err-clause-did : goal.returns-in-Err-clause-did
 returns-in-Err-clause-did g c = record {
