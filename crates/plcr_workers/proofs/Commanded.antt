@@ -6,6 +6,7 @@ use Rattle.plcr_base.proofs.Appended.{append_nothing}
 use Rattle.plcr_base.proofs.Gained.{gains_none}
 use Rattle.plcr_io.specs.Desk.{Told}
 use Rattle.plcr_imagelist.specs.States.{WriterState}
+use Rattle.plcr_script.specs.Reading.{written_by}
 use Rattle.plcr_command.specs.declared.jobs.Job.{Job}
 use Rattle.plcr_command.specs.declared.endings.Ending.{Ending}
 use Rattle.plcr_command.specs.declared.endings.Ending.TheVariants.{Done, Stopped, Refused, Misused}
@@ -39,7 +40,7 @@ some_since job old mid new lines lines' faults faults' nothing k = record {
   later = k.later;
   outcome = elim k.outcome [
     | inl unmade ↦ inl (unmade.0, unmade.1, unmade.2, subst (λ (m : Option (List (List ℕ))). Gains m new.made unmade.0) nothing.made unmade.3)
-    | inr unkept ↦ inr (unkept.0, subst (λ (m : Option (List (List ℕ))). Gains m new.made _) nothing.made unkept.1)
+    | inr unkept ↦ inr (unkept.0, subst (λ (m : Option (List (List ℕ))). Gains m new.made (written_by job.scripts)) nothing.made unkept.1)
   ];
   kept = subst (λ (m : Option (List (List ℕ × List ℕ))). Gains m new.kept k.files) nothing.kept k.kept;
   lines = k.lines;

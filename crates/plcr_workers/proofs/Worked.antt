@@ -116,7 +116,7 @@ hired_gone queue list scripts w h = record {
   count = 0;
   so_far = h.ready.begins.so_far;
   image = h.ready.image;
-  lines = none_all (λ (l : PassLine). l.at < length h.script.statements) w.lines.items h.ready.begins.none;
+  lines = none_all (λ (l : PassLine). l.at < length h.script.statements) w.lines.items (sym w.lines.ok.0 ∙ h.ready.begins.none);
 }
 
 -- ---- the other lines

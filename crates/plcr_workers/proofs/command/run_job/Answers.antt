@@ -19,14 +19,14 @@ pub run_stage-requires-clause-few : goal.run_stage-requires-clause-few
 run_stage-requires-clause-few g c = let lent = ap length c.as_slice-scripts.ensures in let few = c.requires.scripts.1 in omega (arith, lent, few)
 
 pub run_stage-requires-clause-lawful : goal.run_stage-requires-clause-lawful
-run_stage-requires-clause-lawful g c = record {
+run_stage-requires-clause-lawful g c = λ κs within. record {
   threads = c.requires.lawful.threads;
   bytes = c.requires.lawful.bytes;
   scripts = subst (All IsLawful) (sym c.as_slice-scripts.ensures) c.requires.lawful.scripts;
 }
 
 pub run_stage-requires-clause-apart : goal.run_stage-requires-clause-apart
-run_stage-requires-clause-apart g c = subst (All (λ (script : ScriptValue). HaveOwnLines script.statements)) (sym c.as_slice-scripts.ensures) c.requires.apart
+run_stage-requires-clause-apart g c = λ κs within. subst (All (λ (script : ScriptValue). HaveOwnLines script.statements)) (sym c.as_slice-scripts.ensures) c.requires.apart
 
 pub returns-in-Ok-clause-ends : goal.returns-in-Ok-clause-ends
 returns-in-Ok-clause-ends g c =

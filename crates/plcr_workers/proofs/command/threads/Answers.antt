@@ -8,7 +8,7 @@ use Rattle.plcr_workers.proofs.Commanded.{wants_first}
 use Rattle.plcr_workers.proofs.command.threads.Goals as goal
 
 pub threads_named-requires-clause-scripts : goal.threads_named-requires-clause-scripts
-threads_named-requires-clause-scripts g c =
+threads_named-requires-clause-scripts g c = λ κs within.
     let lent = ap length c.as_slice-lent.ensures.value in let count = c.in-Ok.ensures.count in let some = c.requires.scripts.0 in let few = c.requires.scripts.1 in (omega (arith, lent, count, some), omega (arith, lent, count, few))
 
 pub returns-in-Ok-clause-did : goal.returns-in-Ok-clause-did

@@ -7,10 +7,10 @@ use Rattle.plcr_workers.proofs.Commanded.{run_left, run_tells, threads_run}
 use Rattle.plcr_workers.proofs.command.threads_named.Goals as goal
 
 pub run_job-requires-clause-scripts : goal.run_job-requires-clause-scripts
-run_job-requires-clause-scripts g c = let count = c.in-Ok.ensures.count in let some = c.requires.scripts.0 in let few = c.requires.scripts.1 in (omega (arith, count, some), omega (arith, count, few))
+run_job-requires-clause-scripts g c = λ κs within. let count = c.in-Ok.ensures.count in let some = c.requires.scripts.0 in let few = c.requires.scripts.1 in (omega (arith, count, some), omega (arith, count, few))
 
 pub run_job-requires-clause-apart : goal.run_job-requires-clause-apart
-run_job-requires-clause-apart g c = job_apart SIDE_BY_SIDE c.in-Ok.ensures.read.contents c.in-Ok.job c.in-Ok.ensures.read.read
+run_job-requires-clause-apart g c = λ κs within. job_apart SIDE_BY_SIDE c.in-Ok.ensures.read.contents c.in-Ok.job c.in-Ok.ensures.read.read
 
 pub returns-in-Ok-clause-did : goal.returns-in-Ok-clause-did
 returns-in-Ok-clause-did g c =

@@ -11,10 +11,10 @@ use Rattle.plcr_workers.proofs.Staged.{lent_whole, run_cut, run_goes, run_kept, 
 use Rattle.plcr_workers.proofs.stage.run_stage.Goals as goal
 
 pub work-made-requires-clause-new : goal.work-made-requires-clause-new
-work-made-requires-clause-new g c = subst (λ (l : List (Worker g.row.D-Out.Denot)). AreNew c.args.scripts.now l) (sym c.as_mut_slice.ensures.value) c.requires.stage.new
+work-made-requires-clause-new g c = λ κs within. subst (λ (l : List (Worker g.row.D-Out.Denot)). AreNew c.args.scripts.now l) (sym c.as_mut_slice.ensures.value) c.requires.stage.new
 
 pub work-made-requires-clause-hired : goal.work-made-requires-clause-hired
-work-made-requires-clause-hired g c =
+work-made-requires-clause-hired g c = λ κs within.
     subst (λ (l : List (Worker g.row.D-Out.Denot)). All (λ w. IsHired c.args.stage.queue.table.shared.table_id c.args.stage.list c.args.scripts.now w) l) (sym c.as_mut_slice.ensures.value) c.requires.stage.hired
 
 pub end_workers-ran-requires-clause-numbers : goal.end_workers-ran-requires-clause-numbers
@@ -88,8 +88,8 @@ print_failed-requires-clause-stands g c =
     c.work-made.ensures.own c.end_workers-ran.ensures.writer c.end_workers-ran.ensures.tells
     c.settle.result c.in-Err.unwritten c.in-Err.is c.settle.ensures.settles
 
-pub returns-in-Err-clause-ends : goal.returns-in-Err-clause-ends
-returns-in-Err-clause-ends g c =
+pub returns-clause-ends : goal.returns-clause-ends
+returns-clause-ends g c =
     run_cut g.D.Out.Sink.written g.D.Out.Sink.faults (job_of c.args.core.now c.args.scripts.now) c.work-made.new.workers _ (lent_whole c.args.stage.workers.len c.work-made.new.workers c.args.stage.workers.items (c.work-made.ensures.count ∙ sym c.requires.stage.count ∙ c.args.stage.workers.ok.0) (sym c.args.stage.workers.ok.0))
     (in_order c.end_workers-ran.result.drafts.items) c.end_workers-ran.ensures.drafts (g.D.Desk.told c.args.desk.now) (g.D.Desk.told c.work-made.new.desk) (g.D.Desk.told c.settle.new.desk) (g.L.Sink.written c.args.lines.now) (g.L.Sink.written c.print_failed.new.lines) (g.L.Sink.faults c.args.lines.now) (g.L.Sink.faults c.print_failed.new.lines)
     c.work-made.result c.end_workers-ran.result.writer c.end_workers-ran.result.journal.items
@@ -97,8 +97,8 @@ returns-in-Err-clause-ends g c =
     c.work-made.ensures.own c.end_workers-ran.ensures.writer c.end_workers-ran.ensures.tells
     c.settle.result c.in-Err.unwritten c.in-Err.is c.settle.ensures.settles c.print_failed.ensures.printed
 
-pub returns-in-Err-clause-goes_on : goal.returns-in-Err-clause-goes_on
-returns-in-Err-clause-goes_on g c = record {
+pub returns-clause-goes_on : goal.returns-clause-goes_on
+returns-clause-goes_on g c = record {
   desk = run_goes g.D.Out.Sink.written g.D.Out.Sink.faults (job_of c.args.core.now c.args.scripts.now) c.work-made.new.workers _ (lent_whole c.args.stage.workers.len c.work-made.new.workers c.args.stage.workers.items (c.work-made.ensures.count ∙ sym c.requires.stage.count ∙ c.args.stage.workers.ok.0) (sym c.args.stage.workers.ok.0))
       (in_order c.end_workers-ran.result.drafts.items) c.end_workers-ran.ensures.drafts (g.D.Desk.told c.args.desk.now) (g.D.Desk.told c.work-made.new.desk) (g.D.Desk.told c.settle.new.desk) (g.L.Sink.written c.args.lines.now) (g.L.Sink.written c.print_failed.new.lines) (g.L.Sink.faults c.args.lines.now) (g.L.Sink.faults c.print_failed.new.lines)
       c.work-made.result c.end_workers-ran.result.writer c.end_workers-ran.result.journal.items

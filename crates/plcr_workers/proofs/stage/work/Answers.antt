@@ -20,20 +20,20 @@ returns-in-Err-clause-gone g c =
     (hired_same c.args.queue.now.table.shared.table_id c.args.list.now c.args.scripts.now c.args.workers.now c.make_all.new.workers c.make_all.ensures.same c.requires.hired)
 
 pub run_all-requires-clause-context : goal.run_all-requires-clause-context
-run_all-requires-clause-context g c =
+run_all-requires-clause-context g c = λ κs within.
     context_fits c.args.core.now c.args.scripts.now c.index-scripts-0.result c.context-context.result c.requires.some c.index-scripts-0.is c.context-context.ensures.same c.requires.lawful.threads c.requires.lawful.scripts
 
 pub run_all-requires-clause-ready : goal.run_all-requires-clause-ready
-run_all-requires-clause-ready g c =
+run_all-requires-clause-ready g c = λ κs within.
     ready_all g.D.Out.Sink.faults c.args.queue.now.table.shared.table_id c.args.list.now c.args.scripts.now c.make_all.new.workers (g.D.Desk.told c.args.desk.now) (g.D.Desk.told c.make_all.new.desk)
-    (ok_of c.in_default-make_all.is c.make_all.ensures.ok)
+    (ok_of c.in_default.is c.make_all.ensures.ok)
     (numbered_same c.args.scripts.now c.args.workers.now c.make_all.new.workers c.requires.new c.make_all.ensures.same)
     (hired_same c.args.queue.now.table.shared.table_id c.args.list.now c.args.scripts.now c.args.workers.now c.make_all.new.workers c.make_all.ensures.same c.requires.hired)
     c.requires.apart
 
 pub returns-clause-ok : goal.returns-clause-ok
 returns-clause-ok g c =
-    has_worked g.D.Out.Sink.faults c.args.scripts.now c.make_all.new.workers c.run_all.new.workers (g.D.Desk.told c.args.desk.now) (g.D.Desk.told c.make_all.new.desk) (ok_of c.in_default-make_all.is c.make_all.ensures.ok) c.run_all.ensures.taken c.run_all.ensures.whole
+    has_worked g.D.Out.Sink.faults c.args.scripts.now c.make_all.new.workers c.run_all.new.workers (g.D.Desk.told c.args.desk.now) (g.D.Desk.told c.make_all.new.desk) (ok_of c.in_default.is c.make_all.ensures.ok) c.run_all.ensures.taken c.run_all.ensures.whole
 
 pub returns-clause-own : goal.returns-clause-own
 returns-clause-own g c =
