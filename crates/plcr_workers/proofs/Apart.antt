@@ -96,7 +96,7 @@ scripts_or d (Ok scripts) = scripts
 scripts_or d (Err refused) = d
 
 scripts_apart : (mode later : Mode) (before : List ScriptValue) (contents : List (List ℕ)) (scripts : List ScriptValue) → scripts_from mode later before contents ≡ Ok scripts → All IsApart before → All IsApart scripts
-unfolding scripts_from
+unfolding scripts_from scripts_or
 scripts_apart mode later before [] scripts is all = subst (All IsApart) (ap (scripts_or before) is) all
 scripts_apart mode later before (bytes ∷ contents) scripts is all =
     let b = bind_ok (numbered (length before + 1) (script_in mode before bytes)) (λ (script : ScriptValue). scripts_from later later (before ++ script ∷ []) contents) scripts is in
