@@ -1,0 +1,45 @@
+use Rattle.plcr_imagelist.specs.Walk.{images_of}
+use Rattle.plcr_workers.specs.inner.Places.{walker_of}
+use Rattle.plcr_workers.proofs.Passing.{again, sees, same_walk, released}
+use Rattle.plcr_workers.proofs.Reported.{held_now, held_later}
+use Rattle.plcr_workers.proofs.acting.report.Goals as goal
+
+pub returns-in-Ok-clause-goes : goal.returns-in-Ok-clause-goes
+returns-in-Ok-clause-goes g c =
+    let came = c.come_in-hold.result in
+    let walked = c.walk_to_end.new.hold in
+    let written = c.write_walk-captured.new.hold in
+    again (walker_of c.args.place) came.walker c.leave-pass.result.0 c.come_in-hold.ensures.goes
+    (again came.walker walked.walker c.leave-pass.result.0 (sees came.walker walked.walker c.walk_to_end.ensures.sees)
+    (again walked.walker written.walker c.leave-pass.result.0 (same_walk walked written c.write_walk-captured.ensures.same)
+    (released written c.leave-pass.result.0 c.leave-pass.result.1.low c.leave-pass.result.1.high c.leave-pass.ensures.released)))
+
+pub returns-in-Err-clause-goes : goal.returns-in-Err-clause-goes
+returns-in-Err-clause-goes g c =
+    let came = c.come_in-hold.result in
+    let walked = c.walk_to_end.new.hold in
+    let written = c.write_walk-captured.new.hold in
+    again (walker_of c.args.place) came.walker c.leave-pass.result.0 c.come_in-hold.ensures.goes
+    (again came.walker walked.walker c.leave-pass.result.0 (sees came.walker walked.walker c.walk_to_end.ensures.sees)
+    (again walked.walker written.walker c.leave-pass.result.0 (same_walk walked written c.write_walk-captured.ensures.same)
+    (released written c.leave-pass.result.0 c.leave-pass.result.1.low c.leave-pass.result.1.high c.leave-pass.ensures.released)))
+
+pub returns-in-Ok-clause-output : goal.returns-in-Ok-clause-output
+returns-in-Ok-clause-output g c =
+    let walked = c.walk_to_end.new.hold in
+    let written = c.write_walk-captured.new.hold in
+    let report = g.P.Process.report c.args.process.now c.args.context.now in
+    let goes = again walked.walker written.walker c.leave-pass.result.0 (same_walk walked written c.write_walk-captured.ensures.same)
+    (released written c.leave-pass.result.0 c.leave-pass.result.1.low c.leave-pass.result.1.high c.leave-pass.ensures.released) in
+    record {
+      script = c.write_walk-captured.ensures.place.0;
+      at = c.write_walk-captured.ensures.place.1;
+      written = (
+        c.in-Ok.ensures.ok,
+        record {
+          bytes = report (images_of walked);
+          tells = held_later report walked.walker c.leave-pass.result.0 (report (images_of walked)) goes (held_now report walked c.walk_to_end.ensures.walking c.walk_to_end.ensures.ended);
+          gains = c.in-Ok.ensures.written;
+        },
+      );
+    }

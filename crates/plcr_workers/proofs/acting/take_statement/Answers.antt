@@ -1,0 +1,19 @@
+use Rattle.std.proofs.Common.{Some, sym}
+use Rattle.crossbeam_queue.specs.Passes.{view}
+use Rattle.plcr_script.specs.Meanings.{meanings}
+use Rattle.plcr_script.specs.Reading.{file_of}
+use Rattle.plcr_turns.specs.Lines.{asked_by}
+use Rattle.plcr_workers.specs.Asking.{asked_in}
+use Rattle.plcr_workers.specs.inner.Places.{walker_of}
+use Rattle.plcr_workers.proofs.Going.{advanced, stayed, next_of}
+use Rattle.plcr_workers.proofs.Outputs.{silent_outputs, report_outputs, moved_outputs, next_within}
+use Rattle.plcr_workers.proofs.Owned.{adds_line, adds_none}
+use Rattle.plcr_workers.proofs.acting.take_statement.Goals as goal
+
+pub apply-place-requires-clause-left : goal.apply-place-requires-clause-left
+apply-place-requires-clause-left g c = next_of (asked_in c.args.statement.now) (asked_by c.in-Some.request) (view c.args.turns.now) c.in-Some.ensures.some.asked c.requires.left
+
+pub returns-in-Some-clause-own : goal.returns-in-Some-clause-own
+returns-in-Some-clause-own g c =
+    adds_line (meanings (g.P.Process.image_fault c.args.process.now) (g.P.Process.report c.args.process.now c.args.context.now)) c.args.script c.args.line c.in-Some.request c.args.statement.now (view c.args.turns.now) (view c.apply-place.new.turns)
+    (walker_of c.args.place).history (walker_of c.apply-place.result).history (walker_of c.apply-place.result).names c.apply-place.ensures.applies c.in-Some.ensures.some

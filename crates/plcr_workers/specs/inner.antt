@@ -1,0 +1,8 @@
+-- Definitions that only private functions' contracts cite.
+pub mod Places
+pub mod Hired
+pub mod Outputs
+pub mod Drafts
+pub mod Own
+pub mod Reports
+pub mod Stages
