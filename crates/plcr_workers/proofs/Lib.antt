@@ -10,6 +10,7 @@ pub mod Passing
 pub mod Joined
 pub mod Reported
 pub mod Lawful
+pub mod Visited
 pub mod Settled
 pub mod Made
 pub mod Printing

@@ -5,4 +5,5 @@ pub mod Outputs
 pub mod Drafts
 pub mod Own
 pub mod Reports
+pub mod Visits
 pub mod Stages
