@@ -6,4 +6,5 @@ pub mod Drafts
 pub mod Own
 pub mod Reports
 pub mod Visits
+pub mod Moves
 pub mod Stages
