@@ -11,6 +11,7 @@ pub mod Joined
 pub mod Reported
 pub mod Lawful
 pub mod Visited
+pub mod Moved
 pub mod Settled
 pub mod Made
 pub mod Printing

@@ -1,5 +1,5 @@
 -- What a statement does to the pass of a worker, step by step.
-use Rattle.std.specs.Prelude.{◌≡◌, ℕ, true, length}
+use Rattle.std.specs.Prelude.{◌≡◌, ℕ, true, length, Option, Some, None}
 use Rattle.plcr_imagelist.specs.Holds.{WalkerState, HoldState, IsWalking, IsHeld, IsReleased}
 use Rattle.plcr_imagelist.specs.Carrying.{OnlySees}
 use Rattle.plcr_run.specs.Walks.{IsFurther, IsToEnd}
@@ -7,6 +7,7 @@ use Rattle.plcr_script.specs.declared.statements.Statement.{Statement}
 use Rattle.plcr_script.specs.declared.statements.Statement.TheVariants as stated
 use Rattle.plcr_workers.specs.declared.acting.Took.{Took}
 use Rattle.plcr_workers.specs.declared.acting.Took.TheVariants.{Silent, Said, Unwritten}
+use Rattle.plcr_workers.specs.declared.lines.PassSaid.{PassSaid}
 use Rattle.plcr_workers.specs.declared.lines.PassSaid.TheVariants.{Entered, Walked, Left, Reported}
 use Rattle.plcr_workers.specs.declared.places.Place.{Place}
 use Rattle.plcr_workers.specs.declared.places.Place.TheVariants.{Out, In}
@@ -84,3 +85,18 @@ Moves (stated.Enter pass) old new took = Enters old new took
 Moves (stated.Walk pass most) old new took = Walks most old new took
 Moves (stated.Leave pass) old new took = Leaves old new took
 Moves (stated.Report pass file) old new took = ReportsInto old new took
+
+-- what a hold is that began here, or goes on
+abbrev pub ComesIn : Place → HoldState → Type 0
+ComesIn (Out old) new = IsHeld old new
+ComesIn (In old) new = new ≡ old
+
+-- what the pass is at the end of its script
+abbrev pub ComesOut : Place → WalkerState → Type 0
+ComesOut (Out old) new = new ≡ old
+ComesOut (In old) new = (low : ℕ) × (high : ℕ) × IsReleased old new low high
+
+-- what a statement of the pass came to
+abbrev pub took_of : Option PassSaid → Took
+took_of None = Silent
+took_of (Some said) = Said said
