@@ -5,18 +5,20 @@ use Rattle.plcr_machine.proofs.Pace.{paced_prefix, paced_even}
 use Rattle.plcr_machine.proofs.Renaming.{met_named, whole_named}
 use Rattle.plcr_machine.proofs.Staying.{whole_stays, lawful_wider}
 use Rattle.plcr_machine.specs.declared.entry.Entry.{Entry}
-use Rattle.plcr_machine.specs.declared.entry.Entry.TheVariants.{Enter, Leave}
+use Rattle.plcr_machine.specs.declared.entry.Entry.TheVariants.{Announce, Enter, Leave, Retire}
 use Rattle.plcr_machine.specs.declared.image.Image.{Image}
 use Rattle.plcr_machine.specs.Lists.{Grows, load_number, changes, list_after}
 use Rattle.plcr_machine.specs.Walks.{Meets, IsWholeWalk}
 use Rattle.plcr_machine.specs.Changes.{load_of}
 use Rattle.plcr_machine.specs.Holds.{before_enter}
+use Rattle.plcr_machine.specs.Parts.{own_entries}
+use Rattle.plcr_machine.specs.Passes.{counts}
 use Rattle.plcr_nodes.specs.Entries.{WentOn}
 use Rattle.plcr_nodes.proofs.Seeing.{grows_again}
 use Rattle.plcr_imagelist.specs.Holds.{WalkerState, HoldState, IsWalking, IsHeld, IsReleased, start_of}
-use Rattle.plcr_imagelist.specs.Carrying.{OnlySees, IsVisit}
+use Rattle.plcr_imagelist.specs.Carrying.{OnlySees}
 use Rattle.plcr_imagelist.specs.States.{WriterState, IsAtRest}
-use Rattle.plcr_imagelist.proofs.Sees.{met_few, visit_made}
+use Rattle.plcr_imagelist.proofs.Sees.{met_few}
 use Rattle.plcr_workers.specs.inner.Places.{PassGoes}
 use Rattle.plcr_workers.specs.inner.Visits.{KnownStay, IsKnownStay, stay_by}
 use Rattle.plcr_workers.specs.Stays.{IsStay, lists}
@@ -60,26 +62,43 @@ stay_is image w k rest grows s =
           lawful_wider load_of (lists w) (changes k.before) whole.0 (changes k.before) (changes k.inside) _ (omega arith) whole.1 upto all.1;
     }
 
--- a visit, as a stay between these lines
-abbrev pub stay_of : ℕ → Option ℕ → (was new : WalkerState) (low high : ℕ) → IsVisit was new low high → HoldState → KnownStay
-stay_of enter leave was new low high v late = record { enter = enter; leave = leave; announced = v.seen; before = v.before; inside = v.inside; met = late.met; ended = late.ended }
+-- what a pass did from where it went in to where it came out, as a stay between these lines
+abbrev pub stay_of : ℕ → Option ℕ → (was new : WalkerState) (early late : HoldState) (low high : ℕ) → IsHeld was early → IsReleased late new low high → KnownStay
+stay_of enter leave was new early late low high held out = record { enter = enter; leave = leave; announced = held.seen; before = held.enter.past; inside = out.leave.past; met = late.met; ended = late.ended }
 
--- what a pass did from where it went in to where it came out is a stay
+same_pass : (was : WalkerState) (early late : HoldState) → IsHeld was early → OnlySees early.walker late.walker → late.walker.number ≡ was.number
+same_pass was early late held sees = ap (λ (s : WalkerState). s.number) sees.now ∙ ap (λ (s : WalkerState). s.number) held.enter.now ∙ ap (λ (s : WalkerState). s.number) held.announce.now
+
+went_in : (was : WalkerState) (early late : HoldState) (held : IsHeld was early) → OnlySees early.walker late.walker → before_enter was.number late.walker.history ≡ held.enter.past
+went_in was early late held sees =
+    let first : early.walker.number ≡ was.number = ap (λ (s : WalkerState). s.number) held.enter.now ∙ ap (λ (s : WalkerState). s.number) held.announce.now in
+    subst (λ n. before_enter n late.walker.history ≡ before_enter n early.walker.history) first sees.before ∙ held.before
+
+came_out : (late : HoldState) (new : WalkerState) (low high : ℕ) (out : IsReleased late new low high) → Grows (Leave late.walker.number ∷ out.leave.past) new.history
+came_out late new low high out =
+    subst (λ (s : WalkerState). Grows (Leave late.walker.number ∷ out.leave.past) s.history) (sym out.retire.now)
+    (grows_again (Leave late.walker.number ∷ out.leave.past) out.retire.past (Retire late.walker.number ∷ out.retire.past)
+    (subst (λ (s : WalkerState). Grows s.history out.retire.past) out.leave.now out.retire.sees.added.grows) (Retire late.walker.number ∷ [], refl))
+
 pub stay_made : (was new : WalkerState) (early late : HoldState) (low high enter : ℕ) (leave : Option ℕ) (held : IsHeld was early) (sees : OnlySees early.walker late.walker) (out : IsReleased late new low high) → IsWalking late → new.number ≡ was.number
-    → IsKnownStay new (stay_of enter leave was new low high (visit_made was new low high early late held sees out) late)
+    → IsKnownStay new (stay_of enter leave was new early late low high held out)
 stay_made was new early late low high enter leave held sees out walking same =
-    let v = visit_made was new low high early late held sees out in
-    let number : late.walker.number ≡ was.number = ap (λ (s : WalkerState). s.number) sees.now ∙ ap (λ (s : WalkerState). s.number) held.enter.now ∙ ap (λ (s : WalkerState). s.number) held.announce.now in
-    let start : start_of late.walker ≡ changes v.before = ap changes (sym out.before ∙ ap (λ n. before_enter n new.history) number ∙ v.start) in
+    let before = held.enter.past in
+    let inside = out.leave.past in
+    let number : late.walker.number ≡ new.number = same_pass was early late held sees ∙ sym same in
+    let start : start_of late.walker ≡ changes before = ap changes (ap (λ n. before_enter n late.walker.history) (same_pass was early late held sees) ∙ went_in was early late held sees) in
     let seen = out.leave.sees.added.grows in
-    let later = changes-grows late.walker.history v.inside seen in
-    let left = subst (λ n. Grows (Leave n ∷ v.inside) new.history) (sym same) v.left in
-    let whole_history = grows_again late.walker.history v.inside new.history seen (grows_again v.inside (Leave new.number ∷ v.inside) new.history (Leave new.number ∷ [], refl) left) in
+    let later = changes-grows late.walker.history inside seen in
+    let left = subst (λ n. Grows (Leave n ∷ inside) new.history) number (came_out late new low high out) in
+    let whole_history = grows_again late.walker.history inside new.history seen (grows_again inside (Leave new.number ∷ inside) new.history (Leave new.number ∷ [], refl) left) in
+    let first : early.walker.number ≡ was.number = ap (λ (s : WalkerState). s.number) held.enter.now ∙ ap (λ (s : WalkerState). s.number) held.announce.now in
+    let entered : Grows (Enter was.number ∷ before) inside =
+        grows_again (Enter was.number ∷ before) late.walker.history inside (subst (λ (s : WalkerState). Grows s.history late.walker.history) held.enter.now sees.sees.added.grows) seen in
     record {
-      entered = subst (λ n. Grows (Enter n ∷ v.before) v.inside) (sym same) v.entered;
+      entered = subst (λ n. Grows (Enter n ∷ before) inside) (sym same) entered;
       left = left;
-      meets = subst (λ a. Meets load_number (list_after new.history) 0 a (changes v.inside) late.met) start
-          (meets_until load_number (list_after new.history) 0 (start_of late.walker) (changes late.walker.history) (changes v.inside) late.met later
+      meets = subst (λ a. Meets load_number (list_after new.history) 0 a (changes inside) late.met) start
+          (meets_until load_number (list_after new.history) 0 (start_of late.walker) (changes late.walker.history) (changes inside) late.met later
           (meets-grows late.walker.history new.history 0 (start_of late.walker) (changes late.walker.history) late.met whole_history (omega arith) walking.meets));
       whole = λ e.
           let ended = walking.whole e in
@@ -92,3 +111,17 @@ stay_made was new early late low high enter leave held sees out walking same =
           );
       short = λ x c. (let some = met_few late walking x c in let named = walking.known.named in let long = ap length out.went.1 ∙ length-append out.went.0 late.walker.names in omega (arith, some, named, long));
     }
+
+-- and this is its window
+pub window_is : (was new : WalkerState) (early late : HoldState) (low high : ℕ) (held : IsHeld was early) (sees : OnlySees early.walker late.walker) (out : IsReleased late new low high) → (low ≡ counts held.enter.past) × (high ≡ counts out.leave.past)
+window_is was new early late low high held sees out =
+    (out.low_is ∙ ap counts (ap (λ n. before_enter n late.walker.history) (same_pass was early late held sees) ∙ went_in was early late held sees), out.high_is)
+
+-- of its own the pass made these four entries
+pub stay_entries : (was new : WalkerState) (early late : HoldState) (low high : ℕ) (held : IsHeld was early) (sees : OnlySees early.walker late.walker) (out : IsReleased late new low high)
+    → own_entries was.number new.history ≡ Retire was.number ∷ Leave was.number ∷ Enter was.number ∷ Announce was.number held.seen ∷ own_entries was.number was.history
+stay_entries was new early late low high held sees out =
+    let p : ℕ = was.number in
+    let first : early.walker.number ≡ p = ap (λ (s : WalkerState). s.number) held.enter.now ∙ ap (λ (s : WalkerState). s.number) held.announce.now in
+    let own : own_entries p late.walker.history ≡ Enter p ∷ Announce p held.seen ∷ own_entries p was.history = subst (λ n. own_entries n late.walker.history ≡ own_entries n early.walker.history) first sees.own ∙ held.own in
+    subst (λ n. own_entries n new.history ≡ Retire n ∷ Leave n ∷ own_entries n late.walker.history) (same_pass was early late held sees) out.own ∙ ap (λ (es : List Entry). Retire p ∷ Leave p ∷ es) own
