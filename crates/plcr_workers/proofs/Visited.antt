@@ -91,7 +91,6 @@ stay_made was new early late low high enter leave held sees out walking same =
     let later = changes-grows late.walker.history inside seen in
     let left = subst (λ n. Grows (Leave n ∷ inside) new.history) number (came_out late new low high out) in
     let whole_history = grows_again late.walker.history inside new.history seen (grows_again inside (Leave new.number ∷ inside) new.history (Leave new.number ∷ [], refl) left) in
-    let first : early.walker.number ≡ was.number = ap (λ (s : WalkerState). s.number) held.enter.now ∙ ap (λ (s : WalkerState). s.number) held.announce.now in
     let entered : Grows (Enter was.number ∷ before) inside =
         grows_again (Enter was.number ∷ before) late.walker.history inside (subst (λ (s : WalkerState). Grows s.history late.walker.history) held.enter.now sees.sees.added.grows) seen in
     record {
