@@ -10,6 +10,8 @@ pub mod Passing
 pub mod Joined
 pub mod Reported
 pub mod Lawful
+pub mod Visited
+pub mod Moved
 pub mod Settled
 pub mod Made
 pub mod Printing

@@ -67,7 +67,7 @@ load_most (y ∷ met) x c =
     (λ (d : Contains met x). let later = load_most met x d in omega (arith, later))
     (contains_cases y x met c)
 
-lawful_rises : (lists : ℕ → List Image) (a b : ℕ) (met : List Image) → IsLawfulWalk load_number lists a b met → a ≤ b
+pub lawful_rises : (lists : ℕ → List Image) (a b : ℕ) (met : List Image) → IsLawfulWalk load_number lists a b met → a ≤ b
 lawful_rises lists a b met l =
     by_cases (leb a b) (leb-true a b)
     (λ f. let less = leb-false a b f in

@@ -5,4 +5,6 @@ pub mod Outputs
 pub mod Drafts
 pub mod Own
 pub mod Reports
+pub mod Visits
+pub mod Moves
 pub mod Stages

@@ -1,7 +1,11 @@
+use Rattle.std.proofs.Common.{refl}
+use Rattle.plcr_workers.specs.declared.acting.Took.TheVariants.{Said, Unwritten}
+use Rattle.plcr_workers.specs.declared.lines.PassSaid.TheVariants.{Reported}
 use Rattle.plcr_imagelist.specs.Walk.{images_of}
 use Rattle.plcr_workers.specs.inner.Places.{walker_of}
 use Rattle.plcr_workers.proofs.Passing.{again, sees, same_walk, released}
 use Rattle.plcr_workers.proofs.Reported.{held_now, held_later}
+use Rattle.plcr_workers.proofs.Moved.{reports_moved}
 use Rattle.plcr_workers.proofs.acting.report.Goals as goal
 
 pub returns-in-Ok-clause-goes : goal.returns-in-Ok-clause-goes
@@ -43,3 +47,13 @@ returns-in-Ok-clause-output g c =
         },
       );
     }
+
+pub returns-in-Ok-clause-reports : goal.returns-in-Ok-clause-reports
+returns-in-Ok-clause-reports g c =
+    reports_moved c.args.place c.come_in-hold.result c.walk_to_end.new.hold c.write_walk-captured.new.hold c.leave-pass.result.0 (Said (Reported c.in-Ok.bytes c.met-images.result c.leave-pass.result.1.low c.leave-pass.result.1.high)) c.leave-pass.result.1.low c.leave-pass.result.1.high
+    c.come_in-hold.ensures.comes c.walk_to_end.ensures.to_end c.walk_to_end.ensures.ended c.walk_to_end.ensures.sees c.walk_to_end.ensures.walking c.write_walk-captured.ensures.same c.leave-pass.ensures.released (c.met-images.ensures, refl, refl)
+
+pub returns-in-Err-clause-reports : goal.returns-in-Err-clause-reports
+returns-in-Err-clause-reports g c =
+    reports_moved c.args.place c.come_in-hold.result c.walk_to_end.new.hold c.write_walk-captured.new.hold c.leave-pass.result.0 (Unwritten) c.leave-pass.result.1.low c.leave-pass.result.1.high
+    c.come_in-hold.ensures.comes c.walk_to_end.ensures.to_end c.walk_to_end.ensures.ended c.walk_to_end.ensures.sees c.walk_to_end.ensures.walking c.write_walk-captured.ensures.same c.leave-pass.ensures.released tt

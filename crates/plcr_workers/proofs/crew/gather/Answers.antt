@@ -116,4 +116,4 @@ pub returns-clause-others : goal.returns-clause-others
 returns-clause-others g c =
     let done = last_in (length c.args.scripts.now) c.args.list.now c.args.workers.items c.loop-worker.workers.items (view c.loop-worker.chief) c.loop-worker.left.images.items c.loop-worker.left.drafts.items c.loop-worker.left.others.items
         (let o = c.loop-worker.workers.ok.0 in let n = c.in_default.ensures.cases.0 in omega (arith, o, n)) (let o = c.args.workers.ok.0 in let n = c.requires.count in omega (arith, o, n)) c.loop-worker.invariant.are_in in
-    c.turned_round.ensures ∙ ap reverse done.others_are ∙ reverse-reverse (lines_left c.args.workers.items)
+    c.turned_round-2.ensures ∙ ap reverse done.others_are ∙ reverse-reverse (lines_left c.args.workers.items)
