@@ -7,4 +7,5 @@ pub mod Own
 pub mod Reports
 pub mod Visits
 pub mod Moves
+pub mod Traces
 pub mod Stages

@@ -1,12 +1,16 @@
 -- What a statement does to the pass of a worker, step by step.
-use Rattle.std.specs.Prelude.{◌≡◌, ℕ, true, length, Option, Some, None}
+use Rattle.std.specs.Prelude.{◌≡◌, ℕ, true, List, [], ◌∷◌, length, slice_index_or, Option, Some, None}
+use Rattle.std.specs.Io.KnownBytes.{append_known}
+use Rattle.plcr_macho.specs.Images.{Listed}
 use Rattle.plcr_imagelist.specs.Holds.{WalkerState, HoldState, IsWalking, IsHeld, IsReleased}
 use Rattle.plcr_imagelist.specs.Carrying.{OnlySees}
+use Rattle.plcr_imagelist.specs.Walk.{images_of}
 use Rattle.plcr_run.specs.Walks.{IsFurther, IsToEnd}
 use Rattle.plcr_script.specs.declared.statements.Statement.{Statement}
 use Rattle.plcr_script.specs.declared.statements.Statement.TheVariants as stated
 use Rattle.plcr_workers.specs.declared.acting.Took.{Took}
 use Rattle.plcr_workers.specs.declared.acting.Took.TheVariants.{Silent, Said, Unwritten}
+use Rattle.plcr_workers.specs.declared.drafts.Draft.{Draft}
 use Rattle.plcr_workers.specs.declared.lines.PassSaid.{PassSaid}
 use Rattle.plcr_workers.specs.declared.lines.PassSaid.TheVariants.{Entered, Walked, Left, Reported}
 use Rattle.plcr_workers.specs.declared.places.Place.{Place}
@@ -41,17 +45,18 @@ Leaves (In old) (Out new) took = (low : ℕ) × (high : ℕ) × IsReleased old n
 Leaves (In old) (In new) took = ⊥
 Leaves (Out old) new took = DoesNothing (Out old) new took
 
--- what a report says of the images and of the window, where it was written
-abbrev pub SaysOf : (images low high : ℕ) → Took → Type 0
-SaysOf images low high Silent = ⊥
-SaysOf images low high (Said Entered) = ⊥
-SaysOf images low high (Said (Walked met ended)) = ⊥
-SaysOf images low high (Said (Left met from to)) = ⊥
-SaysOf images low high (Said (Reported bytes met from to)) = (met ≡ images) × (from ≡ low) × (to ≡ high)
-SaysOf images low high Unwritten = Unit {0}
+-- what a report says of the images and of the window, and what it wrote, where it was written whole
+abbrev pub SaysOf : (List Listed → List ℕ) → HoldState → (low high : ℕ) → Took → List (List ℕ) → Type 0
+SaysOf report late low high Silent wrote = ⊥
+SaysOf report late low high (Said Entered) wrote = ⊥
+SaysOf report late low high (Said (Walked met ended)) wrote = ⊥
+SaysOf report late low high (Said (Left met from to)) wrote = ⊥
+SaysOf report late low high (Said (Reported bytes met from to)) wrote =
+    (met ≡ length late.met) × (from ≡ low) × (to ≡ high) × (bytes ≡ length (report (images_of late))) × (wrote ≡ report (images_of late) ∷ [])
+SaysOf report late low high Unwritten wrote = wrote ≡ []
 
 -- it walks to its end, its images are read, and it comes out
-pub record ReportsFrom (inside : HoldState) (new : WalkerState) (took : Took) : Type 0 where
+pub record ReportsFrom (report : List Listed → List ℕ) (inside : HoldState) (new : WalkerState) (took : Took) (wrote : List (List ℕ)) : Type 0 where
   pub walked : HoldState
   pub late : HoldState
   pub to_end : IsToEnd inside walked
@@ -62,18 +67,18 @@ pub record ReportsFrom (inside : HoldState) (new : WalkerState) (took : Took) : 
   pub low : ℕ
   pub high : ℕ
   pub out : IsReleased late new low high
-  pub says : SaysOf (length late.met) low high took
+  pub says : SaysOf report late low high took wrote
 
 -- and where it is out, it goes in before
-abbrev pub Reports : Place → WalkerState → Took → Type 0
-Reports (Out old) new took = (inside : HoldState) × IsHeld old inside × ReportsFrom inside new took
-Reports (In old) new took = ReportsFrom old new took
+abbrev pub Reports : (List Listed → List ℕ) → Place → WalkerState → Took → List (List ℕ) → Type 0
+Reports report (Out old) new took wrote = (inside : HoldState) × IsHeld old inside × ReportsFrom report inside new took wrote
+Reports report (In old) new took wrote = ReportsFrom report old new took wrote
 
-abbrev pub ReportsInto : Place → Place → Took → Type 0
-ReportsInto old (Out new) took = Reports old new took
-ReportsInto old (In new) took = ⊥
+abbrev pub ReportsInto : (List Listed → List ℕ) → Place → Place → Took → List (List ℕ) → Type 0
+ReportsInto report old (Out new) took wrote = Reports report old new took wrote
+ReportsInto report old (In new) took wrote = ⊥
 
--- what each statement does
+-- what each statement does that writes no file
 abbrev pub Moves : Statement → Place → Place → Took → Type 0
 Moves (stated.Load header name) old new took = OnlyHears old new × (took ≡ Silent)
 Moves (stated.Unload header) old new took = OnlyHears old new × (took ≡ Silent)
@@ -84,7 +89,33 @@ Moves stated.End old new took = DoesNothing old new took
 Moves (stated.Enter pass) old new took = Enters old new took
 Moves (stated.Walk pass most) old new took = Walks most old new took
 Moves (stated.Leave pass) old new took = Leaves old new took
-Moves (stated.Report pass file) old new took = ReportsInto old new took
+Moves (stated.Report pass file) old new took = ⊥
+
+-- what each statement does, and the reports that it wrote
+abbrev pub Does : (List Listed → List ℕ) → Statement → Place → Place → Took → List (List ℕ) → Type 0
+Does report (stated.Report pass file) old new took wrote = ReportsInto report old new took wrote
+Does report other old new took wrote = Moves other old new took × (wrote ≡ [])
+
+-- an output gained what was written
+abbrev pub GainsOf : {K : Type 0} → (K → Option (List ℕ)) → List (List ℕ) → Draft K → Draft K → Type 0
+GainsOf written [] old new = Unit {0}
+GainsOf written (bytes ∷ more) old new = written new.out ≡ append_known (written old.out) bytes
+
+-- of outputs the next one did
+abbrev pub NextGains : {K : Type 0} → (K → Option (List ℕ)) → ℕ → List (List ℕ) → List (Draft K) → List (Draft K) → Type 0
+NextGains {K = K} written next wrote old new = (other : Draft K) → GainsOf written wrote (slice_index_or old next other) (slice_index_or new next other)
+
+-- a report into an output
+pub record ReportsTo {K : Type 0} (written : K → Option (List ℕ)) (report : List Listed → List ℕ) (old : Place) (new : WalkerState) (took : Took) (was is : Draft K) : Type 0 where
+  pub wrote : List (List ℕ)
+  pub reports : Reports report old new took wrote
+  pub gains : GainsOf written wrote was is
+
+-- a statement of a script, whose report goes into the next output
+pub record Acts {K : Type 0} (written : K → Option (List ℕ)) (report : List Listed → List ℕ) (statement : Statement) (old new : Place) (took : Took) (next : ℕ) (was is : List (Draft K)) : Type 0 where
+  pub wrote : List (List ℕ)
+  pub does : Does report statement old new took wrote
+  pub gains : NextGains written next wrote was is
 
 -- what a hold is that began here, or goes on
 abbrev pub ComesIn : Place → HoldState → Type 0

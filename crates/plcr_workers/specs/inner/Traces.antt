@@ -1,0 +1,110 @@
+-- What a worker's statements did, one after the other, to its pass, to the journal that it has seen, and to its outputs.
+use Rattle.std.specs.Prelude.{◌≡◌, ℕ, suc, ◌<◌, ◌≤◌, Bool, true, false, List, [], ◌∷◌, ◌++◌, Option, Some, None, slice_index_or, length}
+use Rattle.std.specs.Io.KnownBytes.{append_known}
+use Rattle.plcr_machine.specs.declared.entry.Entry.{Entry}
+use Rattle.plcr_machine.specs.Lists.{changes}
+use Rattle.plcr_macho.specs.Images.{Listed}
+use Rattle.plcr_imagelist.specs.Holds.{WalkerState}
+use Rattle.plcr_script.specs.declared.statements.Statement.{Statement}
+use Rattle.plcr_script.specs.declared.statements.Statement.TheVariants.{Load, Unload, Enter, Walk, Leave, Report}
+use Rattle.plcr_script.specs.declared.statements.NumberedStatement.{NumberedStatement}
+use Rattle.plcr_turns.specs.declared.lines.Asked.{Asked}
+use Rattle.plcr_turns.specs.declared.lines.Said.{Said as LineSaid}
+use Rattle.plcr_turns.specs.declared.lines.ChangeLine.{ChangeLine}
+use Rattle.plcr_turns.specs.declared.view.View.{View}
+use Rattle.plcr_turns.specs.Lines.{accepted, lines_of}
+use Rattle.plcr_turns.specs.Turns.{line_of}
+use Rattle.plcr_workers.specs.declared.acting.Took.{Took}
+use Rattle.plcr_workers.specs.declared.acting.Took.TheVariants.{Silent, Said, Unwritten}
+use Rattle.plcr_workers.specs.declared.drafts.Draft.{Draft}
+use Rattle.plcr_workers.specs.declared.lines.PassLine.{PassLine}
+use Rattle.plcr_workers.specs.declared.places.Place.{Place}
+use Rattle.plcr_workers.specs.declared.places.Place.TheVariants.{Out}
+use Rattle.plcr_workers.specs.Asking.{asked_in}
+use Rattle.plcr_workers.specs.inner.Moves.{Does, ComesOut}
+use Rattle.plcr_workers.specs.inner.Places.{PassGoes, walker_of}
+
+-- a line of the script was applied behind lines of others: it came after all changes that the pass had seen, and the pass has seen those of the journal then
+pub record Applied (script line : ℕ) (asked : Asked) (seen : List Entry) (v : View) (known : List Entry) (w : View) : Type 0 where
+  pub others : List ChangeLine
+  pub none : lines_of script others ≡ []
+  pub said : LineSaid
+  pub journal : w.journal ≡ v.journal ++ others ++ line_of script line asked said ∷ []
+  pub before : changes seen ≤ accepted (v.journal ++ others)
+  pub after : accepted w.journal ≤ changes known
+
+abbrev pub Applies : (script line : ℕ) → Option Asked → List Entry → View → List Entry → View → Type 0
+Applies script line None seen v known w = w ≡ v
+Applies script line (Some asked) seen v known w = Applied script line asked seen v known w
+
+-- the line of a statement that isn't in the journal, if it has one
+abbrev pub lines_said : ℕ → Took → List PassLine
+lines_said at Silent = []
+lines_said at (Said said) = record { at = at; said = said } ∷ []
+lines_said at Unwritten = []
+
+-- no output failed
+abbrev pub IsWell : Took → Type 0
+IsWell Silent = Unit {0}
+IsWell (Said said) = Unit {0}
+IsWell Unwritten = ⊥
+
+-- one statement, and what follows it
+pub record Then (report : List Listed → List ℕ) (script at : ℕ) (s : NumberedStatement) (p : Place) (v : View) (lines : List PassLine) (wrote : List (List ℕ)) (follows : Place → View → List PassLine → List (List ℕ) → Type 0) : Type 0 where
+  pub place : Place
+  pub view : View
+  pub took : Took
+  pub reports : List (List ℕ)
+  pub more : List PassLine
+  pub later : List (List ℕ)
+  pub lines_are : lines ≡ lines_said at took ++ more
+  pub wrote_are : wrote ≡ reports ++ later
+  pub well : IsWell took
+  pub does : Does report s.statement p place took reports
+  pub applies : Applies script s.line (asked_in s.statement) (walker_of p).history v (walker_of place).history view
+  pub goes : PassGoes (walker_of p) (walker_of place)
+  pub rest : follows place view more later
+
+-- statements from a place on, with the lines that they said and the reports that they wrote
+abbrev pub Ran : (List Listed → List ℕ) → (script at : ℕ) → List NumberedStatement → Place → View → List PassLine → List (List ℕ) → Place → View → Type 0
+Ran report script at [] p v lines wrote q w = (q ≡ p) × (w ≡ v) × (lines ≡ []) × (wrote ≡ [])
+Ran report script at (s ∷ statements) p v lines wrote q w = Then report script at s p v lines wrote (λ mid u more later. Ran report script (suc at) statements mid u more later q w)
+
+-- the outputs gained these reports, each its own
+pub record HaveGained {K : Type 0} (written : K → Option (List ℕ)) (wrote : List (List ℕ)) (first drafts : List (Draft K)) : Type 0 where
+  pub few : length wrote ≤ length drafts
+  pub each : (k : ℕ) (bytes : List ℕ) (other : Draft K) → k < length wrote → written (slice_index_or drafts k other).out ≡ append_known (written (slice_index_or first k other).out) (slice_index_or wrote k bytes)
+
+-- a worker that took all statements of its script, from where its pass was out to where it is out again
+pub record HasActed {K : Type 0} (written : K → Option (List ℕ)) (report : List Listed → List ℕ) (script : ℕ) (statements : List NumberedStatement) (old new : WalkerState) (v w : View) (lines : List PassLine) (first drafts : List (Draft K)) : Type 0 where
+  pub place : Place
+  pub wrote : List (List ℕ)
+  pub ran : Ran report script 0 statements (Out old) v lines wrote place w
+  pub out : ComesOut place new
+  pub gained : HaveGained written wrote first drafts
+
+-- statements on lines that rise, from one on
+abbrev pub Rise : ℕ → List NumberedStatement → Type 0
+Rise n [] = Unit {0}
+Rise n (s ∷ statements) = (n ≤ s.line) × Rise (suc s.line) statements
+
+-- a statement of a worker's script may stand where the pass is in, or where it is out
+abbrev pub MayStand : Bool → Statement → Type 0
+MayStand inside (Load header name) = Unit {0}
+MayStand inside (Unload header) = Unit {0}
+MayStand inside (Enter pass) = inside ≡ false
+MayStand inside (Walk pass most) = inside ≡ true
+MayStand inside (Leave pass) = inside ≡ true
+MayStand inside (Report pass file) = Unit {0}
+MayStand inside other = ⊥
+
+-- whether the pass is in behind it
+abbrev pub stands_in : Bool → Statement → Bool
+stands_in inside (Enter pass) = true
+stands_in inside (Leave pass) = false
+stands_in inside (Report pass file) = false
+stands_in inside other = inside
+
+abbrev pub MayRun : Bool → List NumberedStatement → Type 0
+MayRun inside [] = Unit {0}
+MayRun inside (s ∷ statements) = MayStand inside s.statement × MayRun (stands_in inside s.statement) statements
