@@ -32,7 +32,7 @@ use Rattle.plcr_workers.specs.Stays.{lists}
 use Rattle.plcr_workers.specs.Stopped.{IsLawfulReport}
 
 -- what was met has its names as more come
-named_on : (names more : List (List ℕ)) (met : List Image) → WentOn names more → ((x : Image) → Contains met x → x.load ≤ length names) → all_listed more met ≡ all_listed names met
+pub named_on : (names more : List (List ℕ)) (met : List Image) → WentOn names more → ((x : Image) → Contains met x → x.load ≤ length names) → all_listed more met ≡ all_listed names met
 named_on names more [] went short = refl
 named_on names more (x ∷ met) went short =
     let here : name_of x.load more ≡ name_of x.load names = ap (name_of x.load) went.1 ∙ name-older x.load went.0 names (short x (contains_here x met)) in
@@ -91,7 +91,7 @@ held_now report hold w ended =
     }
 
 -- the same images, by both words for a name
-same_listed : (names : List (List ℕ)) (met : List Image) → all_listed names met ≡ listed (all_named names met)
+pub same_listed : (names : List (List ℕ)) (met : List Image) → all_listed names met ≡ listed (all_named names met)
 same_listed names [] = refl
 same_listed names (x ∷ met) = ap (λ (l : List Listed). with_name names x ∷ l) (same_listed names met)
 

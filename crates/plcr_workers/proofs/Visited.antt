@@ -66,8 +66,8 @@ stay_is image w k rest grows s =
 abbrev pub stay_of : ℕ → Option ℕ → (was new : WalkerState) (early late : HoldState) (low high : ℕ) → IsHeld was early → IsReleased late new low high → KnownStay
 stay_of enter leave was new early late low high held out = record { enter = enter; leave = leave; announced = held.seen; before = held.enter.past; inside = out.leave.past; met = late.met; ended = late.ended }
 
-same_pass : (was : WalkerState) (early late : HoldState) → IsHeld was early → OnlySees early.walker late.walker → late.walker.number ≡ was.number
-same_pass was early late held sees = ap (λ (s : WalkerState). s.number) sees.now ∙ ap (λ (s : WalkerState). s.number) held.enter.now ∙ ap (λ (s : WalkerState). s.number) held.announce.now
+pub pass_number : (was : WalkerState) (early late : HoldState) → IsHeld was early → OnlySees early.walker late.walker → late.walker.number ≡ was.number
+pass_number was early late held sees = ap (λ (s : WalkerState). s.number) sees.now ∙ ap (λ (s : WalkerState). s.number) held.enter.now ∙ ap (λ (s : WalkerState). s.number) held.announce.now
 
 went_in : (was : WalkerState) (early late : HoldState) (held : IsHeld was early) → OnlySees early.walker late.walker → before_enter was.number late.walker.history ≡ held.enter.past
 went_in was early late held sees =
@@ -85,8 +85,8 @@ pub stay_made : (was new : WalkerState) (early late : HoldState) (low high enter
 stay_made was new early late low high enter leave held sees out walking same =
     let before = held.enter.past in
     let inside = out.leave.past in
-    let number : late.walker.number ≡ new.number = same_pass was early late held sees ∙ sym same in
-    let start : start_of late.walker ≡ changes before = ap changes (ap (λ n. before_enter n late.walker.history) (same_pass was early late held sees) ∙ went_in was early late held sees) in
+    let number : late.walker.number ≡ new.number = pass_number was early late held sees ∙ sym same in
+    let start : start_of late.walker ≡ changes before = ap changes (ap (λ n. before_enter n late.walker.history) (pass_number was early late held sees) ∙ went_in was early late held sees) in
     let seen = out.leave.sees.added.grows in
     let later = changes-grows late.walker.history inside seen in
     let left = subst (λ n. Grows (Leave n ∷ inside) new.history) number (came_out late new low high out) in
@@ -114,7 +114,7 @@ stay_made was new early late low high enter leave held sees out walking same =
 -- and this is its window
 pub window_is : (was new : WalkerState) (early late : HoldState) (low high : ℕ) (held : IsHeld was early) (sees : OnlySees early.walker late.walker) (out : IsReleased late new low high) → (low ≡ counts held.enter.past) × (high ≡ counts out.leave.past)
 window_is was new early late low high held sees out =
-    (out.low_is ∙ ap counts (ap (λ n. before_enter n late.walker.history) (same_pass was early late held sees) ∙ went_in was early late held sees), out.high_is)
+    (out.low_is ∙ ap counts (ap (λ n. before_enter n late.walker.history) (pass_number was early late held sees) ∙ went_in was early late held sees), out.high_is)
 
 -- of its own the pass made these four entries
 pub stay_entries : (was new : WalkerState) (early late : HoldState) (low high : ℕ) (held : IsHeld was early) (sees : OnlySees early.walker late.walker) (out : IsReleased late new low high)
@@ -123,4 +123,4 @@ stay_entries was new early late low high held sees out =
     let p : ℕ = was.number in
     let first : early.walker.number ≡ p = ap (λ (s : WalkerState). s.number) held.enter.now ∙ ap (λ (s : WalkerState). s.number) held.announce.now in
     let own : own_entries p late.walker.history ≡ Enter p ∷ Announce p held.seen ∷ own_entries p was.history = subst (λ n. own_entries n late.walker.history ≡ own_entries n early.walker.history) first sees.own ∙ held.own in
-    subst (λ n. own_entries n new.history ≡ Retire n ∷ Leave n ∷ own_entries n late.walker.history) (same_pass was early late held sees) out.own ∙ ap (λ (es : List Entry). Retire p ∷ Leave p ∷ es) own
+    subst (λ n. own_entries n new.history ≡ Retire n ∷ Leave n ∷ own_entries n late.walker.history) (pass_number was early late held sees) out.own ∙ ap (λ (es : List Entry). Retire p ∷ Leave p ∷ es) own
