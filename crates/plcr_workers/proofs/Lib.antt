@@ -12,6 +12,11 @@ pub mod Reported
 pub mod Lawful
 pub mod Visited
 pub mod Moved
+pub mod Freshly
+pub mod Further
+pub mod Stayed
+pub mod Traced
+pub mod Running
 pub mod Settled
 pub mod Made
 pub mod Printing

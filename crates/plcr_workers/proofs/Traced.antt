@@ -49,23 +49,23 @@ use Rattle.plcr_workers.proofs.Reported.{named_on, same_listed}
 use Rattle.plcr_workers.proofs.Stayed.{World, Opening, IsOpen, Opened, OutTold, InTold, Told, IsEarlier, IsLater, IsGood, AreGood, by_names, pairs, ran_goes, out_goes, own_before, own_inside}
 use Rattle.plcr_workers.proofs.Visited.{pass_number, stay_of, stay_made, stay_later, window_is, stay_entries}
 
-abbrev is_in : Place → Bool
+abbrev pub is_in : Place → Bool
 is_in (Out p) = false
 is_in (In hold) = true
 
 -- what is known round a statement on a line: the freshness of what is entered behind it, and of what was left by it
-record Around (W : World) (number : ℕ) (p mid : WalkerState) : Type 0 where
-  number_is : p.number ≡ W.script
-  goes : PassGoes p mid
-  earlier : IsEarlier W number p.history
-  later : IsLater W (Some number) mid.history
-  to_final : PassGoes mid W.final
+pub record Around (W : World) (number : ℕ) (p mid : WalkerState) : Type 0 where
+  pub number_is : p.number ≡ W.script
+  pub goes : PassGoes p mid
+  pub earlier : IsEarlier W number p.history
+  pub later : IsLater W (Some number) mid.history
+  pub to_final : PassGoes mid W.final
 
-one : ℕ → Statement → NumberedStatement
+abbrev pub one : ℕ → Statement → NumberedStatement
 one number statement = record { line = number; statement = statement }
 
 -- a statement that said and wrote just this
-as_said : (W : World) (at : ℕ) (statements : List NumberedStatement) (p : Place) (o : Opened W p) (took said : Took) (reports wrote : List (List ℕ)) (more : List PassLine) (later : List (List ℕ)) → took ≡ said → reports ≡ wrote
+pub as_said : (W : World) (at : ℕ) (statements : List NumberedStatement) (p : Place) (o : Opened W p) (took said : Took) (reports wrote : List (List ℕ)) (more : List PassLine) (later : List (List ℕ)) → took ≡ said → reports ≡ wrote
     → Told W at statements p o (lines_said at said ++ more) (wrote ++ later) → Told W at statements p o (lines_said at took ++ more) (reports ++ later)
 as_said W at statements p o took said reports wrote more later e f told =
     subst (λ (t : Took). Told W at statements p o (lines_said at t ++ more) (reports ++ later)) (sym e)
@@ -74,10 +74,10 @@ as_said W at statements p o took said reports wrote more later e f told =
 -- ---- a statement that only hears
 
 -- a line of the script that may stand in another's place, where what comes behind is told
-abbrev SameTells : World → ℕ → NumberedStatement → List NumberedStatement → Type 0
+abbrev pub SameTells : World → ℕ → NumberedStatement → List NumberedStatement → Type 0
 SameTells W at s statements = (spot : _) (lines : List PassLine) (stays : _) (wrote : List (List ℕ)) → Tells W.process (suc at) statements spot lines stays (pairs (files_of statements) wrote) → Tells W.process at (s ∷ statements) spot lines stays (pairs (files_of (s ∷ statements)) wrote)
 
-heard_out : (W : World) (at : ℕ) (s : NumberedStatement) (statements : List NumberedStatement) (old new : WalkerState) (lines : List PassLine) (wrote : List (List ℕ)) → SameTells W at s statements → old.number ≡ W.script → OnlySees old new
+pub heard_out : (W : World) (at : ℕ) (s : NumberedStatement) (statements : List NumberedStatement) (old new : WalkerState) (lines : List PassLine) (wrote : List (List ℕ)) → SameTells W at s statements → old.number ≡ W.script → OnlySees old new
     → OutTold W (suc at) statements new lines wrote → OutTold W at (s ∷ statements) old lines wrote
 heard_out W at s statements old new lines wrote same number sees r = record {
   stays = r.stays;
@@ -86,7 +86,7 @@ heard_out W at s statements old new lines wrote same number sees r = record {
   tells = same OutSpot lines (by_names W.names r.stays) wrote r.tells;
 }
 
-heard_in : (W : World) (at : ℕ) (s : NumberedStatement) (statements : List NumberedStatement) (o : Opening) (old new : HoldState) (lines : List PassLine) (wrote : List (List ℕ)) → SameTells W at s statements → new.met ≡ old.met → new.ended ≡ old.ended
+pub heard_in : (W : World) (at : ℕ) (s : NumberedStatement) (statements : List NumberedStatement) (o : Opening) (old new : HoldState) (lines : List PassLine) (wrote : List (List ℕ)) → SameTells W at s statements → new.met ≡ old.met → new.ended ≡ old.ended
     → InTold W (suc at) statements o new lines wrote → InTold W at (s ∷ statements) o old lines wrote
 heard_in W at s statements o old new lines wrote same met ended r =
     let many : length new.met ≡ length old.met = ap length met in
@@ -110,7 +110,7 @@ heard_in W at s statements o old new lines wrote same met ended r =
 
 -- ---- freshness and entries
 
-earlier_on : (W : World) (number : ℕ) (h k : List Entry) → Grows h k → IsEarlier W number h → IsEarlier W number k
+pub earlier_on : (W : World) (number : ℕ) (h k : List Entry) → Grows h k → IsEarlier W number h → IsEarlier W number k
 earlier_on W number h k grows e before line after is own less =
     let few = e before line after is own less in
     let more = changes-grows h k grows in
@@ -122,46 +122,46 @@ before_grows was early held =
     grows_again was.history held.announced.history held.enter.past
     (grows_again was.history held.announce.past held.announced.history held.announce.sees.added.grows (Announce was.number held.seen ∷ [], announced)) held.enter.sees.added.grows
 
-named_count : (names : List (List ℕ)) (met : List Image) → length (all_named names met) ≡ length met
+pub named_count : (names : List (List ℕ)) (met : List Image) → length (all_named names met) ≡ length met
 named_count names [] = refl
 named_count names (x ∷ met) = ap suc (named_count names met)
 
 -- a stay that was closed
-abbrev closed : (o : Opening) (late : HoldState) (new : WalkerState) (low high : ℕ) → Option ℕ → IsReleased late new low high → KnownStay
+abbrev pub closed : (o : Opening) (late : HoldState) (new : WalkerState) (low high : ℕ) → Option ℕ → IsReleased late new low high → KnownStay
 closed o late new low high leave out = stay_of o.enter leave o.was new o.early late low high o.held out
 
-closed_known : (W : World) (o : Opening) (late : HoldState) (new : WalkerState) (low high : ℕ) (leave : Option ℕ) (is : IsOpen W o late) (out : IsReleased late new low high) → IsKnownStay new (closed o late new low high leave out)
+pub closed_known : (W : World) (o : Opening) (late : HoldState) (new : WalkerState) (low high : ℕ) (leave : Option ℕ) (is : IsOpen W o late) (out : IsReleased late new low high) → IsKnownStay new (closed o late new low high leave out)
 closed_known W o late new low high leave is out =
     stay_made o.was new o.early late low high o.enter leave o.held is.sees out is.walking ((released late new low high out).number ∙ pass_number o.was o.early late o.held is.sees)
 
-closed_later : (W : World) (o : Opening) (late : HoldState) (new : WalkerState) (low high : ℕ) (leave : Option ℕ) (is : IsOpen W o late) (out : IsReleased late new low high) → IsLater W leave new.history → IsLater W leave out.leave.past
+pub closed_later : (W : World) (o : Opening) (late : HoldState) (new : WalkerState) (low high : ℕ) (leave : Option ℕ) (is : IsOpen W o late) (out : IsReleased late new low high) → IsLater W leave new.history → IsLater W leave out.leave.past
 closed_later W o late new low high leave is out later before line after e own behind =
     let few = later before line after e own behind in
     let more = changes-grows (Leave new.number ∷ out.leave.past) new.history (closed_known W o late new low high leave is out).left in
     omega (arith, few, more)
 
-closed_before : (W : World) (o : Opening) → o.was.number ≡ W.script → own_entries W.script o.held.enter.past ≡ Announce W.script o.held.seen ∷ own_entries W.script o.was.history
+pub closed_before : (W : World) (o : Opening) → o.was.number ≡ W.script → own_entries W.script o.held.enter.past ≡ Announce W.script o.held.seen ∷ own_entries W.script o.was.history
 closed_before W o number = subst (λ n. own_entries n o.held.enter.past ≡ Announce n o.held.seen ∷ own_entries n o.was.history) number (own_before o.was o.early o.held)
 
-closed_inside : (W : World) (o : Opening) (late : HoldState) (new : WalkerState) (low high : ℕ) (is : IsOpen W o late) (out : IsReleased late new low high)
+pub closed_inside : (W : World) (o : Opening) (late : HoldState) (new : WalkerState) (low high : ℕ) (is : IsOpen W o late) (out : IsReleased late new low high)
     → own_entries W.script out.leave.past ≡ Enter W.script ∷ Announce W.script o.held.seen ∷ own_entries W.script o.was.history
 closed_inside W o late new low high is out =
     subst (λ n. own_entries n out.leave.past ≡ Enter n ∷ Announce n o.held.seen ∷ own_entries n o.was.history) is.number (own_inside o.was new o.early late low high o.held is.sees out)
 
 -- and what is told behind it follows it
-closed_entries : (W : World) (o : Opening) (late : HoldState) (new : WalkerState) (low high : ℕ) (is : IsOpen W o late) (out : IsReleased late new low high)
+pub closed_entries : (W : World) (o : Opening) (late : HoldState) (new : WalkerState) (low high : ℕ) (is : IsOpen W o late) (out : IsReleased late new low high)
     → own_entries W.script new.history ≡ Retire W.script ∷ Leave W.script ∷ Enter W.script ∷ Announce W.script o.held.seen ∷ own_entries W.script o.was.history
 closed_entries W o late new low high is out =
     subst (λ n. own_entries n new.history ≡ Retire n ∷ Leave n ∷ Enter n ∷ Announce n o.held.seen ∷ own_entries n o.was.history) is.number (stay_entries o.was new o.early late low high o.held is.sees out)
 
-closed_window : (W : World) (o : Opening) (late : HoldState) (new : WalkerState) (low high : ℕ) (leave : Option ℕ) (is : IsOpen W o late) (out : IsReleased late new low high) → HasWindow (stay_by W.names (closed o late new low high leave out)) low high
+pub closed_window : (W : World) (o : Opening) (late : HoldState) (new : WalkerState) (low high : ℕ) (leave : Option ℕ) (is : IsOpen W o late) (out : IsReleased late new low high) → HasWindow (stay_by W.names (closed o late new low high leave out)) low high
 closed_window W o late new low high leave is out =
     let w = window_is o.was new o.early late low high o.held is.sees out in
     record { low_is = w.0; high_is = w.1 }
 
 -- ---- it goes in
 
-went_in : (W : World) (at number pass : ℕ) (statements : List NumberedStatement) (old : WalkerState) (new : HoldState) (held : IsHeld old new) (more : List PassLine) (later : List (List ℕ)) → Around W number old new.walker
+pub went_in : (W : World) (at number pass : ℕ) (statements : List NumberedStatement) (old : WalkerState) (new : HoldState) (held : IsHeld old new) (more : List PassLine) (later : List (List ℕ)) → Around W number old new.walker
     → InTold W (suc at) statements (record { was = old; early = new; held = held; enter = number }) new more later
     → OutTold W at (one number (stated.Enter pass) ∷ statements) old (record { at = at; said = Entered } ∷ more) later
 went_in W at number pass statements old new held more later a r =
@@ -191,7 +191,7 @@ went_in W at number pass statements old new held more later a r =
 
 -- ---- it walks on
 
-walked_on : (W : World) (at number pass most : ℕ) (statements : List NumberedStatement) (o : Opening) (old new : HoldState) (more : List PassLine) (later : List (List ℕ)) → IsFurther old most new → InTold W (suc at) statements o new more later
+pub walked_on : (W : World) (at number pass most : ℕ) (statements : List NumberedStatement) (o : Opening) (old new : HoldState) (more : List PassLine) (later : List (List ℕ)) → IsFurther old most new → InTold W (suc at) statements o new more later
     → InTold W at (one number (stated.Walk pass most) ∷ statements) o old (record { at = at; said = Walked (length new.met) new.ended } ∷ more) later
 walked_on W at number pass most statements o old new more later further r =
     let went = went_further old new most further in
@@ -230,7 +230,7 @@ walked_on W at number pass most statements o old new more later further r =
 
 -- ---- it comes out
 
-left_there : (W : World) (at number pass : ℕ) (statements : List NumberedStatement) (o : Opening) (old : HoldState) (new : WalkerState) (low high : ℕ) (more : List PassLine) (later : List (List ℕ)) → IsOpen W o old → IsReleased old new low high → Around W number old.walker new
+pub left_there : (W : World) (at number pass : ℕ) (statements : List NumberedStatement) (o : Opening) (old : HoldState) (new : WalkerState) (low high : ℕ) (more : List PassLine) (later : List (List ℕ)) → IsOpen W o old → IsReleased old new low high → Around W number old.walker new
     → OutTold W (suc at) statements new more later → InTold W at (one number (stated.Leave pass) ∷ statements) o old (record { at = at; said = Left (length old.met) low high } ∷ more) later
 left_there W at number pass statements o old new low high more later is out a r =
     let stay = closed o old new low high (Some number) out in
@@ -285,25 +285,25 @@ reported_is W number o inside walked late new low high bytes images is out goes 
     }
 
 -- what a report tells of the stay that it closes, and what follows it
-record Closes (W : World) (at number : ℕ) (file : List ℕ) (statements : List NumberedStatement) (o : Opening) (inside : HoldState) (took : Took) (wrote : List (List ℕ)) (more : List PassLine) (later : List (List ℕ)) : Type 0 where
-  late : HoldState
-  new : WalkerState
-  low : ℕ
-  high : ℕ
-  out : IsReleased late new low high
-  is : IsOpen W o late
-  bytes : ℕ
-  took_is : took ≡ Said (Reported bytes (length late.met) low high)
-  wrote_is : wrote ≡ W.process.report (images_of late) ∷ []
-  reported : IsReport W.process (stay_by W.names (closed o late new low high (Some number) out)) (length inside.met) inside.ended number bytes (length late.met) (W.process.report (images_of late))
-  ended : late.ended ≡ true
-  rises : length inside.met ≤ length late.met
-  still : inside.ended ≡ true → length late.met ≡ length inside.met
-  known : IsKnownStay W.final (closed o late new low high (Some number) out)
-  later_is : IsLater W (Some number) out.leave.past
-  told : OutTold W (suc at) statements new more later
+pub record Closes (W : World) (at number : ℕ) (file : List ℕ) (statements : List NumberedStatement) (o : Opening) (inside : HoldState) (took : Took) (wrote : List (List ℕ)) (more : List PassLine) (later : List (List ℕ)) : Type 0 where
+  pub late : HoldState
+  pub new : WalkerState
+  pub low : ℕ
+  pub high : ℕ
+  pub out : IsReleased late new low high
+  pub is : IsOpen W o late
+  pub bytes : ℕ
+  pub took_is : took ≡ Said (Reported bytes (length late.met) low high)
+  pub wrote_is : wrote ≡ W.process.report (images_of late) ∷ []
+  pub reported : IsReport W.process (stay_by W.names (closed o late new low high (Some number) out)) (length inside.met) inside.ended number bytes (length late.met) (W.process.report (images_of late))
+  pub ended : late.ended ≡ true
+  pub rises : length inside.met ≤ length late.met
+  pub still : inside.ended ≡ true → length late.met ≡ length inside.met
+  pub known : IsKnownStay W.final (closed o late new low high (Some number) out)
+  pub later_is : IsLater W (Some number) out.leave.past
+  pub told : OutTold W (suc at) statements new more later
 
-closes : (W : World) (at number : ℕ) (file : List ℕ) (statements : List NumberedStatement) (o : Opening) (inside : HoldState) (new : WalkerState) (took : Took) (wrote : List (List ℕ)) (more : List PassLine) (later : List (List ℕ)) → IsOpen W o inside
+pub closes : (W : World) (at number : ℕ) (file : List ℕ) (statements : List NumberedStatement) (o : Opening) (inside : HoldState) (new : WalkerState) (took : Took) (wrote : List (List ℕ)) (more : List PassLine) (later : List (List ℕ)) → IsOpen W o inside
     → PassGoes new W.final → IsLater W (Some number) new.history → IsWell took → ReportsFrom W.process.report inside new took wrote → OutTold W (suc at) statements new more later
     → Closes W at number file statements o inside took wrote more later
 closes W at number file statements o inside new Silent wrote more later is goes fresh well f r = absurd f.says
@@ -335,10 +335,7 @@ closes W at number file statements o inside new (Said (Reported bytes met from t
       told = r;
     }
 
-line_for : ℕ → ℕ → ℕ → ℕ → ℕ → PassLine
-line_for at bytes images low high = record { at = at; said = Reported bytes images low high }
-
-reported_in : (W : World) (at number pass : ℕ) (file : List ℕ) (statements : List NumberedStatement) (o : Opening) (inside : HoldState) (took : Took) (wrote : List (List ℕ)) (more : List PassLine) (later : List (List ℕ))
+pub reported_in : (W : World) (at number pass : ℕ) (file : List ℕ) (statements : List NumberedStatement) (o : Opening) (inside : HoldState) (took : Took) (wrote : List (List ℕ)) (more : List PassLine) (later : List (List ℕ))
     → Closes W at number file statements o inside took wrote more later → InTold W at (one number (stated.Report pass file) ∷ statements) o inside (lines_said at took ++ more) (wrote ++ later)
 reported_in W at number pass file statements o inside took wrote more later c =
     let stay = closed o c.late c.new c.low c.high (Some number) c.out in
@@ -371,7 +368,7 @@ reported_in W at number pass file statements o inside took wrote more later c =
       );
     }
 
-reported_out : (W : World) (at number pass : ℕ) (file : List ℕ) (statements : List NumberedStatement) (old : WalkerState) (inside : HoldState) (held : IsHeld old inside) (took : Took) (wrote : List (List ℕ)) (more : List PassLine) (later : List (List ℕ))
+pub reported_out : (W : World) (at number pass : ℕ) (file : List ℕ) (statements : List NumberedStatement) (old : WalkerState) (inside : HoldState) (held : IsHeld old inside) (took : Took) (wrote : List (List ℕ)) (more : List PassLine) (later : List (List ℕ))
     → IsEarlier W number old.history → Closes W at number file statements (record { was = old; early = inside; held = held; enter = number }) inside took wrote more later
     → OutTold W at (one number (stated.Report pass file) ∷ statements) old (lines_said at took ++ more) (wrote ++ later)
 reported_out W at number pass file statements old inside held took wrote more later earlier c =

@@ -57,6 +57,7 @@ SaysOf report late low high Unwritten wrote = wrote ≡ []
 
 -- it walks to its end, its images are read, and it comes out
 pub record ReportsFrom (report : List Listed → List ℕ) (inside : HoldState) (new : WalkerState) (took : Took) (wrote : List (List ℕ)) : Type 0 where
+  pub begins : IsWalking inside
   pub walked : HoldState
   pub late : HoldState
   pub to_end : IsToEnd inside walked
@@ -110,6 +111,12 @@ pub record ReportsTo {K : Type 0} (written : K → Option (List ℕ)) (report : 
   pub wrote : List (List ℕ)
   pub reports : Reports report old new took wrote
   pub gains : GainsOf written wrote was is
+
+-- and into the next output
+pub record ReportsNext {K : Type 0} (written : K → Option (List ℕ)) (report : List Listed → List ℕ) (old new : Place) (took : Took) (next : ℕ) (was is : List (Draft K)) : Type 0 where
+  pub wrote : List (List ℕ)
+  pub reports : ReportsInto report old new took wrote
+  pub gains : NextGains written next wrote was is
 
 -- a statement of a script, whose report goes into the next output
 pub record Acts {K : Type 0} (written : K → Option (List ℕ)) (report : List Listed → List ℕ) (statement : Statement) (old new : Place) (took : Took) (next : ℕ) (was is : List (Draft K)) : Type 0 where
