@@ -92,8 +92,8 @@ applies_begins script n (Some asked) seen v known u a =
 pub view_begins : (report : List Listed → List ℕ) (script at : ℕ) (statements : List NumberedStatement) (p : Place) (v : View) (lines : List PassLine) (wrote : List (List ℕ)) (q : Place) (w : View) → Ran report script at statements p v lines wrote q w → (x : List ChangeLine) × (w.journal ≡ v.journal ++ x)
 view_begins report script at [] p v lines wrote q w ran = ([], ap (λ (u : View). u.journal) ran.1 ∙ sym (append-nil v.journal))
 view_begins report script at (s ∷ statements) p v lines wrote q w ran =
-    let a = applies_begins script s.line (asked_in s.statement) (walker_of p).history v (walker_of ran.place).history ran.view ran.applies in
-    let r = view_begins report script (suc at) statements ran.place ran.view ran.more ran.later q w ran.rest in
+    let a = applies_begins script s.line (asked_in s.statement) (walker_of p).history v (walker_of ran.place).history ran.sees ran.applies in
+    let r = view_begins report script (suc at) statements ran.place ran.sees ran.more ran.later q w ran.rest in
     (a.0 ++ r.0, r.1 ∙ ap (λ (l : List ChangeLine). l ++ r.0) a.1 ∙ append_assoc v.journal a.0 r.0)
 
 -- so the last journal goes on from each view
@@ -132,22 +132,22 @@ later_lines report script at [] p v lines wrote q w journal bound ran g rise bef
     absurd (no_line script cut.0 line after own (ap (lines_of script) (sym cut.2) ∙ g.none))
 later_lines report script at (s ∷ statements) p v lines wrote q w journal bound ran g rise before line after e own from = of (asked_in s.statement) ran.applies
   where
-    on : length ran.view.journal ≤ length before → (changes (walker_of p).history ≤ accepted before) × (bound ≤ line.wanted.line)
+    on : length ran.sees.journal ≤ length before → (changes (walker_of p).history ≤ accepted before) × (bound ≤ line.wanted.line)
     on from' =
-        let r = later_lines report script (suc at) statements ran.place ran.view ran.more ran.later q w journal (suc s.line) ran.rest g rise.1 before line after e own from' in
+        let r = later_lines report script (suc at) statements ran.place ran.sees ran.more ran.later q w journal (suc s.line) ran.rest g rise.1 before line after e own from' in
         let more = changes-grows (walker_of p).history (walker_of ran.place).history ran.goes.grows in
         let few = r.0 in
         let here = rise.0 in
         let above = r.1 in
         (omega (arith, more, few), omega (arith, here, above))
-    of : (asked : Option Asked) → Applies script s.line asked (walker_of p).history v (walker_of ran.place).history ran.view → (changes (walker_of p).history ≤ accepted before) × (bound ≤ line.wanted.line)
+    of : (asked : Option Asked) → Applies script s.line asked (walker_of p).history v (walker_of ran.place).history ran.sees → (changes (walker_of p).history ≤ accepted before) × (bound ≤ line.wanted.line)
     of None a = let same = ap (λ (u : View). length u.journal) a in on (omega (arith, same, from))
     of (Some asked) a =
-        by_cases (leb (length ran.view.journal) (length before))
-        (λ t. on (leb-true (length ran.view.journal) (length before) t))
+        by_cases (leb (length ran.sees.journal) (length before))
+        (λ t. on (leb-true (length ran.sees.journal) (length before) t))
         (λ f.
-            let begins = goes_on script journal ran.view w g (view_begins report script (suc at) statements ran.place ran.view ran.more ran.later q w ran.rest) in
-            let l = the_line script s.line asked (walker_of p).history v (walker_of ran.place).history ran.view a journal begins.0 begins.1 before line after e own from (leb-false (length ran.view.journal) (length before) f) in
+            let begins = goes_on script journal ran.sees w g (view_begins report script (suc at) statements ran.place ran.sees ran.more ran.later q w ran.rest) in
+            let l = the_line script s.line asked (walker_of p).history v (walker_of ran.place).history ran.sees a journal begins.0 begins.1 before line after e own from (leb-false (length ran.sees.journal) (length before) f) in
             let here = rise.0 in
             let is = l.1 in
             (l.0, omega (arith, here, is)))

@@ -17,6 +17,7 @@ pub mod Further
 pub mod Stayed
 pub mod Traced
 pub mod Running
+pub mod Tracing
 pub mod Settled
 pub mod Made
 pub mod Printing

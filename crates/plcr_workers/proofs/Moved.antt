@@ -12,7 +12,12 @@ use Rattle.plcr_run.specs.Walks.{IsToEnd}
 use Rattle.plcr_script.specs.declared.statements.Statement.{Statement}
 use Rattle.plcr_script.specs.declared.statements.Statement.TheVariants as stated
 use Rattle.plcr_script.specs.Reading.{file_of}
+use Rattle.plcr_machine.specs.declared.entry.Entry.{Entry}
 use Rattle.plcr_turns.specs.declared.lines.Asked.{Asked}
+use Rattle.plcr_turns.specs.declared.lines.Request.{Request}
+use Rattle.plcr_turns.specs.declared.view.View.{View}
+use Rattle.plcr_turns.specs.Lines.{asked_by}
+use Rattle.plcr_turns.specs.Working.{AppliesLine}
 use Rattle.plcr_workers.specs.declared.acting.Took.{Took}
 use Rattle.plcr_workers.specs.declared.acting.Took.TheVariants.{Silent}
 use Rattle.plcr_workers.specs.declared.drafts.Draft.{Draft}
@@ -20,6 +25,7 @@ use Rattle.plcr_workers.specs.declared.places.Place.{Place}
 use Rattle.plcr_workers.specs.declared.places.Place.TheVariants.{Out, In}
 use Rattle.plcr_workers.specs.Asking.{asked_in}
 use Rattle.plcr_workers.specs.inner.Moves.{Acts, ComesIn, Does, GainsOf, Moves, NextGains, OnlyHears, Reports, ReportsFrom, ReportsInto, ReportsNext, SaysOf}
+use Rattle.plcr_workers.specs.inner.Traces.{Applied, Applies}
 use Rattle.plcr_workers.proofs.Reported.{get_or_any}
 
 from_inside : (report : List Listed → List ℕ) (inside walked late : HoldState) (new : WalkerState) (took : Took) (wrote : List (List ℕ)) (low high : ℕ) → IsWalking inside → IsToEnd inside walked → walked.ended ≡ true → OnlySees inside.walker walked.walker → IsWalking walked → IsSameWalk walked late
@@ -112,3 +118,20 @@ acts_reported written report statement old new took next was is e r = record { w
 pub acts_moved : {K : Type 0} (written : K → Option (List ℕ)) (report : List Listed → List ℕ) (statement : Statement) (old new : Place) (took : Took) (next : ℕ) (was is : List (Draft K)) → Moves statement old new took
     → Acts written report statement old new took next was is
 acts_moved written report statement old new took next was is m = record { wrote = []; does = does_move report statement old new took m; gains = nothing_gained written next was is }
+
+-- ---- the journal
+
+pub applied_by : (script line : ℕ) (request : Request) (statement : Statement) (v w : View) (seen known : List Entry) (names : List (List ℕ)) → AppliesLine (record { script = script; line = line; request = request }) v seen w known names
+    → asked_in statement ≡ Some (asked_by request) → Applies script line (asked_in statement) seen v known w
+applied_by script line request statement v w seen known names a e =
+    subst (λ (asked : Option Asked). Applies script line asked seen v known w) (sym e) (record {
+      others = a.others;
+      none = a.none;
+      said = a.said;
+      journal = a.journal;
+      before = a.before;
+      after = a.after;
+    })
+
+pub not_applied : (script line : ℕ) (statement : Statement) (v : View) (seen known : List Entry) → asked_in statement ≡ None → Applies script line (asked_in statement) seen v known v
+not_applied script line statement v seen known e = subst (λ (asked : Option Asked). Applies script line asked seen v known v) (sym e) refl

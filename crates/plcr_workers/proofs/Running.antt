@@ -135,7 +135,7 @@ record Here (W : World) (bound : ℕ) (p : WalkerState) (v : View) : Type 0 wher
   knows : accepted v.journal ≤ changes p.history
 
 around : (W : World) (at bound : ℕ) (s : NumberedStatement) (statements : List NumberedStatement) (p : Place) (v : View) (lines : List PassLine) (wrote : List (List ℕ)) (ran : Ran W.process.report W.script at (s ∷ statements) p v lines wrote W.place W.view)
-    → Rise bound (s ∷ statements) → Here W bound (walker_of p) v → AreBelow W.script W.journal ran.view (suc s.line) → Around W s.line (walker_of p) (walker_of ran.place)
+    → Rise bound (s ∷ statements) → Here W bound (walker_of p) v → AreBelow W.script W.journal ran.sees (suc s.line) → Around W s.line (walker_of p) (walker_of ran.place)
 around W at bound s statements p v lines wrote ran rise here below = record {
   number_is = here.number_is;
   goes = ran.goes;
@@ -148,20 +148,20 @@ around W at bound s statements p v lines wrote ran rise here below = record {
           let knows = here.knows in
           omega (arith, few, knows));
   later = λ before line after e own behind.
-      by_cases (leb (length ran.view.journal) (length before))
-      (λ t. (later_lines W.process.report W.script (suc at) statements ran.place ran.view ran.more ran.later W.place W.view W.journal (suc s.line) ran.rest W.goes rise.1 before line after e own (leb-true (length ran.view.journal) (length before) t)).0)
-      (λ f. let b = below before line after e own (leb-false (length ran.view.journal) (length before) f) in absurd (omega (arith, b, behind)));
-  to_final = again (walker_of ran.place) (walker_of W.place) W.final (ran_goes W.process.report W.script (suc at) statements ran.place ran.view ran.more ran.later W.place W.view ran.rest) (out_goes W.place W.final W.out);
+      by_cases (leb (length ran.sees.journal) (length before))
+      (λ t. (later_lines W.process.report W.script (suc at) statements ran.place ran.sees ran.more ran.later W.place W.view W.journal (suc s.line) ran.rest W.goes rise.1 before line after e own (leb-true (length ran.sees.journal) (length before) t)).0)
+      (λ f. let b = below before line after e own (leb-false (length ran.sees.journal) (length before) f) in absurd (omega (arith, b, behind)));
+  to_final = again (walker_of ran.place) (walker_of W.place) W.final (ran_goes W.process.report W.script (suc at) statements ran.place ran.sees ran.more ran.later W.place W.view ran.rest) (out_goes W.place W.final W.out);
 }
 
 here_next : (W : World) (at bound : ℕ) (s : NumberedStatement) (statements : List NumberedStatement) (p : Place) (v : View) (lines : List PassLine) (wrote : List (List ℕ)) (ran : Ran W.process.report W.script at (s ∷ statements) p v lines wrote W.place W.view)
-    → Rise bound (s ∷ statements) → Here W bound (walker_of p) v → Here W (suc s.line) (walker_of ran.place) ran.view
+    → Rise bound (s ∷ statements) → Here W bound (walker_of p) v → Here W (suc s.line) (walker_of ran.place) ran.sees
 here_next W at bound s statements p v lines wrote ran rise here =
-    let begins = goes_on W.script W.journal ran.view W.view W.goes (view_begins W.process.report W.script (suc at) statements ran.place ran.view ran.more ran.later W.place W.view ran.rest) in
+    let begins = goes_on W.script W.journal ran.sees W.view W.goes (view_begins W.process.report W.script (suc at) statements ran.place ran.sees ran.more ran.later W.place W.view ran.rest) in
     record {
       number_is = ran.goes.number ∙ here.number_is;
-      below = below_next W.script s.line bound (asked_in s.statement) (walker_of p).history v (walker_of ran.place).history ran.view W.journal begins.0 ran.applies begins.1 rise.0 here.below;
-      knows = knows_next W.script s.line (asked_in s.statement) (walker_of p).history v (walker_of ran.place).history ran.view ran.applies ran.goes.grows here.knows;
+      below = below_next W.script s.line bound (asked_in s.statement) (walker_of p).history v (walker_of ran.place).history ran.sees W.journal begins.0 ran.applies begins.1 rise.0 here.below;
+      knows = knows_next W.script s.line (asked_in s.statement) (walker_of p).history v (walker_of ran.place).history ran.sees ran.applies ran.goes.grows here.knows;
     }
 
 -- behind a statement the pass is where it leads
@@ -202,7 +202,7 @@ told W at bound (s ∷ statements) p o v lines wrote ran rise may here =
     (subst (λ (r : List (List ℕ)). Told W at (s ∷ statements) p o (lines_said at ran.took ++ ran.more) r) (sym ran.wrote_are)
     (step W at s.line s.statement statements p o ran.place ran.took ran.reports ran.more ran.later ran.does ran.well may.0
       (around W at bound s statements p v lines wrote ran rise here next.below)
-      (λ q. told W (suc at) (suc s.line) statements ran.place q ran.view ran.more ran.later ran.rest rise.1 (subst (λ b. MayRun b statements) (stands_there W.process.report s.statement p ran.place ran.took ran.reports ran.does may.0) may.1) next)))
+      (λ q. told W (suc at) (suc s.line) statements ran.place q ran.sees ran.more ran.later ran.rest rise.1 (subst (λ b. MayRun b statements) (stands_there W.process.report s.statement p ran.place ran.took ran.reports ran.does may.0) may.1) next)))
 
 -- ---- the whole script, in what the writer has seen
 

@@ -117,7 +117,7 @@ Told W at statements (In hold) o lines wrote = InTold W at statements o.0 hold l
 pub ran_goes : (report : List Listed → List ℕ) (script at : ℕ) (statements : List NumberedStatement) (p : Place) (v : View) (lines : List PassLine) (wrote : List (List ℕ)) (q : Place) (w : View) → Ran report script at statements p v lines wrote q w → PassGoes (walker_of p) (walker_of q)
 ran_goes report script at [] p v lines wrote q w ran = subst (λ (x : Place). PassGoes (walker_of p) (walker_of x)) (sym ran.0) (goes_nowhere (walker_of p))
 ran_goes report script at (s ∷ statements) p v lines wrote q w ran =
-    again (walker_of p) (walker_of ran.place) (walker_of q) ran.goes (ran_goes report script (suc at) statements ran.place ran.view ran.more ran.later q w ran.rest)
+    again (walker_of p) (walker_of ran.place) (walker_of q) ran.goes (ran_goes report script (suc at) statements ran.place ran.sees ran.more ran.later q w ran.rest)
 
 pub out_goes : (q : Place) (new : WalkerState) → ComesOut q new → PassGoes (walker_of q) new
 out_goes (Out old) new c = subst (λ (x : WalkerState). PassGoes old x) (sym c) (goes_nowhere old)

@@ -1,6 +1,7 @@
 -- What a worker's statements did, one after the other, to its pass, to the journal that it has seen, and to its outputs.
-use Rattle.std.specs.Prelude.{◌≡◌, ℕ, suc, ◌<◌, ◌≤◌, Bool, true, false, List, [], ◌∷◌, ◌++◌, Option, Some, None, slice_index_or, length}
+use Rattle.std.specs.Prelude.{◌≡◌, ℕ, suc, ◌<◌, ◌≤◌, Bool, true, false, List, [], ◌∷◌, ◌++◌, Option, Some, None, slice_index_or, length, All}
 use Rattle.std.specs.Io.KnownBytes.{append_known}
+use Rattle.crossbeam_queue.specs.Passes.{view}
 use Rattle.plcr_machine.specs.declared.entry.Entry.{Entry}
 use Rattle.plcr_machine.specs.Lists.{changes}
 use Rattle.plcr_macho.specs.Images.{Listed}
@@ -17,9 +18,11 @@ use Rattle.plcr_turns.specs.Turns.{line_of}
 use Rattle.plcr_workers.specs.declared.acting.Took.{Took}
 use Rattle.plcr_workers.specs.declared.acting.Took.TheVariants.{Silent, Said, Unwritten}
 use Rattle.plcr_workers.specs.declared.drafts.Draft.{Draft}
+use Rattle.plcr_workers.specs.declared.drafts.Progress.TheVariants.{Written}
 use Rattle.plcr_workers.specs.declared.lines.PassLine.{PassLine}
 use Rattle.plcr_workers.specs.declared.places.Place.{Place}
 use Rattle.plcr_workers.specs.declared.places.Place.TheVariants.{Out}
+use Rattle.plcr_workers.specs.declared.worker.Worker.{Worker}
 use Rattle.plcr_workers.specs.Asking.{asked_in}
 use Rattle.plcr_workers.specs.inner.Moves.{Does, ComesOut}
 use Rattle.plcr_workers.specs.inner.Places.{PassGoes, walker_of}
@@ -52,7 +55,7 @@ IsWell Unwritten = ⊥
 -- one statement, and what follows it
 pub record Then (report : List Listed → List ℕ) (script at : ℕ) (s : NumberedStatement) (p : Place) (v : View) (lines : List PassLine) (wrote : List (List ℕ)) (follows : Place → View → List PassLine → List (List ℕ) → Type 0) : Type 0 where
   pub place : Place
-  pub view : View
+  pub sees : View
   pub took : Took
   pub reports : List (List ℕ)
   pub more : List PassLine
@@ -61,9 +64,9 @@ pub record Then (report : List Listed → List ℕ) (script at : ℕ) (s : Numbe
   pub wrote_are : wrote ≡ reports ++ later
   pub well : IsWell took
   pub does : Does report s.statement p place took reports
-  pub applies : Applies script s.line (asked_in s.statement) (walker_of p).history v (walker_of place).history view
+  pub applies : Applies script s.line (asked_in s.statement) (walker_of p).history v (walker_of place).history sees
   pub goes : PassGoes (walker_of p) (walker_of place)
-  pub rest : follows place view more later
+  pub rest : follows place sees more later
 
 -- statements from a place on, with the lines that they said and the reports that they wrote
 abbrev pub Ran : (List Listed → List ℕ) → (script at : ℕ) → List NumberedStatement → Place → View → List PassLine → List (List ℕ) → Place → View → Type 0
@@ -71,17 +74,36 @@ Ran report script at [] p v lines wrote q w = (q ≡ p) × (w ≡ v) × (lines �
 Ran report script at (s ∷ statements) p v lines wrote q w = Then report script at s p v lines wrote (λ mid u more later. Ran report script (suc at) statements mid u more later q w)
 
 -- the outputs gained these reports, each its own
-pub record HaveGained {K : Type 0} (written : K → Option (List ℕ)) (wrote : List (List ℕ)) (first drafts : List (Draft K)) : Type 0 where
-  pub few : length wrote ≤ length drafts
-  pub each : (k : ℕ) (bytes : List ℕ) (other : Draft K) → k < length wrote → written (slice_index_or drafts k other).out ≡ append_known (written (slice_index_or first k other).out) (slice_index_or wrote k bytes)
+abbrev pub HaveGained : {K : Type 0} → (K → Option (List ℕ)) → List (List ℕ) → List (Draft K) → List (Draft K) → Type 0
+HaveGained {K = K} written wrote first drafts = (k : ℕ) (bytes : List ℕ) (other : Draft K) → k < length wrote → written (slice_index_or drafts k other).out ≡ append_known (written (slice_index_or first k other).out) (slice_index_or wrote k bytes)
+
+-- statements were taken, from a place to a place
+pub record HasTraced {K : Type 0} (written : K → Option (List ℕ)) (report : List Listed → List ℕ) (script : ℕ) (statements : List NumberedStatement) (p : Place) (v : View) (q : Place) (w : View) (lines : List PassLine) (next : ℕ) (first drafts : List (Draft K)) : Type 0 where
+  pub wrote : List (List ℕ)
+  pub ran : Ran report script 0 statements p v lines wrote q w
+  pub count : length wrote ≡ next
+  pub gained : HaveGained written wrote first drafts
+
+-- where all outputs of a worker were written whole, all statements of its script were taken
+abbrev pub TracesWhole : {K : Type 0} → (K → Option (List ℕ)) → (List Listed → List ℕ) → List NumberedStatement → Place → Place → Worker K → Worker K → Type 0
+TracesWhole {K = K} written report statements p q old new = All (λ (d : Draft K). d.progress ≡ Written) new.drafts.items
+    → (next : ℕ) × HasTraced written report old.script statements p (view old.turns) q (view new.turns) new.lines.items next old.drafts.items new.drafts.items
 
 -- a worker that took all statements of its script, from where its pass was out to where it is out again
-pub record HasActed {K : Type 0} (written : K → Option (List ℕ)) (report : List Listed → List ℕ) (script : ℕ) (statements : List NumberedStatement) (old new : WalkerState) (v w : View) (lines : List PassLine) (first drafts : List (Draft K)) : Type 0 where
+pub record HasActed {K : Type 0} (written : K → Option (List ℕ)) (report : List Listed → List ℕ) (statements : List NumberedStatement) (old new : Worker K) : Type 0 where
+  pub first : WalkerState
+  pub was : old.image ≡ Some first
+  pub last : WalkerState
+  pub is : new.image ≡ Some last
   pub place : Place
+  pub out : ComesOut place last
   pub wrote : List (List ℕ)
-  pub ran : Ran report script 0 statements (Out old) v lines wrote place w
-  pub out : ComesOut place new
-  pub gained : HaveGained written wrote first drafts
+  pub ran : Ran report old.script 0 statements (Out first) (view old.turns) new.lines.items wrote place (view new.turns)
+  pub gained : HaveGained written wrote old.drafts.items new.drafts.items
+
+-- where all outputs were written whole, it did
+abbrev pub ActsWhole : {K : Type 0} → (K → Option (List ℕ)) → (List Listed → List ℕ) → List NumberedStatement → Worker K → Worker K → Type 0
+ActsWhole {K = K} written report statements old new = All (λ (d : Draft K). d.progress ≡ Written) new.drafts.items → HasActed written report statements old new
 
 -- statements on lines that rise, from one on
 abbrev pub Rise : ℕ → List NumberedStatement → Type 0

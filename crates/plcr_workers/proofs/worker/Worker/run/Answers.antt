@@ -22,3 +22,18 @@ returns-clause-own g c =
       own = own_later (meanings (g.P.Process.image_fault c.args.process.now) (g.P.Process.report c.args.process.now c.args.context.now)) c.args.script.now.statements (walker_of c.take_statements-place.result).names c.come_out.result.names
           (lines_of worker.script (view worker.turns).journal) c.come_out.ensures.goes.went c.take_statements-place.ensures.own;
     }
+
+pub returns-clause-acted : goal.returns-clause-acted
+returns-clause-acted g c = λ all.
+    let t = c.take_statements-place.ensures.traced all in
+    record {
+      first = c.in-Some.pass;
+      was = c.in-Some.is;
+      last = c.come_out.result;
+      is = refl;
+      place = c.take_statements-place.result;
+      out = c.come_out.ensures.comes;
+      wrote = t.1.wrote;
+      ran = t.1.ran;
+      gained = t.1.gained;
+    }
