@@ -1,6 +1,6 @@
 -- Where the lines of a script stand in the journal: those of its statements so far in what its worker has seen, and each later one behind all changes that its pass had seen.
 use Rattle.std.proofs.Common.{◌≡◌, ℕ, zero, suc, ◌+◌, ◌<◌, ◌≤◌, Bool, true, false, cond, List, [], ◌∷◌, ◌++◌, length, Option, Some, None, leb, leb-true, leb-false, refl, sym, ap, ◌∙◌, subst, length-append, append_assoc, append-nil, arith}
-use Rattle.std.proofs.lemmas.List.{sum_by-append}
+use Rattle.std.proofs.lemmas.List.Sums.{sum_by-append}
 use Rattle.plcr_machine.proofs.Cases.{by_cases}
 use Rattle.plcr_machine.proofs.Growing.{changes-grows}
 use Rattle.plcr_machine.specs.declared.entry.Entry.{Entry}
@@ -21,11 +21,11 @@ use Rattle.plcr_workers.specs.inner.Traces.{Applied, Applies, Then, Ran, Rise}
 
 -- ---- cuts of a list
 
-tail_of : {A : Type 0} → List A → List A
+abbrev tail_of : {A : Type 0} → List A → List A
 tail_of [] = []
 tail_of (x ∷ xs) = xs
 
-head_or : {A : Type 0} → A → List A → A
+abbrev head_or : {A : Type 0} → A → List A → A
 head_or d [] = d
 head_or d (x ∷ xs) = x
 
@@ -130,21 +130,22 @@ later_lines report script at [] p v lines wrote q w journal bound ran g rise bef
     let same = ap (λ (u : View). length u.journal) ran.1 in
     let cut = cut_behind w.journal g.rest before line after (sym g.is ∙ e) (omega (arith, same, from)) in
     absurd (no_line script cut.0 line after own (ap (lines_of script) (sym cut.2) ∙ g.none))
-later_lines report script at (s ∷ statements) p v lines wrote q w journal bound ran g rise before line after e own from = of (asked_in s.statement) ran.applies
+later_lines report script at (s ∷ statements) p v lines wrote q w journal bound ran g rise before line after e own from =
+    of (asked_in s.statement) ran.applies (λ from'. later_lines report script (suc at) statements ran.place ran.sees ran.more ran.later q w journal (suc s.line) ran.rest g rise.1 before line after e own from')
   where
-    on : length ran.sees.journal ≤ length before → (changes (walker_of p).history ≤ accepted before) × (bound ≤ line.wanted.line)
-    on from' =
-        let r = later_lines report script (suc at) statements ran.place ran.sees ran.more ran.later q w journal (suc s.line) ran.rest g rise.1 before line after e own from' in
+    on : (length ran.sees.journal ≤ length before → (changes (walker_of ran.place).history ≤ accepted before) × (suc s.line ≤ line.wanted.line)) → length ran.sees.journal ≤ length before → (changes (walker_of p).history ≤ accepted before) × (bound ≤ line.wanted.line)
+    on later from' =
+        let r = later from' in
         let more = changes-grows (walker_of p).history (walker_of ran.place).history ran.goes.grows in
         let few = r.0 in
         let here = rise.0 in
         let above = r.1 in
         (omega (arith, more, few), omega (arith, here, above))
-    of : (asked : Option Asked) → Applies script s.line asked (walker_of p).history v (walker_of ran.place).history ran.sees → (changes (walker_of p).history ≤ accepted before) × (bound ≤ line.wanted.line)
-    of None a = let same = ap (λ (u : View). length u.journal) a in on (omega (arith, same, from))
-    of (Some asked) a =
+    of : (asked : Option Asked) → Applies script s.line asked (walker_of p).history v (walker_of ran.place).history ran.sees → (length ran.sees.journal ≤ length before → (changes (walker_of ran.place).history ≤ accepted before) × (suc s.line ≤ line.wanted.line)) → (changes (walker_of p).history ≤ accepted before) × (bound ≤ line.wanted.line)
+    of None a later = let same = ap (λ (u : View). length u.journal) a in on later (omega (arith, same, from))
+    of (Some asked) a later =
         by_cases (leb (length ran.sees.journal) (length before))
-        (λ t. on (leb-true (length ran.sees.journal) (length before) t))
+        (λ t. on later (leb-true (length ran.sees.journal) (length before) t))
         (λ f.
             let begins = goes_on script journal ran.sees w g (view_begins report script (suc at) statements ran.place ran.sees ran.more ran.later q w ran.rest) in
             let l = the_line script s.line asked (walker_of p).history v (walker_of ran.place).history ran.sees a journal begins.0 begins.1 before line after e own from (leb-false (length ran.sees.journal) (length before) f) in

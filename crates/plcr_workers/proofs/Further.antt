@@ -5,10 +5,9 @@ use Rattle.plcr_machine.proofs.Cases.{not_both}
 use Rattle.plcr_imagelist.specs.Holds.{HoldState, IsNext}
 use Rattle.plcr_run.specs.Walks.{Meeting, IsFurther, IsToEnd}
 use Rattle.plcr_run.proofs.Walked.{met_more, met_end}
-use Rattle.plcr_workers.specs.Scripts.{IsWalkLine}
 
 meeting_count : (count : ℕ) (s t : HoldState) → Meeting count s t → length t.met ≡ count + length s.met
-meeting_count zero s t m = ap (λ (h : HoldState). length h.met) m
+meeting_count zero s t m = (let same = ap (λ (h : HoldState). length h.met) m in omega (arith, same))
 meeting_count (suc count) s t m = let more = met_more m.0 t m.2 in let rest = meeting_count count s m.0 m.1 in omega (arith, more, rest)
 
 -- a call that met one found a walk that had not ended, and didn't end it

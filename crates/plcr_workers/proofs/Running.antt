@@ -206,11 +206,11 @@ told W at bound (s ∷ statements) p o v lines wrote ran rise may here =
 
 -- ---- the whole script, in what the writer has seen
 
-record Ended (W : World) (w : WriterState) : Type 0 where
-  names_are : W.names ≡ w.names
-  rest : IsAtRest w
-  grows : Grows W.final.history w.history
-  own : own_entries W.script w.history ≡ own_entries W.script W.final.history
+pub record Ended (W : World) (w : WriterState) : Type 0 where
+  pub names_are : W.names ≡ w.names
+  pub rest : IsAtRest w
+  pub grows : Grows W.final.history w.history
+  pub own : own_entries W.script w.history ≡ own_entries W.script W.final.history
 
 are_stays : (W : World) (w : WriterState) → Ended W w → W.final.number ≡ W.script → (stays : List KnownStay) → AreGood W stays → All (IsStay w W.script) (by_names W.names stays)
 are_stays W w ended number [] good = All-nil (IsStay w W.script)

@@ -388,6 +388,7 @@ reported_out W at number pass file statements old inside held took wrote more la
         by_names W.names c.told.stays,
         refl,
         refl,
+        (
         c.bytes,
         length c.late.met,
         c.low,
@@ -401,5 +402,6 @@ reported_out W at number pass file statements old inside held took wrote more la
             (subst (λ b. IsReport W.process (stay_by W.names stay) (length inside.met) b number c.bytes (length c.late.met) report) held.start.1 c.reported),
         closed_window W o c.late c.new c.low c.high (Some number) c.is c.out,
         c.told.tells,
+        ),
       );
     }

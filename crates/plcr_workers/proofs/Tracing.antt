@@ -133,7 +133,7 @@ gained_more {K} written faults tells took wrote bytes next first old new count w
         let long = length-append wrote (bytes ∷ []) in
         let below : k < length wrote = (let b = below_next k next not_next (omega (arith, less, long, count)) in omega (arith, b, count)) in
         ap (λ (x : Draft K). written x.out) (there_is faults tells next took old new w k other not_next) ∙ gained k d other below
-        ∙ ap (append_known (written (slice_index_or first k other).out)) (sym (get_or_append_left wrote (bytes ∷ []) k d below)))
+        ∙ ap (append_known (written (slice_index_or first k other).out)) (sym (get_or_append_left wrote (bytes ∷ []) d k below)))
 
 -- a statement was taken, and no output failed
 pub traced_on : {K : Type 0} (written : K → Option (List ℕ)) (report : List Listed → List ℕ) (faults : K → ℕ) (tells : Draft K → Draft K → Type 0) (script : ℕ) (statements : List NumberedStatement) (at line next more : ℕ) (statement : Statement) (took : Took)
