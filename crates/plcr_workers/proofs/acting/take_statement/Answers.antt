@@ -1,4 +1,4 @@
-use Rattle.std.proofs.Common.{Some, sym}
+use Rattle.std.proofs.Common.{Some, refl, sym}
 use Rattle.crossbeam_queue.specs.Passes.{view}
 use Rattle.plcr_script.specs.Meanings.{meanings}
 use Rattle.plcr_script.specs.Reading.{file_of}
@@ -26,3 +26,8 @@ returns-in-Some-clause-acts g c =
 pub returns-in-Some-clause-applies : goal.returns-in-Some-clause-applies
 returns-in-Some-clause-applies g c =
     applied_by c.args.script c.args.line c.in-Some.request c.args.statement.now (view c.args.turns.now) (view c.apply-place.new.turns) (walker_of c.args.place).history (walker_of c.apply-place.result).history (walker_of c.apply-place.result).names c.apply-place.ensures.applies c.in-Some.ensures.some.asked
+
+pub returns-clause-acts : goal.returns-clause-acts
+returns-clause-acts g c =
+    acts_moved g.K.Sink.written (g.P.Process.report c.args.process.now c.args.context.now) c.args.statement.now c.args.place c.move_on.result.0 c.move_on.result.1 c.args.next c.args.drafts.now.items c.args.drafts.now.items
+    (c.move_on.ensures.moves (c.in_default.ensures.none refl) (no_file c.args.statement.now c.if-is_report.ensures))

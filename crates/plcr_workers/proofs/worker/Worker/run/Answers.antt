@@ -1,4 +1,4 @@
-use Rattle.std.proofs.Common.{refl, subst}
+use Rattle.std.proofs.Common.{◌∙◌, refl, subst, sym}
 use Rattle.crossbeam_queue.specs.Passes.{view}
 use Rattle.plcr_script.specs.Meanings.{meanings}
 use Rattle.plcr_turns.specs.Lines.{lines_of}
@@ -28,7 +28,7 @@ returns-clause-acted g c = λ all.
     let t = c.take_statements-place.ensures.traced all in
     record {
       first = c.in-Some.pass;
-      was = c.in-Some.is;
+      was = sym c.take.ensures.value ∙ c.in-Some.is;
       last = c.come_out.result;
       is = refl;
       place = c.take_statements-place.result;

@@ -42,7 +42,7 @@ loop-at-init g c = record {
   room = c.requires.begins.room;
   all = c.requires.outputs.count;
   reported = none_reported g.K.Sink.written (g.P.Process.report c.args.process.now c.args.context.now) (walker_of c.args.place) c.args.self.now.drafts.items;
-  traced = nothing_traced g.K.Sink.written (g.P.Process.report c.args.process.now c.args.context.now) c.args.self.now.script c.args.place (view c.args.self.now.turns) c.args.self.now.lines.items c.args.self.now.drafts.items (nil_from_length c.args.self.now.lines.items c.requires.begins.none);
+  traced = nothing_traced g.K.Sink.written (g.P.Process.report c.args.process.now c.args.context.now) c.args.self.now.script c.args.place (view c.args.self.now.turns) c.args.self.now.lines.items c.args.self.now.drafts.items (nil_from_length c.args.self.now.lines.items (let none = c.requires.begins.none in omega (arith, none)));
   outputs = none_taken g.K.Sink.faults c.args.script.now.statements c.args.self.now.drafts.items c.requires.outputs.waiting;
 }
 
