@@ -1,5 +1,5 @@
 -- What a worker's statements did, one after the other, to its pass, to the journal that it has seen, and to its outputs.
-use Rattle.std.specs.Prelude.{◌≡◌, ℕ, suc, ◌<◌, ◌≤◌, Bool, true, false, List, [], ◌∷◌, ◌++◌, Option, Some, None, slice_index_or, length, All}
+use Rattle.std.specs.Prelude.{◌≡◌, ℕ, suc, ◌<◌, ◌≤◌, Bool, true, false, List, [], ◌∷◌, ◌++◌, Option, Some, None, slice_get, slice_index_or, length, All}
 use Rattle.std.specs.Io.KnownBytes.{append_known}
 use Rattle.crossbeam_queue.specs.Passes.{view}
 use Rattle.plcr_machine.specs.declared.entry.Entry.{Entry}
@@ -9,6 +9,7 @@ use Rattle.plcr_imagelist.specs.Holds.{WalkerState}
 use Rattle.plcr_script.specs.declared.statements.Statement.{Statement}
 use Rattle.plcr_script.specs.declared.statements.Statement.TheVariants.{Load, Unload, Enter, Walk, Leave, Report}
 use Rattle.plcr_script.specs.declared.statements.NumberedStatement.{NumberedStatement}
+use Rattle.plcr_script.specs.Scripts.{ScriptValue}
 use Rattle.plcr_turns.specs.declared.lines.Asked.{Asked}
 use Rattle.plcr_turns.specs.declared.lines.Said.{Said as LineSaid}
 use Rattle.plcr_turns.specs.declared.lines.ChangeLine.{ChangeLine}
@@ -104,6 +105,16 @@ pub record HasActed {K : Type 0} (written : K → Option (List ℕ)) (report : L
 -- where all outputs were written whole, it did
 abbrev pub ActsWhole : {K : Type 0} → (K → Option (List ℕ)) → (List Listed → List ℕ) → List NumberedStatement → Worker K → Worker K → Type 0
 ActsWhole {K = K} written report statements old new = All (λ (d : Draft K). d.progress ≡ Written) new.drafts.items → HasActed written report statements old new
+
+-- the same of the script of its number
+pub record ActsWholeOf {K : Type 0} (written : K → Option (List ℕ)) (report : List Listed → List ℕ) (scripts : List ScriptValue) (old new : Worker K) : Type 0 where
+  pub script : ScriptValue
+  pub stands : slice_get scripts old.script ≡ Some script
+  pub acts : ActsWhole written report script.statements old new
+
+-- and of workers, each at its place
+abbrev pub HaveActed : {K : Type 0} → (K → Option (List ℕ)) → (List Listed → List ℕ) → List ScriptValue → List (Worker K) → List (Worker K) → Type 0
+HaveActed {K = K} written report scripts old new = (k : ℕ) (other : Worker K) → k < length old → ActsWholeOf written report scripts (slice_index_or old k other) (slice_index_or new k other)
 
 -- statements on lines that rise, from one on
 abbrev pub Rise : ℕ → List NumberedStatement → Type 0
