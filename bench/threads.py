@@ -27,7 +27,8 @@ import sys
 import tempfile
 import time
 
-from measuring import HERE
+from measuring import HERE, processor_seconds
+from reference import fields, merged
 
 SCRIPTS = 8
 LINES = 3000
@@ -69,7 +70,7 @@ def script(number, chance):
         header = chance.choice(HEADERS)
         kind = chance.random()
         if kind < 0.45:
-            lines.append("load %#x n%d" % (header, len(lines) + 1))
+            lines.append("load %#x n%d.%d" % (header, number, len(lines) + 1))
         elif kind < 0.85:
             lines.append("unload %#x" % header)
         elif kind < 0.9 and reports < REPORTS:
@@ -99,14 +100,12 @@ def need(holds, *what):
 
 def replay(journal, scripts):
     """The lists after each change, and for each script the changes before and after each of its lines."""
-    lists, loads, at = [[]], 0, [0] * len(scripts)
+    lists, loads, unloads = [[]], 0, 0
     changes = [{} for _ in scripts]
+    asked = [iter([k for k, line in enumerate(own, 1) if line.split()[0] in ("load", "unload")]) for own in scripts]
     for number, line, said in journal:
-        own = scripts[number - 1]
-        asked = [k for k in range(at[number - 1], len(own)) if own[k].split()[0] in ("load", "unload")]
-        need(asked and asked[0] == line - 1, "line out of order", number, line)
-        at[number - 1] = line
-        parts, now, before = own[line - 1].split(), lists[-1], len(lists) - 1
+        need(next(asked[number - 1], None) == line, "line out of order", number, line)
+        parts, now, before = scripts[number - 1][line - 1].split(), lists[-1], len(lists) - 1
         header = int(parts[1], 0)
         if parts[0] == "load":
             if said[0] == "full":
@@ -114,22 +113,23 @@ def replay(journal, scripts):
                 need(live == len(now) and live + held == NODES, "full", number, line)
                 need(seen // COUNT_UNIT == before and seen % COUNT_UNIT <= len(scripts), "seen", number, line)
                 need(held == 0 or seen % COUNT_UNIT > 0, "held without a reader", number, line)
+                need(held <= unloads, "more held than unloaded", number, line)
             else:
                 loads += 1
                 need(said == ["load", str(loads)], "load", number, line, said)
                 need(len(now) < NODES, "more images than nodes", number, line)
-                lists.append(now + [(loads, header)])
+                lists.append(now + [(loads, header, parts[2])])
         else:
             found = [image for image in now if image[1] == header]
             if found:
                 need(said == ["unload", str(found[0][0])], "unload", number, line, said)
                 lists.append([image for image in now if image is not found[0]])
+                unloads += 1
             else:
                 need(said == ["notloaded"], "notloaded", number, line, said)
         changes[number - 1][line] = (before, len(lists) - 1)
-    for number, own in enumerate(scripts):
-        rest = [line for line in own[at[number]:] if line.split()[0] in ("load", "unload")]
-        need(not rest, "lines that are not in the journal", number + 1)
+    for number, rest in enumerate(asked, 1):
+        need(next(rest, None) is None, "lines that are not in the journal", number)
     return lists, changes
 
 
@@ -140,14 +140,19 @@ def bounds(changes, enter, leave, last):
     return low, high
 
 
-def walk_in(lists, low, high, count):
-    """Whether some lists of the window have a walk of so many images: at least those of all lists, at most those of any."""
-    some, each = set(), None
-    for images in lists[low:high + 1]:
-        loads = {image[0] for image in images}
-        some |= loads
-        each = loads if each is None else each & loads
-    return len(each) <= count <= len(some)
+def images_in(data):
+    """The headers and names of a report's images, in their order."""
+    report = merged("root", fields("root", data, 8, len(data)))
+    return [(image[1], image[3].decode()) for image in report[4]]
+
+
+def walk_in(lists, low, high, found):
+    """Whether the images are of lists of the window alone, in the order of their loads, with all that were in each of these."""
+    window = [{(header, name): load for load, header, name in images} for images in lists[low:high + 1]]
+    loads = {image: load for images in window for image, load in images.items()}
+    numbers = [loads.get(image, 0) for image in found]
+    rising = all(a < b for a, b in zip([0, *numbers], numbers))
+    return rising and set.intersection(*map(set, window)) <= set(found)
 
 
 def judge_others(number, own, others, lists, changes, files):
@@ -180,9 +185,10 @@ def judge_others(number, own, others, lists, changes, files):
             else:
                 size, images = int(said[2]), int(said[3])
                 need(images >= met and (not ended or images == met), "images of a report", number, line)
-                need(walk_in(lists, max(low, first), min(high + 1, most), images), "walk", number, line)
                 data = files[said[1]]
-                need(len(data) == size, "bytes", number, line)
+                found = images_in(data)
+                need(len(data) == size and len(found) == images, "bytes", number, line)
+                need(walk_in(lists, max(low, first), min(high + 1, most), found), "walk", number, line)
             enter, met, ended = None, 0, False
 
 
@@ -208,10 +214,12 @@ def judge(log, scripts, folder):
 
 def run(program, words, folder):
     def limit():
-        resource.setrlimit(resource.RLIMIT_NOFILE, (4096, 4096))
-    begun = time.perf_counter()
+        hard = resource.getrlimit(resource.RLIMIT_NOFILE)[1]
+        most = 4096 if hard == resource.RLIM_INFINITY else min(4096, hard)
+        resource.setrlimit(resource.RLIMIT_NOFILE, (most, hard))
+    begun, used = time.perf_counter(), processor_seconds()
     done = subprocess.run([program, *words], cwd=folder, stdout=subprocess.PIPE, preexec_fn=limit, check=False)
-    return done.returncode, done.stdout.decode(), time.perf_counter() - begun
+    return done.returncode, done.stdout.decode(), (time.perf_counter() - begun, processor_seconds() - used)
 
 
 def main():
@@ -231,7 +239,7 @@ def main():
             try:
                 need(status == 0, "status", status, log[-200:])
                 lines, changed, files = judge(log, scripts, folder)
-                print("run %d: %d lines in the journal, which went %d times to another script; %d files; %.2f s" % (turn + 1, lines, changed, files, seconds))
+                print("run %d: %d lines in the journal, which went %d times to another script; %d files; %.2f s" % (turn + 1, lines, changed, files, seconds[0]))
                 threads.append(seconds)
             except Wrong as fault:
                 wrong += 1
@@ -243,7 +251,9 @@ def main():
                 alone.append(seconds)
     print("%d runs, %d wrong" % (runs, wrong))
     if threads and alone:
-        print("threads %.2f s, report alone %.2f s (medians)" % (sorted(threads)[len(threads) // 2], sorted(alone)[len(alone) // 2]))
+        for name, took in (("threads", threads), ("report alone", alone)):
+            wall, used = (sorted(t[k] for t in took)[len(took) // 2] for k in (0, 1))
+            print("%s: %.2f s, %.2f s of processors (medians)" % (name, wall, used))
     return 1 if wrong else 0
 
 

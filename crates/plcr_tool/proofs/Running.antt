@@ -47,7 +47,7 @@ threads_complete core scripts contents job old new status can read outs lines do
     elim (completed (IsJob SIDE_BY_SIDE) (JobMisread SIDE_BY_SIDE) (job_files core scripts) AllKept HasStopped contents job old new does.ending can
     (λ other is. one_job SIDE_BY_SIDE contents other job is read)
     (λ refusal is. job_wants SIDE_BY_SIDE contents job refusal read is)
-    (λ other ran. elim ran [ inl keep ↦ outs keep.cause | inr log ↦ lines log.cut.cause ])
+    (λ other ran. elim ran.1 [ inl keep ↦ outs keep.cause | inr log ↦ lines log.cut.cause ])
     does.did) [
       | inl all ↦ inl (does.number ∙ all.0, all.1, all.2)
       | inr want ↦ inr (does.number ∙ want)

@@ -1,5 +1,5 @@
 //! The command line.
-ghost use Rattle.std.specs.Prelude.{◌≡◌, ◌≤◌, None, Some, IfSome, IsNone, length, map, string_bytes};
+ghost use Rattle.std.specs.Prelude.{◌≡◌, ◌≤◌, None, Some, IfSome, IfNone, length, map, string_bytes};
 ghost use Rattle.plcr_base.specs.Told.{Prints};
 ghost use Rattle.plcr_command.specs.Seen.{seen};
 ghost use Rattle.plcr_tool.specs.Headline.{FormTellsTruly, TopTellsTruly};
@@ -111,7 +111,7 @@ fn alone<D: Desk, L: Sink>(
 fn threads_words(words: &[String]) -> Option<(&str, &[String])>
     ensures form { IfSome result (λ found. threads_in (map string_bytes words.now) ≡ Some (SideBySide found.0.now (map string_bytes found.1.now))) }
     ensures few { IfSome result (λ found. (1 ≤ length found.1.now) × (length found.1.now ≤ MOST_SCRIPTS)) }
-    ensures none { IsNone result → threads_in (map string_bytes words.now) ≡ None }
+    ensures none { IfNone result (threads_in (map string_bytes words.now) ≡ None) }
 {
     match words {
         [word, core, scripts @ ..] => {

@@ -91,16 +91,13 @@ numbered_ok number (Ok s) script is = ap ok_again is
     ok_again (Err e) = Ok s
 numbered_ok number (Err refusal) script is = absurd cc
 
+scripts_or : List ScriptValue → Result (List ScriptValue) RefusedScript → List ScriptValue
+scripts_or d (Ok scripts) = scripts
+scripts_or d (Err refused) = d
+
 scripts_apart : (mode later : Mode) (before : List ScriptValue) (contents : List (List ℕ)) (scripts : List ScriptValue) → scripts_from mode later before contents ≡ Ok scripts → All IsApart before → All IsApart scripts
-unfolding scripts_from
-scripts_apart mode later before [] scripts is all = subst (All IsApart) (ok_same before is) all
-  where
-    ok_same : (d : List ScriptValue) → Ok before ≡ Ok scripts → before ≡ scripts
-    ok_same d e = ap (scripts_or d) e
-      where
-        scripts_or : List ScriptValue → Result (List ScriptValue) RefusedScript → List ScriptValue
-        scripts_or d (Ok s) = s
-        scripts_or d (Err e) = d
+unfolding scripts_from scripts_or
+scripts_apart mode later before [] scripts is all = subst (All IsApart) (ap (scripts_or before) is) all
 scripts_apart mode later before (bytes ∷ contents) scripts is all =
     let b = bind_ok (numbered (length before + 1) (script_in mode before bytes)) (λ (script : ScriptValue). scripts_from later later (before ++ script ∷ []) contents) scripts is in
     let read = numbered_ok (length before + 1) (script_in mode before bytes) b.0 b.1 in

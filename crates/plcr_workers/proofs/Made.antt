@@ -21,7 +21,7 @@ use Rattle.plcr_command.specs.Saving.{TookNothing}
 use Rattle.plcr_workers.specs.declared.drafts.Draft.{Draft}
 use Rattle.plcr_workers.specs.declared.worker.Worker.{Worker}
 use Rattle.plcr_workers.specs.Log.{file_of, file_in}
-use Rattle.plcr_workers.specs.inner.Hired.{AreNew, IsNew}
+use Rattle.plcr_workers.specs.inner.Hired.{AreNew, IsNew, writes_one}
 use Rattle.plcr_workers.specs.inner.Outputs.{HasOpenFor, IsDraftOf, name_at, draft_names, names_in, AreMade, HasMade, IsUnmade, IsSameWorker, AreSameWorkers, AllMade, NotAllMade, outputs_of, StandsAt}
 use Rattle.plcr_workers.proofs.Opened.{after_make, still_open}
 use Rattle.plcr_workers.proofs.Settled.{nothing_none, nothing_twice}
@@ -70,6 +70,19 @@ files_rest (s ∷ statements) (suc at) =
           ∙ sym (append_assoc (files_of one) (files_of (take at statements)) r.0)
           ∙ ap (λ (l : List (List ℕ)). l ++ r.0) (sym (filter_map-append (λ (x : NumberedStatement). reading.file_of x.statement) one (take at statements))),
     )
+
+own_long : (file : Option (List ℕ)) → length (own_file file) ≡ writes_one file
+own_long None = refl
+own_long (Some file) = refl
+
+-- the files of the first statements are counted one by one
+pub files_count : (statements : List NumberedStatement) (at : ℕ) (st : Statement) → Some st ≡ option_map (λ (s : NumberedStatement). s.statement) (slice_get statements at)
+    → length (files_of (take (at + 1) statements)) ≡ length (files_of (take at statements)) + writes_one (reading.file_of st)
+files_count statements at st e =
+    let more = ap length (files_more statements at st (stands_at statements at st e)) in
+    let long = length-append (files_of (take at statements)) (own_file (reading.file_of st)) in
+    let one = own_long (reading.file_of st) in
+    omega (arith, more, long, one)
 
 -- a statement that is no report has no file
 pub not_report : (st : Statement) → ((pass : ℕ) (file : List ℕ) → st ≡ statements.Report pass file → ⊥) → reading.file_of st ≡ None
@@ -172,6 +185,18 @@ module _ {K : Type 0} (faults : K → ℕ) (number : ℕ) (statements : List Num
         made = subst (λ (l : List (List ℕ)). HasMade l old new) (sym more) (made_twice (files_of (take at statements)) (file ∷ []) old now new m.made made);
         few = let few = m.few in let long = length-append drafts (draft ∷ []) in omega (arith, few, long);
       }
+
+  -- there is room for the output of a report
+  pub making_room : (at : ℕ) (st : Statement) (file : List ℕ) (drafts : List (Draft K)) (old now : Told) → Stands statements at st → reading.file_of st ≡ Some file → MakingEach faults number statements at drafts old now → length drafts < length (files_of statements)
+  making_room at st file drafts old now stands is m =
+      let more : files_of (take (at + 1) statements) ≡ files_of (take at statements) ++ file ∷ [] = files_more statements at st stands ∙ ap (λ (o : Option (List ℕ)). files_of (take at statements) ++ own_file o) is in
+      let r = files_rest statements (at + 1) in
+      let names = ap length m.outputs.names in
+      let many = length-map drafts (λ (d : Draft K). file_of (slice_get statements d.at)) in
+      let whole = ap length (r.1 ∙ ap (λ (l : List (List ℕ)). l ++ r.0) more) in
+      let first = length-append (files_of (take at statements) ++ file ∷ []) r.0 in
+      let second = length-append (files_of (take at statements)) (file ∷ []) in
+      omega (arith, names, many, whole, first, second)
 
   -- one whose output was not
   pub making_cut : (at : ℕ) (st : Statement) (file : List ℕ) (drafts : List (Draft K)) (old now new : Told) → Stands statements at st → reading.file_of st ≡ Some file → file_in st ≡ file → new.made ≡ now.made → new.kept ≡ now.kept → new.dropped ≡ now.dropped → TookNothing now new

@@ -12,7 +12,7 @@ use Rattle.plcr_nodes.proofs.Seeing.{grows_again}
 use Rattle.plcr_imagelist.specs.States.{WriterState, IsAtRest}
 use Rattle.plcr_imagelist.specs.Holds.{WalkerState}
 use Rattle.plcr_imagelist.specs.Listing.{AddsChanges}
-use Rattle.plcr_imagelist.specs.Opening.{opened_walkers}
+use Rattle.plcr_imagelist.specs.Opening.{IsOpenedList}
 use Rattle.plcr_imagelist.specs.Tellings.{IsMet}
 use Rattle.plcr_imagelist.proofs.Changed.{met_adds, adds_more}
 use Rattle.plcr_imagelist.proofs.Looking.{went_again}
@@ -54,11 +54,11 @@ met_one passes pass start old new rest m met =
 
 -- ---- the passes of a list that was just opened
 
-pub opened_count : (table : TableId) (nodes passes : ℕ) (images : List WalkerState) → images ≡ opened_walkers table nodes passes passes → length images ≡ passes
-opened_count table nodes passes images are = ap length are ∙ (walkers_numbered table nodes passes passes).0
+pub opened_count : (table : TableId) (nodes passes : ℕ) (writer : WriterState) (images : List WalkerState) → IsOpenedList nodes passes table writer images → length images ≡ passes
+opened_count table nodes passes writer images o = ap length o.numbered ∙ (walkers_numbered table nodes passes passes).0
 
-pub opened_in_order : (table : TableId) (nodes passes : ℕ) (images : List WalkerState) → images ≡ opened_walkers table nodes passes passes → AreInOrder table images
-opened_in_order table nodes passes images are place other less =
-    let count = opened_count table nodes passes images are in
-    let is = ap (λ (l : List WalkerState). get_or l place other) are ∙ (walkers_numbered table nodes passes passes).1 place other (omega (arith, less, count)) in
+pub opened_in_order : (table : TableId) (nodes passes : ℕ) (writer : WriterState) (images : List WalkerState) → IsOpenedList nodes passes table writer images → AreInOrder table images
+opened_in_order table nodes passes writer images o place other less =
+    let count = opened_count table nodes passes writer images o in
+    let is = ap (λ (l : List WalkerState). get_or l place other) o.numbered ∙ (walkers_numbered table nodes passes passes).1 place other (omega (arith, less, count)) in
     (ap (λ (w : WalkerState). w.table) is, ap (λ (w : WalkerState). w.number) is)

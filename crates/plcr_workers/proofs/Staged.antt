@@ -28,7 +28,7 @@ use Rattle.plcr_workers.specs.declared.lines.PassLine.{PassLine}
 use Rattle.plcr_workers.specs.declared.making.Unwritten.{Unwritten}
 use Rattle.plcr_workers.specs.declared.worker.Worker.{Worker}
 use Rattle.plcr_workers.specs.Log.{threads_log}
-use Rattle.plcr_workers.specs.Command.{AllKept, IsJournalOf, IsWriterOf, NotAllKept, NotPrinted, meanings_in}
+use Rattle.plcr_workers.specs.Command.{AllApplied, AllKept, IsJournalOf, IsWriterOf, NotAllKept, NotPrinted, meanings_in}
 use Rattle.plcr_workers.specs.inner.Outputs.{name_at, draft_names, outputs_of, AreFiles, HasKeptAll, HasKeptUpTo, HasDropped, HasOpenFor, IsDraftOf, NotAllMade, StandsAt}
 use Rattle.plcr_workers.specs.inner.Own.{KnowsOwnOf}
 use Rattle.plcr_workers.specs.inner.Stages.{AppliesAll, HasWorked, LeftOf, LogEnds, RunEnds, Settles}
@@ -91,13 +91,12 @@ module _ {K : Type 0} (written : K → Option (List ℕ)) (faults : K → ℕ) (
         };
       }
 
-  pub not_printed : (journal : List ChangeLine) (others : List (List PassLine)) → HasWorked faults job.scripts workers old mid → HasKeptAll written job.scripts drafts mid new → AppendsProperFront lines lines' (threads_log job.scripts journal others) → Rose counts counts'
-      → NotPrinted job (seen old lines counts) (seen new lines' counts')
-  not_printed journal others w k cut rose =
+  pub not_printed : (journal : List ChangeLine) (others : List (List PassLine)) → HasWorked faults job.scripts workers old mid → HasKeptAll written job.scripts drafts mid new → AppendsProperFront lines lines' (threads_log job.scripts journal others) → Rose counts counts' → AllApplied job.scripts journal
+      → NotPrinted job journal (seen old lines counts) (seen new lines' counts')
+  not_printed journal others w k cut rose applied =
       let f = some_files written job.scripts drafts in
       let names : kept_names f.files ≡ written_by job.scripts = f.names ∙ names_are w in
       record {
-        journal = journal;
         others = others;
         files = f.files;
         names = names;
@@ -108,6 +107,7 @@ module _ {K : Type 0} (written : K → Option (List ℕ)) (faults : K → ℕ) (
           lines = subst (λ (o : Option (List ℕ)). AppendsProperFront o lines' (threads_log job.scripts journal others)) (sym (append_nothing lines)) cut;
           cause = rose;
         };
+        applied = applied;
       }
 
   pub not_kept : (script at : ℕ) → HasWorked faults job.scripts workers old mid → HasKeptUpTo written job.scripts drafts script at mid new → Prints lines lines' (cannot_write (name_at job.scripts script at)) counts counts'
@@ -158,7 +158,7 @@ worked_by faults scripts workers old new (Err unwritten) ok err = err
 -- of how many outputs there are none fewer are open
 pub worked_open : {K : Type 0} (faults : K → ℕ) (scripts : List ScriptValue) (workers : List (Worker K)) (old new : Told) (made : Result (Unit {0}) Unwritten) → Worked faults scripts workers old new made → HasOpenFor 0 old → HasOpenFor (length (outputs_of workers)) new
 worked_open faults scripts workers old new (Ok done) w start =
-    let a = ap length w.names in let b = length-map (outputs_of workers) (λ d. name_at scripts d.script d.at) in
+    let a = ap length w.names in let b = length-map (outputs_of workers) (λ (d : Draft _). name_at scripts d.script d.at) in
     subst (λ (n : ℕ). HasOpenFor n new) (omega (arith, a, b)) (w.made.«open» 0 start)
 worked_open faults scripts workers old new (Err unwritten) u start =
     subst (λ (n : ℕ). HasOpenFor n new) (let c = u.count in omega (arith, c)) (u.made.«open» 0 start)
@@ -175,11 +175,14 @@ settled_nothing written scripts drafts (Err unmade) old new (Err unwritten) s = 
 
 module _ {K : Type 0} (written : K → Option (List ℕ)) (faults : K → ℕ) (job : Job) (workers : List (Worker K)) (drafts : List (Draft K)) (same : drafts ≡ outputs_of workers)
     (old mid new : Told) (lines lines' : Option (List ℕ)) (counts counts' : ℕ) (past : Option WriterState) (journal : List ChangeLine) (left : LeftOf job past journal) (applies : AppliesAll job.scripts workers journal) where
+  all_applied : HasWorked faults job.scripts workers old mid → HasKeptAll written job.scripts drafts mid new → AllApplied job.scripts journal
+  all_applied w k = applies w.wholes (subst (All (λ (d : Draft K). d.progress ≡ Written)) same k.whole)
+
   -- all were kept, and so the printing ended
   pub kept_ends : (made : Result (Unit {0}) Unwritten) (done : Unit {0}) (others : List (List PassLine)) (ending : Ending) → Worked faults job.scripts workers old mid made → Settles written job.scripts drafts made mid new (Ok done)
       → LogEnds lines lines' (threads_log job.scripts journal others) counts counts' ending → RunEnds job (seen old lines counts) (seen new lines' counts') past ending
-  kept_ends (Ok ok) done others Done w k ends = (journal, others, all_kept written faults job workers drafts same old mid new lines lines' counts counts' journal others w k ends, left, ends, applies w.wholes (subst (All (λ (d : Draft K). d.progress ≡ Written)) same k.whole))
-  kept_ends (Ok ok) done others Stopped w k ends = (journal, inr (not_printed written faults job workers drafts same old mid new lines lines' counts counts' journal others w k ends.0 ends.1), left)
+  kept_ends (Ok ok) done others Done w k ends = (journal, others, all_kept written faults job workers drafts same old mid new lines lines' counts counts' journal others w k ends, left, ends, all_applied w k)
+  kept_ends (Ok ok) done others Stopped w k ends = (journal, inr (not_printed written faults job workers drafts same old mid new lines lines' counts counts' journal others w k ends.0 ends.1 (all_applied w k)), left)
   kept_ends (Ok ok) done others (Refused refusal) w k ends = absurd ends
   kept_ends (Ok ok) done others Misused w k ends = absurd ends
   kept_ends (Err unmade) done others ending w k ends = absurd k

@@ -116,7 +116,7 @@ hired_gone queue list scripts w h = record {
   count = 0;
   so_far = h.ready.begins.so_far;
   image = h.ready.image;
-  lines = none_all (λ (l : PassLine). l.at < length h.script.statements) w.lines.items h.ready.begins.none;
+  lines = none_all (λ (l : PassLine). l.at < length h.script.statements) w.lines.items (sym w.lines.ok.0 ∙ h.ready.begins.none);
 }
 
 -- ---- the other lines
@@ -203,7 +203,7 @@ gone_all queue list scripts workers hired k other within = hired_gone queue list
 pub numbered_same : {K : Type 0} (scripts : List ScriptValue) (olds news : List (Worker K)) → AreNew scripts olds → AreSameWorkers olds news → AreNumbered news
 numbered_same scripts olds news new same k other within =
     let less : k < length olds = let count = same.count in omega (arith, count, within) in
-    ap (λ w. w.script) (same.each k other less) ∙ (new k other less).number
+    ap (λ (w : Worker _). w.script) (same.each k other less) ∙ (new k other less).number
 
 pub numbered_taken : {K : Type 0} (faults : K → ℕ) (olds news : List (Worker K)) → AreNumbered olds → HaveTaken faults olds news → AreNumbered news
 numbered_taken faults olds news numbers taken k other within =
@@ -213,7 +213,7 @@ numbered_taken faults olds news numbers taken k other within =
 ready_one : {K : Type 0} (faults : K → ℕ) (queue list : TableId) (scripts : List ScriptValue) (w : Worker K) (h : IsHired queue list scripts w) → AreMade faults w.script h.script.statements (length h.script.statements) w.drafts.items → HaveOwnLines h.script.statements → IsReadyToRun faults queue list scripts w
 ready_one faults queue list scripts w h made apart =
     let a = ap length made.names in
-    let b = length-map w.drafts.items (λ d. file_of (slice_get h.script.statements d.at)) in
+    let b = length-map w.drafts.items (λ (d : Draft _). file_of (slice_get h.script.statements d.at)) in
     let c = ap (λ l. length (files_of l)) (take_all (length h.script.statements) h.script.statements (omega arith)) in
     record {
       script = h.script;
@@ -221,7 +221,7 @@ ready_one faults queue list scripts w h made apart =
       ready = h.ready;
       outputs = record {
         count = omega (arith, a, b, c);
-        waiting = All-weaker (λ d. (d.script ≡ w.script) × (d.at < length h.script.statements) × (faults d.out ≡ 0)) (λ d. faults d.out ≡ 0) (λ d one. one.2) w.drafts.items made.each;
+        waiting = All-weaker (λ (d : Draft _). (d.script ≡ w.script) × (d.at < length h.script.statements) × (faults d.out ≡ 0)) (λ (d : Draft _). faults d.out ≡ 0) (λ d one. one.2) w.drafts.items made.each;
       };
       apart = apart;
     }
@@ -309,15 +309,14 @@ meanings_first core [] d some = absurd (omega (arith, some))
 meanings_first core (script ∷ scripts) d some = refl
 
 -- by the context of the first script
-pub meanings_are : (core : Core) (scripts : List ScriptValue) (d : ScriptValue) (context : Context) → 1 ≤ length scripts → SaysSame context (context_of (get_or scripts 0 d) core.arch)
+pub meanings_are : (core : Core) (scripts : List ScriptValue) (first : ScriptValue) (context : Context) → 1 ≤ length scripts → first ≡ get_or scripts 0 first → SaysSame context (context_of first core.arch)
     → meanings (fault_at core) (λ images. spelling_of (process_report context core.threads core.memory images)) ≡ meanings_in core scripts
-meanings_are core scripts d context some same =
-    meanings_same (fault_at core) _ _ (report_is core (get_or scripts 0 d) context same) ∙ sym (meanings_first core scripts d some)
+meanings_are core scripts first context some is same =
+    meanings_same (fault_at core) _ _ (report_is core first context same) ∙ ap (λ (s : ScriptValue). meanings_of core s) is ∙ sym (meanings_first core scripts first some)
 
 -- the context can be handed in
-pub context_fits : (core : Core) (scripts : List ScriptValue) (d : ScriptValue) (context : Context) → 1 ≤ length scripts → SaysSame context (context_of (get_or scripts 0 d) core.arch) → AreThreads core.arch core.threads → All IsLawful scripts
+pub context_fits : (core : Core) (scripts : List ScriptValue) (first : ScriptValue) (context : Context) → 1 ≤ length scripts → first ≡ get_or scripts 0 first → SaysSame context (context_of first core.arch) → AreThreads core.arch core.threads → All IsLawful scripts
     → AreWhole context.arch core.threads × IsWritable context
-context_fits core scripts d context some same threads lawful =
-    let script = get_or scripts 0 d in
-    let one : IsLawful script = lawful 0 d some in
-    (rw same.arch (threads_writable core.arch core.threads threads), same_writable context (context_of script core.arch) same (one.writable core.arch))
+context_fits core scripts first context some is same threads lawful =
+    let one : IsLawful first = subst IsLawful (sym is) (lawful 0 first (omega (arith, some))) in
+    (rw same.arch (threads_writable core.arch core.threads threads), same_writable context (context_of first core.arch) same (one.writable core.arch))

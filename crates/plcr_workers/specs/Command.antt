@@ -46,16 +46,24 @@ pub record NotAllKept (job : Job) (old new : Seen) : Type 0 where
   pub lines : Prints old.lines new.lines (cannot_write name) old.line_faults new.line_faults
   pub cause : Rose old.desk.out_faults new.desk.out_faults
 
--- all files were kept, and then the sink of the lines didn't take the log whole
-pub record NotPrinted (job : Job) (old new : Seen) : Type 0 where
-  pub journal : List ChangeLine
+-- each load and unload line of each script was applied, once and in the script's order
+abbrev pub AllApplied : List ScriptValue → List ChangeLine → Type 0
+AllApplied scripts journal = (number : ℕ) (script : ScriptValue) → slice_get scripts number ≡ Some script → wanted_by (lines_of number journal) ≡ change_lines script.statements
+
+-- all files were kept, and then the sink of the lines didn't take the log of this journal whole, in which all lines were applied
+pub record NotPrinted (job : Job) (journal : List ChangeLine) (old new : Seen) : Type 0 where
   pub others : List (List PassLine)
   pub files : List (List ℕ × List ℕ)
   pub names : kept_names files ≡ written_by job.scripts
   pub cut : CannotPrint files [] (threads_log job.scripts journal others) old new
+  pub applied : AllApplied job.scripts journal
+
+-- why a run with this journal stopped
+abbrev pub StoppedBy : Job → List ChangeLine → Seen → Seen → Type 0
+StoppedBy job journal old new = NotAllKept job old new ⊎ NotPrinted job journal old new
 
 abbrev pub HasStopped : Job → Seen → Seen → Type 0
-HasStopped job old new = NotAllKept job old new ⊎ NotPrinted job old new
+HasStopped job old new = (journal : List ChangeLine) × StoppedBy job journal old new
 
 -- what `threads CORE SCRIPT...` did, where it ended so
 abbrev pub Threads : List ℕ → List (List ℕ) → Seen → Seen → Ending → Type 0
@@ -91,10 +99,6 @@ abbrev pub meanings_in : Core → List ScriptValue → Meanings
 meanings_in core [] = meanings (fault_at core) (λ images. [])
 meanings_in core (script ∷ scripts) = meanings_of core script
 
--- each load and unload line of each script was applied, once and in the script's order
-abbrev pub AllApplied : List ScriptValue → List ChangeLine → Type 0
-AllApplied scripts journal = (number : ℕ) (script : ScriptValue) → slice_get scripts number ≡ Some script → wanted_by (lines_of number journal) ≡ change_lines script.statements
-
 -- a journal of these scripts and the history that the writer has seen are one another's: it has of each script the first of its load and unload lines, in order, each once, and no other lines; its accepted lines are the changes of the history, in order; and each line came to what those before it make of it
 pub record IsJournalOf (process : Meanings) (scripts : List ScriptValue) (journal : List ChangeLine) (w : WriterState) : Type 0 where
   pub lines : (number : ℕ) (script : ScriptValue) → slice_get scripts number ≡ Some script → (count : ℕ) × (wanted_by (lines_of number journal) ≡ take count (change_lines script.statements))
@@ -102,13 +106,14 @@ pub record IsJournalOf (process : Meanings) (scripts : List ScriptValue) (journa
   pub changes : changes_of w.names w.history ≡ accepted_changes scripts journal
   pub outcomes : JournalRuns process scripts w [] [] journal
 
--- the run of a job's scripts left a writer, and its journal is one another's with what this has seen; where all was done, that journal has each line of the scripts, and is the one that was printed
+-- the run of a job's scripts left a writer, and its journal is one another's with what this has seen; where all was done, that journal has each line of the scripts, and is the one that was printed; where the log was cut, it is this journal's
 pub record RanTogether (past : Option WriterState) (status : ℕ) (job : Job) (old new : Seen) : Type 0 where
   pub writer : WriterState
   pub is : past ≡ Some writer
   pub journal : List ChangeLine
   pub tells : IsJournalOf (meanings_in job.core job.scripts) job.scripts journal writer
   pub applied : status ≡ 0 → AllApplied job.scripts journal
+  pub stopped : status ≡ 5 → StoppedBy job journal old new
   pub printed : status ≡ 0 → (others : List (List PassLine)) × (new.lines ≡ append_known old.lines (threads_log job.scripts journal others))
 
 -- where `threads CORE SCRIPT...` came to its run, what the journal tells is true

@@ -54,15 +54,47 @@ where
         (seen (D.told desk.new) (L.written lines.new) (L.faults lines.new)) past.new result }
     ensures mark { L.mark lines.new ≡ L.mark lines.old }
 {
-    let names = match names_of(alloc, scripts) {
-        Ok(names) => names,
-        Err(AllocError) => {
-            return status(Ending::Refused {
-                refusal: Refusal::OutOfMemory,
-            });
+    status(threads(rt, alloc, core, scripts, desk, lines, gate, past))
+}
+
+/// The same by its ending.
+fn threads<'a, R: Threads + Wait + Sync, D: Desk, L: Sink, G: Gate>(
+    rt: &R,
+    alloc: Global,
+    core: &'a str,
+    scripts: &'a [String],
+    desk: &mut D,
+    lines: &mut L,
+    gate: &G,
+    past: &mut Option<Writer>,
+) -> Ending<'a>
+where
+    D::Out: Send,
+    requires scripts { (1 ≤ length scripts.now) × (length scripts.now ≤ MOST_SCRIPTS) }
+    requires empty { past.old ≡ None }
+    ensures did { Threads core.now (map string_bytes scripts.now)
+        (seen (D.told desk.old) (L.written lines.old) (L.faults lines.old))
+        (seen (D.told desk.new) (L.written lines.new) (L.faults lines.new)) result }
+    ensures leaves { LeavesBy core.now (map string_bytes scripts.now)
+        (seen (D.told desk.old) (L.written lines.old) (L.faults lines.old))
+        (seen (D.told desk.new) (L.written lines.new) (L.faults lines.new)) past.new result }
+    ensures tells { TellsBy core.now (map string_bytes scripts.now)
+        (seen (D.told desk.old) (L.written lines.old) (L.faults lines.old))
+        (seen (D.told desk.new) (L.written lines.new) (L.faults lines.new)) past.new result }
+    ensures goes { Goes
+        (seen (D.told desk.old) (L.written lines.old) (L.faults lines.old))
+        (seen (D.told desk.new) (L.written lines.new) (L.faults lines.new)) }
+    ensures mark { L.mark lines.new ≡ L.mark lines.old }
+{
+    match names_of(alloc, scripts) {
+        Ok(names) => {
+            let lent = names.as_slice();
+            threads_named(rt, alloc, core, lent, desk, lines, gate, past)
         }
-    };
-    status(threads(rt, alloc, core, names.as_slice(), desk, lines, gate, past))
+        Err(AllocError) => Ending::Refused {
+            refusal: Refusal::OutOfMemory,
+        },
+    }
 }
 
 /// The names of files, lent.
@@ -77,7 +109,8 @@ fn names_of<'a>(alloc: Global, words: &'a [String]) -> Result<Vec<&'a str>, Allo
     Ok(names)
 }
 
-fn threads<'a, R: Threads + Wait + Sync, D: Desk, L: Sink, G: Gate>(
+/// The same by the names.
+fn threads_named<'a, R: Threads + Wait + Sync, D: Desk, L: Sink, G: Gate>(
     rt: &R,
     alloc: Global,
     core: &'a str,
@@ -137,8 +170,9 @@ where
         (seen (D.told desk.new) (L.written lines.new) (L.faults lines.new)) }
     ensures mark { L.mark lines.new ≡ L.mark lines.old }
 {
-    match open(rt, alloc, job.scripts.as_slice()) {
-        Ok(stage) => run_stage(rt, &job, stage, desk, lines, gate, past),
+    let scripts = job.scripts.as_slice();
+    match open(rt, alloc, scripts) {
+        Ok(stage) => run_stage(rt, &job.core, scripts, stage, desk, lines, gate, past),
         Err(AllocError) => Ending::Refused {
             refusal: Refusal::OutOfMemory,
         },

@@ -4,10 +4,11 @@ ghost use Rattle.plcr_imagelist.specs.Holds.{WalkerState};
 ghost use Rattle.crossbeam_queue.specs.Passes.{view, IsSamePass, IsPassOf, ruled_capacity};
 ghost use Rattle.plcr_turns.specs.Gathering.{AreWorking, HasHanded, HasGathered};
 ghost use Rattle.plcr_script.specs.Meanings.{meanings};
+ghost use Rattle.plcr_script.specs.Reading.{file_of, files_of};
 ghost use Rattle.plcr_turns.specs.Views.{HasAll};
 ghost use Rattle.plcr_workers.specs.Asking.{asked_in, change_lines};
 ghost use Rattle.plcr_workers.specs.inner.Drafts.{HasOutputs, HasTaken, HaveTaken};
-ghost use Rattle.plcr_workers.specs.inner.Hired.{IsHired, IsReadyToRun, IsGone, IsWholeOf, AreNew, AreNumbered, AreInOrder, AreFromTheLast, totals_in, asks_one, lines_left, passes_left, views_of};
+ghost use Rattle.plcr_workers.specs.inner.Hired.{IsHired, IsReadyToRun, IsGone, IsWholeOf, AreNew, AreNumbered, AreInOrder, AreFromTheLast, totals_in, asks_one, writes_one, lines_left, passes_left, views_of};
 ghost use Rattle.plcr_workers.specs.inner.Own.{KnowsOwnOf};
 ghost use Rattle.plcr_workers.specs.inner.Outputs.{in_order, outputs_of};
 ghost use Rattle.plcr_workers.specs.inner.Reports.{HasReports, HaveReports};
@@ -72,7 +73,29 @@ fn asks(statement: &Statement) -> u32
     }
 }
 
-/// A worker for each script, with room for all its outputs and lines.
+/// How many files a script writes.
+fn reports_of(script: &Script) -> usize
+    ensures { result ≡ length (files_of script.now.statements) }
+{
+    let mut count = 0usize;
+    for at in 0..script.len() {
+        count += writes(script.statement(at));
+    }
+    count
+}
+
+/// How many files a statement writes: one or none.
+fn writes(statement: &Statement) -> usize
+    ensures one { result ≡ writes_one (file_of statement.now) }
+    ensures few { result ≤ 1 }
+{
+    match statement {
+        Statement::Report { .. } => 1,
+        _ => 0,
+    }
+}
+
+/// A worker for each script, with room for the outputs of its reports and for its lines.
 pub(crate) fn hire<K: Sink + Drop>(
     alloc: Global,
     queue: &TurnQueue,
@@ -98,7 +121,7 @@ pub(crate) fn hire<K: Sink + Drop>(
         let Some(image) = images.pop() else {
             break;
         };
-        let drafts = Vec::with_capacity(alloc, scripts[script].len())?;
+        let drafts = Vec::with_capacity(alloc, reports_of(&scripts[script]))?;
         let lines = Vec::with_capacity(alloc, scripts[script].len())?;
         let turns = hand_out(queue, chief);
         workers.push_reserved(Worker {

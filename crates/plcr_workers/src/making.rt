@@ -56,7 +56,7 @@ fn make_for<D: Desk>(
 ) -> Result<(), usize>
     requires script { IsLawful script.now }
     requires none { vec_len worker.old.drafts ≡ 0 }
-    requires room { length script.now.statements ≤ vec_capacity worker.old.drafts }
+    requires room { length (files_of script.now.statements) ≤ vec_capacity worker.old.drafts }
     ensures ok { OnOk result (AreMade D.Out.faults number script.now.statements (length script.now.statements) worker.new.drafts.items × HasMade (files_of script.now.statements) (D.told desk.old) (D.told desk.new)) }
     ensures err { IfErr result (λ at. IsUnmade D.Out.faults number script.now.statements at worker.new.drafts.items (D.told desk.old) (D.told desk.new)) }
     ensures same { IsSameWorker worker.old worker.new }
@@ -77,7 +77,7 @@ fn make_drafts<D: Desk>(
 ) -> Result<(), usize>
     requires script { IsLawful script.now }
     requires none { vec_len drafts.old ≡ 0 }
-    requires room { length script.now.statements ≤ vec_capacity drafts.old }
+    requires room { length (files_of script.now.statements) ≤ vec_capacity drafts.old }
     ensures ok { OnOk result (AreMade D.Out.faults number script.now.statements (length script.now.statements) drafts.new.items × HasMade (files_of script.now.statements) (D.told desk.old) (D.told desk.new)) }
     ensures err { IfErr result (λ at. IsUnmade D.Out.faults number script.now.statements at drafts.new.items (D.told desk.old) (D.told desk.new)) }
 {

@@ -18,7 +18,7 @@ ghost use Rattle.plcr_workers.specs.Log.{scripts_text, threads_log};
 ghost use Rattle.plcr_workers.specs.inner.Hired.{AreNew, AreNumbered, IsGone, IsHired};
 ghost use Rattle.plcr_workers.specs.inner.Outputs.{AreDone, HasOpenFor, IsDraftOf, NotAllMade, StandsAt, in_order, name_at, outputs_of};
 ghost use Rattle.plcr_workers.specs.inner.Own.{HaveOwnLines, KnowsOwnOf};
-ghost use Rattle.plcr_workers.specs.inner.Stages.{AppliesAll, AreLinesOf, HasWorked, IsStage, LogEnds, RunEnds, Settles, items_of};
+ghost use Rattle.plcr_workers.specs.inner.Stages.{AppliesAll, AreLinesOf, HasWorked, IsStage, LogEnds, RunEnds, Settles, items_of, job_of};
 
 use crate::crew::{Left, gather, run_all};
 use crate::drafts::Draft;
@@ -28,7 +28,8 @@ use crate::log::{print_journal, print_script};
 use crate::making::{Unwritten, abandon_all, keep_all, make_all, report_file};
 use crate::opening::{Stage, meet_all};
 use crate::worker::Worker;
-use plcr_command::{CoreProcess, Ending, Job, MOST_SCRIPTS, print_unwritten};
+use plcr_command::{CoreProcess, Ending, MOST_SCRIPTS, print_unwritten};
+use plcr_core::Core;
 use plcr_imagelist::{ImageList, Writer};
 use plcr_io::{Desk, PutFailed, Sink};
 use plcr_script::Script;
@@ -49,7 +50,8 @@ struct Ran<K> {
 /// Makes the outputs, runs the workers and ends them, and keeps the files and prints the log.
 pub(crate) fn run_stage<R: Threads + Wait + Sync, D: Desk, L: Sink, G: Gate>(
     rt: &R,
-    job: &Job,
+    core: &Core,
+    scripts: &[Script],
     stage: Stage<D::Out>,
     desk: &mut D,
     lines: &mut L,
@@ -58,12 +60,12 @@ pub(crate) fn run_stage<R: Threads + Wait + Sync, D: Desk, L: Sink, G: Gate>(
 ) -> Ending<'static>
 where
     D::Out: Send,
-    requires some { 1 ≤ length job.now.scripts }
-    requires few { length job.now.scripts ≤ MOST_SCRIPTS }
-    requires lawful { IsLawfulJob job.now }
-    requires apart { All (λ (script : ScriptValue). HaveOwnLines script.statements) job.now.scripts }
-    requires stage { IsStage job.now.scripts stage }
-    ensures ends { RunEnds job.now
+    requires some { 1 ≤ length scripts.now }
+    requires few { length scripts.now ≤ MOST_SCRIPTS }
+    requires lawful { IsLawfulJob (job_of core.now scripts.now) }
+    requires apart { All (λ (script : ScriptValue). HaveOwnLines script.statements) scripts.now }
+    requires stage { IsStage scripts.now stage }
+    ensures ends { RunEnds (job_of core.now scripts.now)
         (seen (D.told desk.old) (L.written lines.old) (L.faults lines.old))
         (seen (D.told desk.new) (L.written lines.new) (L.faults lines.new)) past.new result }
     ensures goes_on { GoesOn
@@ -78,8 +80,7 @@ where
         mut workers,
         room,
     } = stage;
-    let scripts = job.scripts.as_slice();
-    let made = work(rt, job, &queue, &list, desk, gate, workers.as_mut_slice());
+    let made = work(rt, core, scripts, &queue, &list, desk, gate, workers.as_mut_slice());
     let ran = end_workers(rt, &queue, &list, scripts, &mut chief, workers, room);
     let Ran {
         writer,
@@ -89,7 +90,11 @@ where
     } = ran;
     *past = Some(writer);
     match settle(scripts, desk, made, drafts) {
-        Ok(()) => print_log(scripts, journal.as_slice(), others.as_slice(), lines),
+        Ok(()) => {
+            let applied = journal.as_slice();
+            let rest = others.as_slice();
+            print_log(scripts, applied, rest, lines)
+        }
         Err(unwritten) => {
             print_failed(scripts, unwritten, lines);
             Ending::Stopped
@@ -97,14 +102,15 @@ where
     }
 }
 
-/// Makes all outputs, and then all workers run on the core of the job.
+/// Makes all outputs, and then all workers run on the core.
 ///
 /// # Errors
 ///
 /// The report whose output was not made. Then no worker ran.
 fn work<R: Threads + Wait + Sync, D: Desk, G: Gate>(
     rt: &R,
-    job: &Job,
+    core: &Core,
+    scripts: &[Script],
     queue: &TurnQueue,
     list: &ImageList,
     desk: &mut D,
@@ -113,27 +119,26 @@ fn work<R: Threads + Wait + Sync, D: Desk, G: Gate>(
 ) -> Result<(), Unwritten>
 where
     D::Out: Send,
-    requires some { 1 ≤ length job.now.scripts }
-    requires few { length job.now.scripts ≤ MOST_SCRIPTS }
-    requires lawful { IsLawfulJob job.now }
-    requires apart { All (λ (script : ScriptValue). HaveOwnLines script.statements) job.now.scripts }
+    requires some { 1 ≤ length scripts.now }
+    requires few { length scripts.now ≤ MOST_SCRIPTS }
+    requires lawful { IsLawfulJob (job_of core.now scripts.now) }
+    requires apart { All (λ (script : ScriptValue). HaveOwnLines script.statements) scripts.now }
     requires queue { ruled_capacity queue.now ≡ 1 }
-    requires count { length workers.old ≡ length job.now.scripts }
-    requires new { AreNew job.now.scripts workers.old }
-    requires hired { All (λ w. IsHired queue.now.table.shared.table_id list.now job.now.scripts w) workers.old }
-    ensures ok { OnOk result (HasWorked D.Out.faults job.now.scripts workers.new (D.told desk.old) (D.told desk.new)) }
-    ensures err { IfErr result (λ unwritten. NotAllMade job.now.scripts workers.new unwritten.script unwritten.at (D.told desk.old) (D.told desk.new)) }
-    ensures own { All (λ w. KnowsOwnOf (meanings_in job.now.core job.now.scripts) job.now.scripts w) workers.new }
-    ensures count { length workers.new ≡ length job.now.scripts }
+    requires count { length workers.old ≡ length scripts.now }
+    requires new { AreNew scripts.now workers.old }
+    requires hired { All (λ w. IsHired queue.now.table.shared.table_id list.now scripts.now w) workers.old }
+    ensures ok { OnOk result (HasWorked D.Out.faults scripts.now workers.new (D.told desk.old) (D.told desk.new)) }
+    ensures err { IfErr result (λ unwritten. NotAllMade scripts.now workers.new unwritten.script unwritten.at (D.told desk.old) (D.told desk.new)) }
+    ensures own { All (λ w. KnowsOwnOf (meanings_in core.now scripts.now) scripts.now w) workers.new }
+    ensures count { length workers.new ≡ length scripts.now }
     ensures numbers { AreNumbered workers.new }
-    ensures gone { All (λ w. IsGone queue.now.table.shared.table_id list.now job.now.scripts w) workers.new }
+    ensures gone { All (λ w. IsGone queue.now.table.shared.table_id list.now scripts.now w) workers.new }
 {
-    let scripts = job.scripts.as_slice();
     if let Err(unwritten) = make_all(scripts, desk, workers) {
         return Err(unwritten);
     }
-    let process = CoreProcess { core: &job.core };
-    let context = scripts[0].context(job.core.arch);
+    let process = CoreProcess { core };
+    let context = scripts[0].context(core.arch);
     run_all(rt, queue, list, scripts, &process, &context, gate, workers);
     Ok(())
 }

@@ -7,6 +7,7 @@ use Rattle.plcr_imagelist.specs.Holds.{WalkerState}
 use Rattle.plcr_command.specs.declared.limits.TheConstants.{MOST_SCRIPTS}
 use Rattle.plcr_script.specs.declared.statements.NumberedStatement.{NumberedStatement}
 use Rattle.plcr_script.specs.Scripts.{ScriptValue}
+use Rattle.plcr_script.specs.Reading.{files_of}
 use Rattle.plcr_turns.specs.declared.lines.Asked.{Asked}
 use Rattle.plcr_turns.specs.declared.view.View.{View}
 use Rattle.plcr_turns.specs.Lines.{lines_of, wanted_by}
@@ -46,7 +47,7 @@ pub record Goes {K : Type 0} (queue list : TableId) (script : ScriptValue) (old 
 pub record IsNew {K : Type 0} (scripts : List ScriptValue) (place : ℕ) (w : Worker K) : Type 0 where
   pub number : w.script ≡ place
   pub none : vec_len w.drafts ≡ 0
-  pub room : (script : ScriptValue) → slice_get scripts place ≡ Some script → length script.statements ≤ vec_capacity w.drafts
+  pub room : (script : ScriptValue) → slice_get scripts place ≡ Some script → length (files_of script.statements) ≤ vec_capacity w.drafts
 
 -- workers as they were hired for the scripts, in order
 abbrev pub AreNew : {K : Type 0} → List ScriptValue → List (Worker K) → Type 0
@@ -97,6 +98,11 @@ pub record HasRun {K : Type 0} (queue list : TableId) (script : ScriptValue) (ol
 abbrev pub asks_one : Option Asked → ℕ
 asks_one None = 0
 asks_one (Some asked) = 1
+
+-- how many files a statement writes
+abbrev pub writes_one : Option (List ℕ) → ℕ
+writes_one None = 0
+writes_one (Some file) = 1
 
 -- how many load and unload lines scripts have
 abbrev pub totals_in : List ScriptValue → List ℕ

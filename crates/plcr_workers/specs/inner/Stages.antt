@@ -13,6 +13,7 @@ use Rattle.plcr_imagelist.specs.Listing.{AddsChanges}
 use Rattle.plcr_io.specs.Desk.{Told}
 use Rattle.plcr_script.specs.Scripts.{ScriptValue}
 use Rattle.plcr_script.specs.Reading.{written_by}
+use Rattle.plcr_core.specs.declared.read.Core.{Core}
 use Rattle.plcr_command.specs.declared.jobs.Job.{Job}
 use Rattle.plcr_command.specs.declared.endings.Ending.{Ending}
 use Rattle.plcr_command.specs.declared.endings.Ending.TheVariants.{Done, Stopped, Refused, Misused}
@@ -33,7 +34,7 @@ use Rattle.plcr_workers.specs.declared.making.Unwritten.{Unwritten}
 use Rattle.plcr_workers.specs.declared.worker.Worker.{Worker}
 use Rattle.plcr_workers.specs.inner.Hired.{IsHired, IsWholeOf, AreNew}
 use Rattle.plcr_workers.specs.inner.Outputs.{AreDone, HasDropped, HasKeptAll, HasKeptUpTo, HasMade, IsDraftOf, draft_names, outputs_of}
-use Rattle.plcr_workers.specs.Command.{AllApplied, AllKept, HasStopped, IsJournalOf, IsWriterOf, LeftByScripts, RanTogether, meanings_in}
+use Rattle.plcr_workers.specs.Command.{AllApplied, AllKept, StoppedBy, IsJournalOf, IsWriterOf, LeftByScripts, RanTogether, meanings_in}
 
 -- the writer has met these passes, and made nothing meanwhile
 pub record HasMetThese (passes : List WalkerState) (old new : WriterState) : Type 0 where
@@ -97,10 +98,14 @@ pub record LeftOf (job : Job) (past : Option WriterState) (journal : List Change
   pub met : IsWriterOf job.scripts past
   pub tells : IsJournalOf (meanings_in job.core job.scripts) job.scripts journal met.writer
 
+-- a core and scripts that were read
+abbrev pub job_of : Core → List ScriptValue → Job
+job_of core scripts = record { core = core; scripts = scripts }
+
 -- how the run of a job ends
 abbrev pub RunEnds : Job → Seen → Seen → Option WriterState → Ending → Type 0
 RunEnds job old new past Done = (journal : List ChangeLine) × (others : List (List PassLine)) × AllKept job old new × LeftOf job past journal × (new.lines ≡ append_known old.lines (threads_log job.scripts journal others)) × AllApplied job.scripts journal
-RunEnds job old new past Stopped = (journal : List ChangeLine) × HasStopped job old new × LeftOf job past journal
+RunEnds job old new past Stopped = (journal : List ChangeLine) × StoppedBy job journal old new × LeftOf job past journal
 RunEnds job old new past (Refused OutOfMemory) = (new ≡ old) × (past ≡ None)
 RunEnds job old new past (Refused refusal) = ⊥
 RunEnds job old new past Misused = ⊥

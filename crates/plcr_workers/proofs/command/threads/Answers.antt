@@ -1,32 +1,33 @@
-use Rattle.plcr_command.specs.Jobs.{JobMisread, job_files, texts}
-use Rattle.plcr_command.proofs.Takings.{still_refused}
-use Rattle.plcr_workers.specs.declared.command.TheConstants.{SIDE_BY_SIDE}
-use Rattle.plcr_workers.proofs.Apart.{job_apart}
-use Rattle.plcr_workers.proofs.Commanded.{run_left, run_tells, threads_run}
+use Rattle.std.proofs.Common.{◌≡◌, ℕ, List, length, map, refl, ap, subst, ◌∙◌, arith}
+use Rattle.std.specs.Prelude.{string_bytes}
+use Rattle.plcr_command.specs.Jobs.{texts}
+use Rattle.plcr_command.specs.Seen.{seen}
+use Rattle.plcr_workers.specs.Command.{Threads}
+use Rattle.plcr_workers.specs.inner.Stages.{LeavesBy, TellsBy}
+use Rattle.plcr_workers.proofs.Commanded.{wants_first}
 use Rattle.plcr_workers.proofs.command.threads.Goals as goal
 
-pub run_job-requires-clause-apart : goal.run_job-requires-clause-apart
-run_job-requires-clause-apart g c = job_apart SIDE_BY_SIDE c.in-Ok.ensures.read.contents c.in-Ok.job c.in-Ok.ensures.read.read
+pub threads_named-requires-clause-scripts : goal.threads_named-requires-clause-scripts
+threads_named-requires-clause-scripts g c = λ κs within.
+    let lent = ap length c.as_slice-lent.ensures.value in let count = c.in-Ok.ensures.count in let some = c.requires.scripts.0 in let few = c.requires.scripts.1 in (omega (arith, lent, count, some), omega (arith, lent, count, few))
 
 pub returns-in-Ok-clause-did : goal.returns-in-Ok-clause-did
 returns-in-Ok-clause-did g c =
-    threads_run c.args.core.now (texts c.args.scripts.now) c.in-Ok.job c.run_job.new.past c.run_job.result (g.D.Desk.told c.args.desk.now) (g.D.Desk.told c.read_job.new.desk) (g.D.Desk.told c.run_job.new.desk) (g.L.Sink.written c.args.lines.now) (g.L.Sink.written c.run_job.new.lines) (g.L.Sink.faults c.args.lines.now) (g.L.Sink.faults c.run_job.new.lines)
-    c.in-Ok.ensures.read c.read_job.ensures.nothing c.run_job.ensures.goes_on.desk.taken c.run_job.ensures.ends
+    subst (λ (names : List (List ℕ)). Threads c.args.core.now names (seen (g.D.Desk.told c.args.desk.now) (g.L.Sink.written c.args.lines.now) (g.L.Sink.faults c.args.lines.now))
+    (seen (g.D.Desk.told c.threads_named.new.desk) (g.L.Sink.written c.threads_named.new.lines) (g.L.Sink.faults c.threads_named.new.lines)) c.threads_named.result) (ap texts c.as_slice-lent.ensures.value ∙ c.in-Ok.ensures.names) c.threads_named.ensures.did
 
 pub returns-in-Ok-clause-leaves : goal.returns-in-Ok-clause-leaves
 returns-in-Ok-clause-leaves g c =
-    run_left c.args.core.now (texts c.args.scripts.now) c.in-Ok.job c.run_job.new.past c.run_job.result (g.D.Desk.told c.args.desk.now) (g.D.Desk.told c.read_job.new.desk) (g.D.Desk.told c.run_job.new.desk) (g.L.Sink.written c.args.lines.now) (g.L.Sink.written c.run_job.new.lines) (g.L.Sink.faults c.args.lines.now) (g.L.Sink.faults c.run_job.new.lines)
-    c.in-Ok.ensures.read c.run_job.ensures.goes_on.desk.taken c.run_job.ensures.ends
+    subst (λ (names : List (List ℕ)). LeavesBy c.args.core.now names (seen (g.D.Desk.told c.args.desk.now) (g.L.Sink.written c.args.lines.now) (g.L.Sink.faults c.args.lines.now))
+    (seen (g.D.Desk.told c.threads_named.new.desk) (g.L.Sink.written c.threads_named.new.lines) (g.L.Sink.faults c.threads_named.new.lines)) c.threads_named.new.past c.threads_named.result) (ap texts c.as_slice-lent.ensures.value ∙ c.in-Ok.ensures.names) c.threads_named.ensures.leaves
 
 pub returns-in-Ok-clause-tells : goal.returns-in-Ok-clause-tells
 returns-in-Ok-clause-tells g c =
-    run_tells c.args.core.now (texts c.args.scripts.now) c.in-Ok.job c.run_job.new.past c.run_job.result (g.D.Desk.told c.args.desk.now) (g.D.Desk.told c.read_job.new.desk) (g.D.Desk.told c.run_job.new.desk) (g.L.Sink.written c.args.lines.now) (g.L.Sink.written c.run_job.new.lines) (g.L.Sink.faults c.args.lines.now) (g.L.Sink.faults c.run_job.new.lines)
-    c.in-Ok.ensures.read c.run_job.ensures.goes_on.desk.taken c.run_job.ensures.ends
+    subst (λ (names : List (List ℕ)). TellsBy c.args.core.now names (seen (g.D.Desk.told c.args.desk.now) (g.L.Sink.written c.args.lines.now) (g.L.Sink.faults c.args.lines.now))
+    (seen (g.D.Desk.told c.threads_named.new.desk) (g.L.Sink.written c.threads_named.new.lines) (g.L.Sink.faults c.threads_named.new.lines)) c.threads_named.new.past c.threads_named.result) (ap texts c.as_slice-lent.ensures.value ∙ c.in-Ok.ensures.names) c.threads_named.ensures.tells
 
 pub returns-in-Err-clause-did : goal.returns-in-Err-clause-did
-returns-in-Err-clause-did g c = record {
-  cause = still_refused (JobMisread SIDE_BY_SIDE) (job_files c.args.core.now (texts c.args.scripts.now)) c.in-Err.refusal c.refuse.result (g.D.Desk.told c.args.desk.now) (g.D.Desk.told c.read_job.new.desk) c.in-Err.ensures.read c.refuse.ensures.refusal;
-  nothing = c.read_job.ensures.nothing;
-  printed = c.refuse.ensures.printed;
-  silent = c.refuse.ensures.silent;
-}
+returns-in-Err-clause-did g c = wants_first c.args.core.now (map string_bytes c.args.scripts.now) (seen (g.D.Desk.told c.args.desk.now) (g.L.Sink.written c.args.lines.now) (g.L.Sink.faults c.args.lines.now))
+
+pub returns-in-Err-clause-goes : goal.returns-in-Err-clause-goes
+returns-in-Err-clause-goes g c = record { files = refl; take_faults = omega arith; out_faults = omega arith; line_faults = omega arith }

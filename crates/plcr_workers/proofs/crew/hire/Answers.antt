@@ -3,6 +3,7 @@ use Rattle.std.proofs.lemmas.List.{length-map, length-append}
 use Rattle.crossbeam_queue.specs.Passes.{view}
 use Rattle.plcr_imagelist.specs.Holds.{WalkerState}
 use Rattle.plcr_script.specs.Scripts.{ScriptValue}
+use Rattle.plcr_script.specs.Reading.{files_of}
 use Rattle.plcr_turns.specs.declared.view.View.{View}
 use Rattle.plcr_turns.specs.Gathering.{HasHanded, HasGathered}
 use Rattle.plcr_turns.specs.Views.{left_view}
@@ -23,6 +24,10 @@ totals_count scripts = length-map scripts (λ (script : ScriptValue). length (ch
 -- a script that was looked up is as long as that at its place
 script_long : (scripts : List ScriptValue) (n : ℕ) (found there : ScriptValue) → found ≡ slice_index_or scripts n found → slice_index_or scripts n there ≡ there → n < length scripts → length found.statements ≡ length there.statements
 script_long scripts n found there is at less = ap (λ (s : ScriptValue). length s.statements) (is ∙ get_or_any scripts n found there less ∙ at)
+
+-- and writes as many files
+files_long : (scripts : List ScriptValue) (n : ℕ) (found there : ScriptValue) → found ≡ slice_index_or scripts n found → slice_index_or scripts n there ≡ there → n < length scripts → length (files_of found.statements) ≡ length (files_of there.statements)
+files_long scripts n found there is at less = ap (λ (s : ScriptValue). length (files_of s.statements)) (is ∙ get_or_any scripts n found there less ∙ at)
 
 pub hand_out-turns-requires-clause-script : goal.hand_out-turns-requires-clause-script
 hand_out-turns-requires-clause-script g c =
@@ -78,7 +83,7 @@ loop-script-preserved g c =
                 so_far = so_far;
                 room = (let r = c.in_ok-lines.ensures.capacity in
                     let l = script_long c.args.scripts.now n c.index-scripts-script-in-loop-script.result script.0 c.index-scripts-script-in-loop-script.is script.1 less in
-                    let m = c.len-in-loop-script.ensures in omega (arith, r, l, m));
+                    let m = c.len.ensures in omega (arith, r, l, m));
                 none = c.in_ok-lines.ensures.len;
               };
               image = record { image = c.in-Some.image; held = refl; walks = image.0; number = number };
@@ -89,9 +94,9 @@ loop-script-preserved g c =
             number = sym new_count;
             none = c.in_ok-drafts.ensures.len;
             room = λ s at. (let r = c.in_ok-drafts.ensures.capacity in
-                let same = ap (λ (x : ScriptValue). length x.statements) (some_value (sym at ∙ ap (slice_get c.args.scripts.now) new_count ∙ script.2)) in
-                let l = script_long c.args.scripts.now n c.index-scripts-script.result script.0 c.index-scripts-script.is script.1 less in
-                let m = c.len.ensures in omega (arith, r, l, m, same));
+                let same = ap (λ (x : ScriptValue). length (files_of x.statements)) (some_value (sym at ∙ ap (slice_get c.args.scripts.now) new_count ∙ script.2)) in
+                let l = files_long c.args.scripts.now n c.index-scripts-script.result script.0 c.index-scripts-script.is script.1 less in
+                let m = c.reports_of.ensures in omega (arith, r, l, m, same));
           }));
       count = (let m = c.push_reserved.ensures.len in omega (arith, m, counted));
       room = (let m = c.push_reserved.ensures.capacity in let r = c.loop-script.invariant.room in omega (arith, m, r));

@@ -3,7 +3,7 @@ use Rattle.plcr_base.specs.Told.{add}
 use Rattle.plcr_script.specs.Reading.{file_of}
 use Rattle.plcr_workers.specs.Log.{file_in}
 use Rattle.plcr_workers.specs.declared.drafts.Draft.{Draft}
-use Rattle.plcr_workers.proofs.Made.{MakingEach, stands_at, not_report, making_none, making_same, making_one, making_cut, made_one}
+use Rattle.plcr_workers.proofs.Made.{MakingEach, stands_at, not_report, making_none, making_same, making_one, making_cut, making_room, made_one}
 use Rattle.plcr_workers.proofs.making.make_drafts.Goals.{in-Report+in-Ok, in_default}
 use Rattle.plcr_workers.proofs.making.make_drafts.Goals as goal
 
@@ -19,6 +19,12 @@ returns-in-Err-clause-err g c =
     making_cut g.D.Out.Sink.faults c.args.number c.args.script.now.statements c.loop-at.at c.statement.result.now c.in-Report.file c.loop-at.drafts.items (g.D.Desk.told c.args.desk.now) (g.D.Desk.told c.loop-at.desk) (g.D.Desk.told c.make.new.self)
     (stands_at c.args.script.now.statements c.loop-at.at c.statement.result.now c.statement.ensures) (ap file_of c.in-Report.is) (ap file_in c.in-Report.is)
     e.unlisted e.kept e.dropped (record { files = e.files; taken = e.taken; take_faults = e.take_faults; out_faults = e.later }) e.failed c.loop-at.invariant.0
+
+pub push_reserved-requires : goal.push_reserved-requires
+push_reserved-requires g c =
+    let fits = making_room g.D.Out.Sink.faults c.args.number c.args.script.now.statements c.loop-at.at c.statement.result.now c.in-Report.file c.loop-at.drafts.items (g.D.Desk.told c.args.desk.now) (g.D.Desk.told c.loop-at.desk)
+        (stands_at c.args.script.now.statements c.loop-at.at c.statement.result.now c.statement.ensures) (ap file_of c.in-Report.is) c.loop-at.invariant.0 in
+    let room = c.requires.room in let same = c.loop-at.invariant.1 in let len = c.loop-at.drafts.ok.0 in omega (arith, fits, room, same, len)
 
 pub loop-at-preserved : goal.loop-at-preserved
 loop-at-preserved g c = elim c.match-statement.branch [
