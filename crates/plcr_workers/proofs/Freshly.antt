@@ -111,15 +111,15 @@ the_line script n asked seen v known u a journal r is before line after e own fr
     let cut : first ++ l ∷ [] ≡ before ++ line ∷ here.0 = sym a.journal ∙ here.1 in
     by_cases (leb (length first) (length before))
     (λ t.
-        let last = cut_behind first (l ∷ []) before line here.0 cut (leb-true (length first) (length before) t) in
-        let front = accepted_front first last.0 in
-        let all = ap accepted last.1 in
-        let least = a.before in
-        (omega (arith, front, all, least), ap (λ (x : ChangeLine). x.wanted.line) (last_one last.0 l line here.0 last.2)))
+    let last = cut_behind first (l ∷ []) before line here.0 cut (leb-true (length first) (length before) t) in
+    let front = accepted_front first last.0 in
+    let all = ap accepted last.1 in
+    let least = a.before in
+    (omega (arith, front, all, least), ap (λ (x : ChangeLine). x.wanted.line) (last_one last.0 l line here.0 last.2)))
     (λ f.
-        let front = cut_before first (l ∷ []) before line here.0 cut (leb-false (length first) (length before) f) in
-        let other = cut_behind v.journal a.others before line front.0 front.1 from in
-        absurd (no_line script other.0 line front.0 own (ap (lines_of script) (sym other.2) ∙ a.none)))
+    let front = cut_before first (l ∷ []) before line here.0 cut (leb-false (length first) (length before) f) in
+    let other = cut_behind v.journal a.others before line front.0 front.1 from in
+    absurd (no_line script other.0 line front.0 own (ap (lines_of script) (sym other.2) ∙ a.none)))
 
 -- each line of the script that the worker hasn't seen yet comes after all changes that its pass has seen, and is of one of the statements that are left
 pub later_lines : (report : List Listed → List ℕ) (script at : ℕ) (statements : List NumberedStatement) (p : Place) (v : View) (lines : List PassLine) (wrote : List (List ℕ)) (q : Place) (w : View) (journal : List ChangeLine) (bound : ℕ)
@@ -141,17 +141,18 @@ later_lines report script at (s ∷ statements) p v lines wrote q w journal boun
         let here = rise.0 in
         let above = r.1 in
         (omega (arith, more, few), omega (arith, here, above))
+
     of : (asked : Option Asked) → Applies script s.line asked (walker_of p).history v (walker_of ran.place).history ran.sees → (length ran.sees.journal ≤ length before → (changes (walker_of ran.place).history ≤ accepted before) × (suc s.line ≤ line.wanted.line)) → (changes (walker_of p).history ≤ accepted before) × (bound ≤ line.wanted.line)
     of None a later = let same = ap (λ (u : View). length u.journal) a in on later (omega (arith, same, from))
     of (Some asked) a later =
         by_cases (leb (length ran.sees.journal) (length before))
         (λ t. on later (leb-true (length ran.sees.journal) (length before) t))
         (λ f.
-            let begins = goes_on script journal ran.sees w g (view_begins report script (suc at) statements ran.place ran.sees ran.more ran.later q w ran.rest) in
-            let l = the_line script s.line asked (walker_of p).history v (walker_of ran.place).history ran.sees a journal begins.0 begins.1 before line after e own from (leb-false (length ran.sees.journal) (length before) f) in
-            let here = rise.0 in
-            let is = l.1 in
-            (l.0, omega (arith, here, is)))
+        let begins = goes_on script journal ran.sees w g (view_begins report script (suc at) statements ran.place ran.sees ran.more ran.later q w ran.rest) in
+        let l = the_line script s.line asked (walker_of p).history v (walker_of ran.place).history ran.sees a journal begins.0 begins.1 before line after e own from (leb-false (length ran.sees.journal) (length before) f) in
+        let here = rise.0 in
+        let is = l.1 in
+        (l.0, omega (arith, here, is)))
 
 -- the lines that were seen before a statement and by it are of lines up to its own
 pub below_next : (script n bound : ℕ) (asked : Option Asked) (seen : List Entry) (v : View) (known : List Entry) (u : View) (journal r : List ChangeLine) → Applies script n asked seen v known u → journal ≡ u.journal ++ r → bound ≤ n

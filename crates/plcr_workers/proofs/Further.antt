@@ -48,27 +48,27 @@ went_further old new most f =
     let count = meeting_count f.count old f.last f.meeting in
     ⊎_elim
     (λ (e : (f.count ≡ most) × (new ≡ f.last)).
-        let all = e.0 in
-        let same : length new.met ≡ length f.last.met = ap (λ (h : HoldState). length h.met) e.1 in
-        record {
-          still = λ ended.
-              let s = meeting_still f.count old f.last f.meeting ended in
-              (ap (λ (h : HoldState). h.ended) (e.1 ∙ s.0) ∙ ended, ap (λ (h : HoldState). length h.met) (e.1 ∙ s.0));
-          more = λ going unended. omega (arith, count, all, same);
-          end = λ going ended. not_both new.ended ended (ap (λ (h : HoldState). h.ended) e.1 ∙ meeting_goes f.count old f.last f.meeting going);
-          rises = omega (arith, count, same);
-        })
+    let all = e.0 in
+    let same : length new.met ≡ length f.last.met = ap (λ (h : HoldState). length h.met) e.1 in
+    record {
+      still = λ ended.
+          let s = meeting_still f.count old f.last f.meeting ended in
+          (ap (λ (h : HoldState). h.ended) (e.1 ∙ s.0) ∙ ended, ap (λ (h : HoldState). length h.met) (e.1 ∙ s.0));
+      more = λ going unended. omega (arith, count, all, same);
+      end = λ going ended. not_both new.ended ended (ap (λ (h : HoldState). h.ended) e.1 ∙ meeting_goes f.count old f.last f.meeting going);
+      rises = omega (arith, count, same);
+    })
     (λ (e : (f.count < most) × IsNext f.last false new).
-        let few = e.0 in
-        let same : length new.met ≡ length f.last.met = ap length (none_met f.last new e.1) in
-        record {
-          still = λ ended.
-              let s = meeting_still f.count old f.last f.meeting ended in
-              (met_end f.last new e.1, same ∙ ap (λ (h : HoldState). length h.met) s.0);
-          more = λ going unended. not_both new.ended (met_end f.last new e.1) unended;
-          end = λ going ended. omega (arith, count, few, same);
-          rises = omega (arith, count, same);
-        })
+    let few = e.0 in
+    let same : length new.met ≡ length f.last.met = ap length (none_met f.last new e.1) in
+    record {
+      still = λ ended.
+          let s = meeting_still f.count old f.last f.meeting ended in
+          (met_end f.last new e.1, same ∙ ap (λ (h : HoldState). length h.met) s.0);
+      more = λ going unended. not_both new.ended (met_end f.last new e.1) unended;
+      end = λ going ended. omega (arith, count, few, same);
+      rises = omega (arith, count, same);
+    })
     f.end
 
 -- and one to its end

@@ -96,6 +96,7 @@ left_if_asked script list statements at line statement v s e = of (asked_in stat
 pub next_of : (asked : Option Asked) (a : Asked) (v : View) → asked ≡ Some a → IfSome asked (λ x. HasNext v) → HasNext v
 next_of None a v e h = absurd cc
 next_of (Some b) a v e h = h
+
 -- a statement by its place alone
 pub stands_at : (statements : List NumberedStatement) (at : ℕ) (statement : Statement) → Some statement ≡ option_map (λ (s : NumberedStatement). s.statement) (slice_get statements at)
     → (line : ℕ) × (slice_get statements at ≡ Some (record { line = line; statement = statement }))

@@ -59,8 +59,7 @@ known_from process scripts names [] few own = tt
 known_from process scripts names (l ∷ lines) few own =
     let script = element scripts l.script (few 0 l (omega arith)) in
     let mine : AreOwn process script.0.statements names (l ∷ lines_of l.script lines) =
-        subst (AreOwn process script.0.statements names) (lines_more l.script (l ∷ []) lines ∙ ap (λ m. m ++ lines_of l.script lines) (line_here l.script l refl)) (own l.script script.0 script.2) in
-    (
+    subst (AreOwn process script.0.statements names) (lines_more l.script (l ∷ []) lines ∙ ap (λ m. m ++ lines_of l.script lines) (line_here l.script l refl)) (own l.script script.0 script.2) in (
       known_line process scripts script.0 names l script.2 mine.0,
       known_from process scripts names lines (λ k d less. few (suc k) d (omega (arith, less)))
           (λ s sc at. at_or_else l.script s
@@ -102,7 +101,7 @@ pass_of P workers images n w image left all at has =
     let there : get_or (reverse (passes_left workers)) place (Some image) ≡ get_or (passes_left workers) (length (passes_left workers) - 1 - place) (Some image) = get_or-reverse (passes_left workers) place (Some image) (omega (arith, within, many)) in
     let back : length (passes_left workers) - 1 - place ≡ n = omega (arith, within, many) in
     let is : get_or (reverse (passes_left workers)) place (Some image) ≡ Some image =
-        there ∙ ap (λ k. get_or (passes_left workers) k (Some image)) back ∙ passes_at workers n w (Some image) at ∙ has in
+    there ∙ ap (λ k. get_or (passes_left workers) k (Some image)) back ∙ passes_at workers n w (Some image) at ∙ has in
     subst (IfPass P) is (subst (All (IfPass P)) left (each_pass P images all) place (Some image) (omega (arith, within, many, long)))
 
 -- what the workers know, taken together with the turn that was taken last
@@ -159,8 +158,7 @@ first_applied process queue list scripts workers chief t names a n script at =
     let gone = subst (λ (x : Worker _). IsGone queue list scripts x) w.1 (a.gone n w.0 (omega (arith, less, many))) in
     let number : w.0.script ≡ n = ap (λ (x : Worker _). x.script) (sym w.1) ∙ a.numbers n w.0 (omega (arith, less, many)) in
     let same : gone.script ≡ script = some_same (sym gone.stands ∙ ap (slice_get scripts) number ∙ at) in
-    let seen = lines_seen process queue list scripts workers chief t names a n w.0 w.2 in
-    (
+    let seen = lines_seen process queue list scripts workers chief t names a n w.0 w.2 in (
       length (change_lines (take gone.count script.statements)),
       ap wanted_by (seen ∙ ap (λ k. lines_of k (view w.0.turns).journal) (sym number)) ∙ gone.so_far.lines ∙ ap (λ (s : ScriptValue). change_lines (take gone.count s.statements)) same ∙ first_lines gone.count script.statements,
     )

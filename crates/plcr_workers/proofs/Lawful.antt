@@ -47,10 +47,12 @@ reports_told {K} written faults process w (o ∷ olds) (n ∷ news) rest reports
     behind : (ds : List (Draft K)) → All (λ (d : Draft K). IsEmptyOutput written d) (ds ++ outputs_of olds) → All (λ (d : Draft K). IsEmptyOutput written d) (outputs_of olds)
     behind [] h = h
     behind (d ∷ ds) h = behind ds (All-tail (λ (x : Draft K). IsEmptyOutput written x) d (ds ++ outputs_of olds) h)
+
     first : (ds : List (Draft K)) → All (λ (d : Draft K). IsEmptyOutput written d) (ds ++ outputs_of olds) → (k : ℕ) (other : Draft K) → k < length ds → IsEmptyOutput written (get_or ds k other)
     first [] h k other less = absurd (omega (arith, less))
     first (d ∷ ds) h zero other less = h 0 other (omega arith)
     first (d ∷ ds) h (suc k) other less = first ds (All-tail (λ (x : Draft K). IsEmptyOutput written x) d (ds ++ outputs_of olds) h) k other (omega (arith, less))
+
     here : All (λ (d : Draft K). d.progress ≡ Written → IsToldReport written process w d) n.drafts.items
     here k other less is =
         let image = seen 0 n (omega arith) in

@@ -79,15 +79,15 @@ same_places {K} faults tells next took first old new within s w =
       count = long ∙ s.count;
       each = λ k other less. at_or_else next k
           (λ (e : next ≡ k).
-              let did = w.did other in
-              let here : slice_index_or new k other ≡ w.is = ap (λ (l : List (Draft K)). get_or l k other) w.new_is ∙ subst (λ (n : ℕ). get_or (slice_set old next w.is) n other ≡ w.is) e (get_or-set_same old next w.is other within) in
-              let was = subst (λ n. ((slice_index_or old n other).script ≡ (slice_index_or first n other).script) × ((slice_index_or old n other).at ≡ (slice_index_or first n other).at)) (sym e) (s.each k other less) in
-              let there = subst (λ n. ((w.is).script ≡ (slice_index_or first n other).script) × ((w.is).at ≡ (slice_index_or first n other).at)) e (did.script ∙ was.0, did.at ∙ was.1) in
-              (ap (λ (d : Draft K). d.script) here ∙ there.0, ap (λ (d : Draft K). d.at) here ∙ there.1))
+          let did = w.did other in
+          let here : slice_index_or new k other ≡ w.is = ap (λ (l : List (Draft K)). get_or l k other) w.new_is ∙ subst (λ (n : ℕ). get_or (slice_set old next w.is) n other ≡ w.is) e (get_or-set_same old next w.is other within) in
+          let was = subst (λ n. ((slice_index_or old n other).script ≡ (slice_index_or first n other).script) × ((slice_index_or old n other).at ≡ (slice_index_or first n other).at)) (sym e) (s.each k other less) in
+          let there = subst (λ n. ((w.is).script ≡ (slice_index_or first n other).script) × ((w.is).at ≡ (slice_index_or first n other).at)) e (did.script ∙ was.0, did.at ∙ was.1) in
+          (ap (λ (d : Draft K). d.script) here ∙ there.0, ap (λ (d : Draft K). d.at) here ∙ there.1))
           (λ f.
-              let there : slice_index_or new k other ≡ slice_index_or old k other = ap (λ (l : List (Draft K)). get_or l k other) w.new_is ∙ get_or-set_other old next k w.is other (different next k f) in
-              let was = s.each k other less in
-              (ap (λ (d : Draft K). d.script) there ∙ was.0, ap (λ (d : Draft K). d.at) there ∙ was.1));
+          let there : slice_index_or new k other ≡ slice_index_or old k other = ap (λ (l : List (Draft K)). get_or l k other) w.new_is ∙ get_or-set_other old next k w.is other (different next k f) in
+          let was = s.each k other less in
+          (ap (λ (d : Draft K). d.script) there ∙ was.0, ap (λ (d : Draft K). d.at) there ∙ was.1));
     }
 
 -- what an output that was written is, and what the others are
@@ -237,7 +237,7 @@ cut_at {K} faults tells statements at line next statement took first old new e a
           failed = λ written. not_written w.is did.0 (ap (λ (d : Draft K). d.progress) (sym (here_is faults tells next took old new w w.is within)) ∙ written next w.is (omega (arith, within, so_many)));
           done = done_upto faults next new
               (λ k other less below.
-                  ap (λ (d : Draft K). d.progress) (there_is faults tells next took old new w k other (λ same. absurd (omega (arith, below, same)))) ∙ s.up_to.written k other (omega (arith, less, so_many)) below)
+              ap (λ (d : Draft K). d.progress) (there_is faults tells next took old new w k other (λ same. absurd (omega (arith, below, same)))) ∙ s.up_to.written k other (omega (arith, less, so_many)) below)
               (λ other less. subst (λ (d : Draft K). (d.progress ≢ Written) × (0 < faults d.out)) (sym (here_is faults tells next took old new w other within)) (not_written w.is did.0, some));
         }
 

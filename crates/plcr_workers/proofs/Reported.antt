@@ -142,10 +142,10 @@ reported_more {K} written report image faults next took first old new w within i
       count = long ∙ s.count;
       reported = λ k other less below. at_or_else next k
           (λ (e : next ≡ k). subst (λ n. HasReport written report image (slice_index_or first n other) (slice_index_or new n other)) e
-              (subst (HasReport written report image (slice_index_or first next other)) (sym (here_is faults tells next took old new w other within))
-              (subst (λ (d : Draft K). HasReport written report image d w.is) (get_or_any old next w.is other within ∙ s.same next other within (omega arith)) is)))
+          (subst (HasReport written report image (slice_index_or first next other)) (sym (here_is faults tells next took old new w other within))
+          (subst (λ (d : Draft K). HasReport written report image d w.is) (get_or_any old next w.is other within ∙ s.same next other within (omega arith)) is)))
           (λ f. let not_next = different next k f in
-              subst (HasReport written report image (slice_index_or first k other)) (sym (there_is faults tells next took old new w k other not_next)) (s.reported k other (omega (arith, less, long)) (below_next k next not_next below)));
+          subst (HasReport written report image (slice_index_or first k other)) (sym (there_is faults tells next took old new w k other not_next)) (s.reported k other (omega (arith, less, long)) (below_next k next not_next below)));
       same = λ k other less above.
           let not_next : k ≢ next = λ e. absurd (omega (arith, above, e)) in
           there_is faults tells next took old new w k other not_next ∙ s.same k other (omega (arith, less, long)) (omega (arith, above));
@@ -190,9 +190,9 @@ reported_cut {K} written report was now faults next (Some file) took first old n
     at_or_else next k
     (λ (e : next ≡ k). absurd (failed_apart w.is did.0 (ap (λ (d : Draft K). d.progress) (sym (here_is faults tells next took old new w other within)) ∙ subst (λ n. (slice_index_or new n other).progress ≡ Written) (sym e) is)))
     (λ f.
-        let there = there_is faults tells next took old new w k other (different next k f) in
-        let was_it = reported_all written report now next first old (reported_later written report was now next first old goes s) k other less in
-        subst (λ (d : Draft K). (d ≡ slice_index_or first k other) ⊎ HasReport written report now (slice_index_or first k other) d) (sym there) was_it)
+    let there = there_is faults tells next took old new w k other (different next k f) in
+    let was_it = reported_all written report now next first old (reported_later written report was now next first old goes s) k other less in
+    subst (λ (d : Draft K). (d ≡ slice_index_or first k other) ⊎ HasReport written report now (slice_index_or first k other) d) (sym there) was_it)
 
 -- each output that was written whole is a report, or was so from the first
 pub all_reported : {K : Type 0} (written : K → Option (List ℕ)) (report : List Listed → List ℕ) (image : WalkerState) (next : ℕ) (first drafts : List (Draft K)) → AreReported written report image next first drafts → AreReports written report image first drafts

@@ -143,10 +143,10 @@ around W at bound s statements p v lines wrote ran rise here below = record {
       by_cases (leb (length v.journal) (length before))
       (λ t. let l = (later_lines W.process.report W.script at (s ∷ statements) p v lines wrote W.place W.view W.journal s.line ran W.goes ((omega arith), rise.1) before line after e own (leb-true (length v.journal) (length before) t)).1 in absurd (omega (arith, l, less)))
       (λ f.
-          let begins = goes_on W.script W.journal v W.view W.goes (view_begins W.process.report W.script at (s ∷ statements) p v lines wrote W.place W.view ran) in
-          let few = early_accepted W.journal v begins.0 before line after begins.1 e (leb-false (length v.journal) (length before) f) in
-          let knows = here.knows in
-          omega (arith, few, knows));
+      let begins = goes_on W.script W.journal v W.view W.goes (view_begins W.process.report W.script at (s ∷ statements) p v lines wrote W.place W.view ran) in
+      let few = early_accepted W.journal v begins.0 before line after begins.1 e (leb-false (length v.journal) (length before) f) in
+      let knows = here.knows in
+      omega (arith, few, knows));
   later = λ before line after e own behind.
       by_cases (leb (length ran.sees.journal) (length before))
       (λ t. (later_lines W.process.report W.script (suc at) statements ran.place ran.sees ran.more ran.later W.place W.view W.journal (suc s.line) ran.rest W.goes rise.1 before line after e own (leb-true (length ran.sees.journal) (length before) t)).0)
@@ -201,8 +201,8 @@ told W at bound (s ∷ statements) p o v lines wrote ran rise may here =
     subst (λ (l : List PassLine). Told W at (s ∷ statements) p o l wrote) (sym ran.lines_are)
     (subst (λ (r : List (List ℕ)). Told W at (s ∷ statements) p o (lines_said at ran.took ++ ran.more) r) (sym ran.wrote_are)
     (step W at s.line s.statement statements p o ran.place ran.took ran.reports ran.more ran.later ran.does ran.well may.0
-      (around W at bound s statements p v lines wrote ran rise here next.below)
-      (λ q. told W (suc at) (suc s.line) statements ran.place q ran.sees ran.more ran.later ran.rest rise.1 (subst (λ b. MayRun b statements) (stands_there W.process.report s.statement p ran.place ran.took ran.reports ran.does may.0) may.1) next)))
+    (around W at bound s statements p v lines wrote ran rise here next.below)
+    (λ q. told W (suc at) (suc s.line) statements ran.place q ran.sees ran.more ran.later ran.rest rise.1 (subst (λ b. MayRun b statements) (stands_there W.process.report s.statement p ran.place ran.took ran.reports ran.does may.0) may.1) next)))
 
 -- ---- the whole script, in what the writer has seen
 

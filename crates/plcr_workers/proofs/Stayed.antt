@@ -132,7 +132,7 @@ own_before was early held =
     let announced : held.announced.history ≡ Announce n held.seen ∷ held.announce.past = ap (λ (s : WalkerState). s.history) held.announce.now in
     let number : held.announced.number ≡ n = ap (λ (s : WalkerState). s.number) held.announce.now in
     let first : own_entries n held.announced.history ≡ Announce n held.seen ∷ own_entries n was.history =
-        ap (own_entries n) announced ∙ rw (eqb_same n) (ap (λ (es : List Entry). Announce n held.seen ∷ es) (own_of n was.history held.announce.past held.announce.sees.added)) in
+    ap (own_entries n) announced ∙ rw (eqb_same n) (ap (λ (es : List Entry). Announce n held.seen ∷ es) (own_of n was.history held.announce.past held.announce.sees.added)) in
     subst (λ k. own_entries k held.enter.past ≡ own_entries k held.announced.history) number (own_of held.announced.number held.announced.history held.enter.past held.enter.sees.added) ∙ first
 
 -- before it came out: and the entering

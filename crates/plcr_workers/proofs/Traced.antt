@@ -389,19 +389,19 @@ reported_out W at number pass file statements old inside held took wrote more la
         refl,
         refl,
         (
-        c.bytes,
-        length c.late.met,
-        c.low,
-        c.high,
-        report,
-        more,
-        pairs (files_of statements) later,
-        ap (λ (t : Took). lines_said at t ++ more) c.took_is,
-        ap (λ (r : List (List ℕ)). pairs (file ∷ files_of statements) (r ++ later)) c.wrote_is,
-        subst (λ n. IsReport W.process (stay_by W.names stay) n false number c.bytes (length c.late.met) report) (ap length held.start.0)
-            (subst (λ b. IsReport W.process (stay_by W.names stay) (length inside.met) b number c.bytes (length c.late.met) report) held.start.1 c.reported),
-        closed_window W o c.late c.new c.low c.high (Some number) c.is c.out,
-        c.told.tells,
+          c.bytes,
+          length c.late.met,
+          c.low,
+          c.high,
+          report,
+          more,
+          pairs (files_of statements) later,
+          ap (λ (t : Took). lines_said at t ++ more) c.took_is,
+          ap (λ (r : List (List ℕ)). pairs (file ∷ files_of statements) (r ++ later)) c.wrote_is,
+          subst (λ n. IsReport W.process (stay_by W.names stay) n false number c.bytes (length c.late.met) report) (ap length held.start.0)
+              (subst (λ b. IsReport W.process (stay_by W.names stay) (length inside.met) b number c.bytes (length c.late.met) report) held.start.1 c.reported),
+          closed_window W o c.late c.new c.low c.high (Some number) c.is c.out,
+          c.told.tells,
         ),
       );
     }

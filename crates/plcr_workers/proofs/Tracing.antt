@@ -125,15 +125,15 @@ gained_more : {K : Type 0} (written : K → Option (List ℕ)) (faults : K → �
 gained_more {K} written faults tells took wrote bytes next first old new count within same w gains gained k d other less =
     at_or_else next k
     (λ (e : next ≡ k).
-        let here : get_or (wrote ++ bytes ∷ []) next d ≡ bytes = subst (λ n. get_or (wrote ++ bytes ∷ []) n d ≡ bytes) count (last_or wrote bytes d) in
-        subst (λ n. written (slice_index_or new n other).out ≡ append_known (written (slice_index_or first n other).out) (get_or (wrote ++ bytes ∷ []) n d)) e
-        (gains other ∙ ap (λ (x : Draft K). append_known (written x.out) bytes) (same other) ∙ ap (append_known (written (slice_index_or first next other).out)) (sym here)))
+    let here : get_or (wrote ++ bytes ∷ []) next d ≡ bytes = subst (λ n. get_or (wrote ++ bytes ∷ []) n d ≡ bytes) count (last_or wrote bytes d) in
+    subst (λ n. written (slice_index_or new n other).out ≡ append_known (written (slice_index_or first n other).out) (get_or (wrote ++ bytes ∷ []) n d)) e
+    (gains other ∙ ap (λ (x : Draft K). append_known (written x.out) bytes) (same other) ∙ ap (append_known (written (slice_index_or first next other).out)) (sym here)))
     (λ f.
-        let not_next = different next k f in
-        let long = length-append wrote (bytes ∷ []) in
-        let below : k < length wrote = (let b = below_next k next not_next (omega (arith, less, long, count)) in omega (arith, b, count)) in
-        ap (λ (x : Draft K). written x.out) (there_is faults tells next took old new w k other not_next) ∙ gained k d other below
-        ∙ ap (append_known (written (slice_index_or first k other).out)) (sym (get_or_append_left wrote (bytes ∷ []) d k below)))
+    let not_next = different next k f in
+    let long = length-append wrote (bytes ∷ []) in
+    let below : k < length wrote = (let b = below_next k next not_next (omega (arith, less, long, count)) in omega (arith, b, count)) in
+    ap (λ (x : Draft K). written x.out) (there_is faults tells next took old new w k other not_next) ∙ gained k d other below
+    ∙ ap (append_known (written (slice_index_or first k other).out)) (sym (get_or_append_left wrote (bytes ∷ []) d k below)))
 
 -- a statement was taken, and no output failed
 pub traced_on : {K : Type 0} (written : K → Option (List ℕ)) (report : List Listed → List ℕ) (faults : K → ℕ) (tells : Draft K → Draft K → Type 0) (script : ℕ) (statements : List NumberedStatement) (at line next more : ℕ) (statement : Statement) (took : Took)
@@ -147,23 +147,28 @@ traced_on {K} written report faults tells script statements at line next more st
   where
     s : NumberedStatement
     s = record { line = line; statement = statement }
+
     well : IsWell took
     well = is_well took next more after
+
     there : at < length statements
     there = slice_get_within statements at s e
+
     one_more : take (at + 1) statements ≡ take at statements ++ s ∷ []
     one_more = take_more statements at s there ∙ ap (λ (x : NumberedStatement). take at statements ++ x ∷ []) (get_or_from_slice_get statements at s s e)
+
     long : at ≡ 0 + length (take at statements)
     long = (let n = length-take at statements in omega (arith, n, there))
+
     ran : Ran report script 0 (take (at + 1) statements) p v all (t.wrote ++ acts.wrote) to u
     ran = subst (λ (l : List PassLine). Ran report script 0 (take (at + 1) statements) p v l (t.wrote ++ acts.wrote) to u) (sym lines_are)
         (subst (λ (l : List NumberedStatement). Ran report script 0 l p v (lines ++ lines_said at took) (t.wrote ++ acts.wrote) to u) (sym one_more)
         (ran_more report script 0 at (take at statements) s p v lines t.wrote q w took acts.wrote to u long t.ran well acts.does applies goes))
+
     gained : (file : Option (List ℕ)) → file_of statement ≡ file → IfSome file (λ f. next < length old) → TakesOutputs faults tells next file took old new → (length (t.wrote ++ acts.wrote) ≡ more) × HaveGained written (t.wrote ++ acts.wrote) first new
     gained None is within takes =
         let none = none_written report statement q to took acts.wrote is acts.does in
-        let all : t.wrote ++ acts.wrote ≡ t.wrote = ap (λ (r : List (List ℕ)). t.wrote ++ r) none ∙ append-nil t.wrote in
-        (
+        let all : t.wrote ++ acts.wrote ≡ t.wrote = ap (λ (r : List (List ℕ)). t.wrote ++ r) none ∙ append-nil t.wrote in (
           ap length all ∙ t.count ∙ sym (no_report_next took next more takes.1 after),
           subst (λ (r : List (List ℕ)). HaveGained written r first new) (sym all) (subst (λ (ds : List (Draft K)). HaveGained written t.wrote first ds) (sym takes.0) t.gained),
         )
@@ -174,8 +179,7 @@ traced_on {K} written report faults tells script statements at line next more st
         let count = t.count in
         let long = length-append t.wrote (bytes ∷ []) in
         let next_is = did.0 in
-        subst (λ (r : List (List ℕ)). (length (t.wrote ++ r) ≡ more) × HaveGained written (t.wrote ++ r) first new) (sym one.1)
-        (
+        subst (λ (r : List (List ℕ)). (length (t.wrote ++ r) ≡ more) × HaveGained written (t.wrote ++ r) first new) (sym one.1) (
           omega (arith, long, count, next_is),
           gained_more written faults tells took t.wrote bytes next first old new count within (λ other. same next other within (omega arith)) takes
               (subst (λ (r : List (List ℕ)). NextGains written next r old new) one.1 acts.gains) t.gained,

@@ -92,7 +92,7 @@ stay_made was new early late low high enter leave held sees out walking same =
     let left = subst (λ n. Grows (Leave n ∷ inside) new.history) number (came_out late new low high out) in
     let whole_history = grows_again late.walker.history inside new.history seen (grows_again inside (Leave new.number ∷ inside) new.history (Leave new.number ∷ [], refl) left) in
     let entered : Grows (Enter was.number ∷ before) inside =
-        grows_again (Enter was.number ∷ before) late.walker.history inside (subst (λ (s : WalkerState). Grows s.history late.walker.history) held.enter.now sees.sees.added.grows) seen in
+    grows_again (Enter was.number ∷ before) late.walker.history inside (subst (λ (s : WalkerState). Grows s.history late.walker.history) held.enter.now sees.sees.added.grows) seen in
     record {
       entered = subst (λ n. Grows (Enter n ∷ before) inside) (sym same) entered;
       left = left;
@@ -101,8 +101,7 @@ stay_made was new early late low high enter leave held sees out walking same =
           (meets-grows late.walker.history new.history 0 (start_of late.walker) (changes late.walker.history) late.met whole_history (omega arith) walking.meets));
       whole = λ e.
           let ended = walking.whole e in
-          let upto = ended.1.within in
-          (
+          let upto = ended.1.within in (
             ended.0,
             subst (λ a. a ≤ ended.0) start (lawful_rises (list_after late.walker.history) (start_of late.walker) ended.0 late.met ended.1.lawful),
             omega (arith, upto, later),

@@ -254,7 +254,9 @@ pub(crate) fn take_statement<R: Wait, P: Process, G: Gate, K: Sink>(
         return (place, Took::Silent);
     }
     if is_report(statement) {
-        return write_next(process, context, list, gate, script, line, place, drafts, next);
+        return write_next(
+            process, context, list, gate, script, line, place, drafts, next,
+        );
     }
     move_on(list, gate, script, line, statement, place)
 }

@@ -155,12 +155,7 @@ fn turned_round<T: Drop>(items: Vec<T>) -> Vec<T>
 }
 
 /// All workers run, each on a thread of its own where one can be made.
-pub(crate) fn run_all<
-    R: Threads + Wait + Sync,
-    P: Process + Sync,
-    G: Gate,
-    K: Sink + Drop + Send,
->(
+pub(crate) fn run_all<R: Threads + Wait + Sync, P: Process + Sync, G: Gate, K: Sink + Drop + Send>(
     rt: &R,
     queue: &TurnQueue,
     list: &ImageList,

@@ -80,7 +80,16 @@ where
         mut workers,
         room,
     } = stage;
-    let made = work(rt, core, scripts, &queue, &list, desk, gate, workers.as_mut_slice());
+    let made = work(
+        rt,
+        core,
+        scripts,
+        &queue,
+        &list,
+        desk,
+        gate,
+        workers.as_mut_slice(),
+    );
     let ran = end_workers(rt, &queue, &list, scripts, &mut chief, workers, room);
     let Ran {
         writer,

@@ -64,6 +64,7 @@ AreInOrder list images = (place : ℕ) (other : WalkerState) → place < length 
 -- passes of a list, of so many, from the last number down
 abbrev pub AreFromTheLast : ℕ → TableId → List WalkerState → Type 0
 AreFromTheLast count list images = (place : ℕ) (other : WalkerState) → place < length images → ((slice_index_or images place other).table ≡ list) × ((slice_index_or images place other).number + place + 1 ≡ count)
+
 -- what workers see
 abbrev pub views_of : {K : Type 0} → List (Worker K) → List View
 views_of [] = []

@@ -35,7 +35,7 @@ returns-in-Ok-clause-output g c =
     let written = c.write_walk-captured.new.hold in
     let report = g.P.Process.report c.args.process.now c.args.context.now in
     let goes = again walked.walker written.walker c.leave-pass.result.0 (same_walk walked written c.write_walk-captured.ensures.same)
-        (released written c.leave-pass.result.0 c.leave-pass.result.1.low c.leave-pass.result.1.high c.leave-pass.ensures.released) in
+    (released written c.leave-pass.result.0 c.leave-pass.result.1.low c.leave-pass.result.1.high c.leave-pass.ensures.released) in
     record {
       script = c.write_walk-captured.ensures.place.0;
       at = c.write_walk-captured.ensures.place.1;

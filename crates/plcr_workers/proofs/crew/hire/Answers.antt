@@ -62,7 +62,7 @@ loop-script-preserved g c =
     let left = c.loop-script.invariant.many in
     let number : c.in-Some.image.number ≡ n = (let e = image.1 in omega (arith, e, long, left)) in
     let so_far : SoFar n c.args.list.now script.0.statements 0 (view c.hand_out-turns.result) =
-        subst (SoFar n c.args.list.now script.0.statements 0) (sym c.hand_out-turns.ensures.right) (fresh_so_far c.args.scripts.now n c.args.list.now _ script.0 next.2.0 script.2 next.2.1 next.2.2) in
+    subst (SoFar n c.args.list.now script.0.statements 0) (sym c.hand_out-turns.ensures.right) (fresh_so_far c.args.scripts.now n c.args.list.now _ script.0 next.2.0 script.2 next.2.1 next.2.2) in
     let counted = c.loop-script.invariant.count in
     let few = c.requires.few in
     let new_count : length c.loop-script.workers.items ≡ n = (let o = c.loop-script.workers.ok.0 in omega (arith, o, counted)) in

@@ -23,7 +23,7 @@ returns-in-Err-clause-err g c =
 pub push_reserved-requires : goal.push_reserved-requires
 push_reserved-requires g c =
     let fits = making_room g.D.Out.Sink.faults c.args.number c.args.script.now.statements c.loop-at.at c.statement.result.now c.in-Report.file c.loop-at.drafts.items (g.D.Desk.told c.args.desk.now) (g.D.Desk.told c.loop-at.desk)
-        (stands_at c.args.script.now.statements c.loop-at.at c.statement.result.now c.statement.ensures) (ap file_of c.in-Report.is) c.loop-at.invariant.0 in
+    (stands_at c.args.script.now.statements c.loop-at.at c.statement.result.now c.statement.ensures) (ap file_of c.in-Report.is) c.loop-at.invariant.0 in
     let room = c.requires.room in let same = c.loop-at.invariant.1 in let len = c.loop-at.drafts.ok.0 in omega (arith, fits, room, same, len)
 
 pub loop-at-preserved : goal.loop-at-preserved

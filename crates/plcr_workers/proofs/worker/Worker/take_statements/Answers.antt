@@ -59,7 +59,7 @@ returns-in-None-clause-goes g c = record {
 pub returns-in-None-clause-taken : goal.returns-in-None-clause-taken
 returns-in-None-clause-taken g c =
     let cut = cut_at g.K.Sink.faults (HasReport g.K.Sink.written (g.P.Process.report c.args.process.now c.args.context.now) (walker_of c.take_statement-moved.result.0)) c.args.script.now.statements c.loop-at.at c.line.result c.loop-at.next c.statement.result.now c.take_statement-moved.result.1 c.args.self.now.drafts.items c.loop-at.self.drafts.items c.take_statement-moved.new.drafts.items
-        (numbered_at c.args.script.now c.loop-at.at c.line.result c.statement.result.now c.line.ensures c.statement.ensures) c.loop-at.invariant.all c.loop-at.invariant.outputs c.take_statement-moved.ensures.outputs (sym c.in-None.ensures.next) in
+    (numbered_at c.args.script.now c.loop-at.at c.line.result c.statement.result.now c.line.ensures c.statement.ensures) c.loop-at.invariant.all c.loop-at.invariant.outputs c.take_statement-moved.ensures.outputs (sym c.in-None.ensures.next) in
     record { number = c.loop-at.invariant.number; places = cut.places; done = cut.done }
 
 pub returns-in-None-clause-reports : goal.returns-in-None-clause-reports
@@ -67,7 +67,7 @@ returns-in-None-clause-reports g c =
     reported_cut g.K.Sink.written (g.P.Process.report c.args.process.now c.args.context.now) (walker_of c.loop-at.place) (walker_of c.take_statement-moved.result.0) g.K.Sink.faults c.loop-at.next (file_of c.statement.result.now) c.take_statement-moved.result.1
     c.args.self.now.drafts.items c.loop-at.self.drafts.items c.take_statement-moved.new.drafts.items c.take_statement-moved.ensures.goes
     (output_left c.args.script.now.statements c.loop-at.at c.line.result c.loop-at.next c.statement.result.now c.loop-at.self.drafts.items
-      (numbered_at c.args.script.now c.loop-at.at c.line.result c.statement.result.now c.line.ensures c.statement.ensures) c.loop-at.invariant.all c.loop-at.invariant.outputs.counted) c.loop-at.invariant.reported c.take_statement-moved.ensures.outputs (sym c.in-None.ensures.next)
+    (numbered_at c.args.script.now c.loop-at.at c.line.result c.statement.result.now c.line.ensures c.statement.ensures) c.loop-at.invariant.all c.loop-at.invariant.outputs.counted) c.loop-at.invariant.reported c.take_statement-moved.ensures.outputs (sym c.in-None.ensures.next)
 
 pub returns-clause-reports : goal.returns-clause-reports
 returns-clause-reports g c =
@@ -76,7 +76,7 @@ returns-clause-reports g c =
 pub returns-in-None-clause-whole : goal.returns-in-None-clause-whole
 returns-in-None-clause-whole g c = λ all.
     absurd ((cut_at g.K.Sink.faults (HasReport g.K.Sink.written (g.P.Process.report c.args.process.now c.args.context.now) (walker_of c.take_statement-moved.result.0)) c.args.script.now.statements c.loop-at.at c.line.result c.loop-at.next c.statement.result.now c.take_statement-moved.result.1 c.args.self.now.drafts.items c.loop-at.self.drafts.items c.take_statement-moved.new.drafts.items
-        (numbered_at c.args.script.now c.loop-at.at c.line.result c.statement.result.now c.line.ensures c.statement.ensures) c.loop-at.invariant.all c.loop-at.invariant.outputs c.take_statement-moved.ensures.outputs (sym c.in-None.ensures.next)).failed all)
+    (numbered_at c.args.script.now c.loop-at.at c.line.result c.statement.result.now c.line.ensures c.statement.ensures) c.loop-at.invariant.all c.loop-at.invariant.outputs c.take_statement-moved.ensures.outputs (sym c.in-None.ensures.next)).failed all)
 
 pub returns-clause-whole : goal.returns-clause-whole
 returns-clause-whole g c = λ all. c.loop-at.invariant.so_far.lines ∙ ap change_lines (take_past c.loop-at.at c.args.script.now.statements (let past = c.loop-at-test.false in omega arith))
@@ -84,16 +84,15 @@ returns-clause-whole g c = λ all. c.loop-at.invariant.so_far.lines ∙ ap chang
 pub returns-in-None-clause-traced : goal.returns-in-None-clause-traced
 returns-in-None-clause-traced g c = λ all.
     absurd ((cut_at g.K.Sink.faults (HasReport g.K.Sink.written (g.P.Process.report c.args.process.now c.args.context.now) (walker_of c.take_statement-moved.result.0)) c.args.script.now.statements c.loop-at.at c.line.result c.loop-at.next c.statement.result.now c.take_statement-moved.result.1 c.args.self.now.drafts.items c.loop-at.self.drafts.items c.take_statement-moved.new.drafts.items
-        (numbered_at c.args.script.now c.loop-at.at c.line.result c.statement.result.now c.line.ensures c.statement.ensures) c.loop-at.invariant.all c.loop-at.invariant.outputs c.take_statement-moved.ensures.outputs (sym c.in-None.ensures.next)).failed all)
+    (numbered_at c.args.script.now c.loop-at.at c.line.result c.statement.result.now c.line.ensures c.statement.ensures) c.loop-at.invariant.all c.loop-at.invariant.outputs c.take_statement-moved.ensures.outputs (sym c.in-None.ensures.next)).failed all)
 
 pub returns-clause-traced : goal.returns-clause-traced
-returns-clause-traced g c = λ all.
-    (
-      c.loop-at.next,
-      subst (λ n. HasTraced g.K.Sink.written (g.P.Process.report c.args.process.now c.args.context.now) n c.args.script.now.statements c.args.place (view c.args.self.now.turns) c.loop-at.place (view c.loop-at.self.turns) c.loop-at.self.lines.items c.loop-at.next c.args.self.now.drafts.items c.loop-at.self.drafts.items) c.loop-at.invariant.number
+returns-clause-traced g c = λ all. (
+  c.loop-at.next,
+  subst (λ n. HasTraced g.K.Sink.written (g.P.Process.report c.args.process.now c.args.context.now) n c.args.script.now.statements c.args.place (view c.args.self.now.turns) c.loop-at.place (view c.loop-at.self.turns) c.loop-at.self.lines.items c.loop-at.next c.args.self.now.drafts.items c.loop-at.self.drafts.items) c.loop-at.invariant.number
       (subst (λ l. HasTraced g.K.Sink.written (g.P.Process.report c.args.process.now c.args.context.now) c.loop-at.self.script l c.args.place (view c.args.self.now.turns) c.loop-at.place (view c.loop-at.self.turns) c.loop-at.self.lines.items c.loop-at.next c.args.self.now.drafts.items c.loop-at.self.drafts.items)
       (take_past c.loop-at.at c.args.script.now.statements (let past = c.loop-at-test.false in omega arith)) c.loop-at.invariant.traced),
-    )
+)
 
 pub returns-in-None-clause-own : goal.returns-in-None-clause-own
 returns-in-None-clause-own g c =

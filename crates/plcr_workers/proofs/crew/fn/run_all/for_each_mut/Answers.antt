@@ -11,8 +11,7 @@ returns g c =
     let ready = c.requires.2 in
     let run = c.run.ensures.run in
     let same = sym (get_or_from_slice_get scripts old.script ready.script script ready.stands) ∙ sym c.index-scripts-worker.is in
-    let stands : slice_get scripts new.script ≡ Some script = ap (slice_get scripts) run.goes.number ∙ ready.stands ∙ ap Some same in
-    (
+    let stands : slice_get scripts new.script ≡ Some script = ap (slice_get scripts) run.goes.number ∙ ready.stands ∙ ap Some same in (
       record {
         script = script;
         stands = stands;
