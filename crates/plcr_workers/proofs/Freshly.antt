@@ -1,5 +1,5 @@
 -- Where the lines of a script stand in the journal: those of its statements so far in what its worker has seen, and each later one behind all changes that its pass had seen.
-use Rattle.std.proofs.Common.{◌≡◌, ℕ, zero, suc, ◌+◌, ◌<◌, ◌≤◌, Bool, true, false, cond, List, [], ◌∷◌, ◌++◌, length, Option, Some, None, leb, leb-true, leb-false, refl, sym, ap, ◌∙◌, subst, length-append, append_assoc, append-nil, arith}
+use Rattle.std.proofs.Common.{◌≡◌, ℕ, suc, ◌+◌, ◌<◌, ◌≤◌, cond, List, [], ◌∷◌, ◌++◌, length, Option, Some, None, leb, leb-true, leb-false, refl, sym, ap, ◌∙◌, length-append, append_assoc, append-nil, arith}
 use Rattle.std.proofs.lemmas.List.Sums.{sum_by-append}
 use Rattle.plcr_machine.proofs.Cases.{by_cases}
 use Rattle.plcr_machine.proofs.Growing.{changes-grows}
@@ -17,7 +17,7 @@ use Rattle.plcr_workers.specs.declared.lines.PassLine.{PassLine}
 use Rattle.plcr_workers.specs.declared.places.Place.{Place}
 use Rattle.plcr_workers.specs.Asking.{asked_in}
 use Rattle.plcr_workers.specs.inner.Places.{walker_of}
-use Rattle.plcr_workers.specs.inner.Traces.{Applied, Applies, Then, Ran, Rise}
+use Rattle.plcr_workers.specs.inner.Traces.{Applied, Applies, Ran, Rise}
 
 -- ---- cuts of a list
 

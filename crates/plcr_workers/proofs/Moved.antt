@@ -1,10 +1,9 @@
 -- What each statement does to the pass of a worker, and the reports that it wrote.
-use Rattle.std.proofs.Common.{◌≡◌, ℕ, ◌<◌, List, [], ◌∷◌, length, get_or, slice_index_or, slice_set, Option, Some, None, true, false, refl, sym, ap, ◌∙◌, subst}
+use Rattle.std.proofs.Common.{◌≡◌, ℕ, ◌<◌, List, [], length, slice_index_or, slice_set, Option, Some, None, true, false, refl, sym, ◌∙◌, subst}
 use Rattle.std.specs.Prelude.{is_some}
-use Rattle.std.specs.Io.KnownBytes.{append_known}
 use Rattle.std.proofs.lemmas.List.{get_or-set_same}
 use Rattle.plcr_macho.specs.Images.{Listed}
-use Rattle.plcr_imagelist.specs.Holds.{WalkerState, HoldState, IsWalking, IsHeld, IsReleased}
+use Rattle.plcr_imagelist.specs.Holds.{WalkerState, HoldState, IsWalking, IsReleased}
 use Rattle.plcr_imagelist.specs.Carrying.{OnlySees}
 use Rattle.plcr_imagelist.specs.Walk.{IsSameWalk}
 use Rattle.plcr_imagelist.proofs.Sees.{sees_again, reading_sees}
@@ -25,7 +24,7 @@ use Rattle.plcr_workers.specs.declared.places.Place.{Place}
 use Rattle.plcr_workers.specs.declared.places.Place.TheVariants.{Out, In}
 use Rattle.plcr_workers.specs.Asking.{asked_in}
 use Rattle.plcr_workers.specs.inner.Moves.{Acts, ComesIn, Does, GainsOf, Moves, NextGains, OnlyHears, Reports, ReportsFrom, ReportsInto, ReportsNext, SaysOf}
-use Rattle.plcr_workers.specs.inner.Traces.{Applied, Applies}
+use Rattle.plcr_workers.specs.inner.Traces.{Applies}
 use Rattle.plcr_workers.proofs.Reported.{get_or_any}
 
 from_inside : (report : List Listed → List ℕ) (inside walked late : HoldState) (new : WalkerState) (took : Took) (wrote : List (List ℕ)) (low high : ℕ) → IsWalking inside → IsToEnd inside walked → walked.ended ≡ true → OnlySees inside.walker walked.walker → IsWalking walked → IsSameWalk walked late

@@ -1,20 +1,18 @@
 -- Reports stay what they are as the pass of a worker sees more, and are lawful in what the writer has seen.
-use Rattle.std.proofs.Common.{◌≡◌, ◌≢◌, ◌⊎◌, inl, inr, ⊎_elim, ℕ, zero, suc, ◌+◌, ◌<◌, ◌≤◌, List, [], ◌∷◌, ◌++◌, length, map, slice_index_or, Contains, Option, Some, None, IfSome, true, false, leb, leb-true, leb-false, refl, sym, ap, ◌∙◌, subst, length-append, arith}
+use Rattle.std.proofs.Common.{◌≡◌, ◌≢◌, ◌⊎◌, inl, inr, ⊎_elim, ℕ, zero, suc, ◌+◌, ◌<◌, ◌≤◌, List, [], ◌∷◌, length, slice_index_or, Contains, Option, Some, None, IfSome, true, leb, leb-true, leb-false, refl, sym, ap, ◌∙◌, subst, length-append, arith}
 use Rattle.plcr_machine.proofs.Cases.{by_cases, at_or_else}
 use Rattle.plcr_machine.proofs.Rising.{contains_here, contains_later, contains_cases, contains_none}
 use Rattle.plcr_machine.proofs.Growing.{changes-grows}
 use Rattle.plcr_machine.proofs.Staying.{whole_stays}
 use Rattle.plcr_machine.proofs.Renaming.{whole_named}
-use Rattle.plcr_machine.specs.declared.entry.Entry.{Entry}
 use Rattle.plcr_machine.specs.declared.image.Image.{Image}
-use Rattle.plcr_machine.specs.declared.change.Named.{Named}
-use Rattle.plcr_machine.specs.Lists.{Grows, load_number, changes, list_after, name_of}
-use Rattle.plcr_machine.specs.Walks.{IsLawfulWalk, IsWholeWalk}
-use Rattle.plcr_machine.specs.Changes.{load_of, all_named}
+use Rattle.plcr_machine.specs.Lists.{Grows, load_number, list_after, name_of}
+use Rattle.plcr_machine.specs.Walks.{IsLawfulWalk}
+use Rattle.plcr_machine.specs.Changes.{all_named}
 use Rattle.plcr_macho.specs.Images.{Listed}
 use Rattle.plcr_nodes.specs.Entries.{WentOn}
 use Rattle.plcr_nodes.proofs.NamesKept.{name-older}
-use Rattle.plcr_imagelist.specs.Holds.{WalkerState, HoldState, IsWalking, HasEnded, start_of}
+use Rattle.plcr_imagelist.specs.Holds.{WalkerState, HoldState, IsWalking, start_of}
 use Rattle.plcr_imagelist.specs.States.{WriterState, IsAtRest}
 use Rattle.plcr_imagelist.specs.Walk.{with_name, images_of}
 use Rattle.plcr_imagelist.specs.Walk.{all_named as all_listed}

@@ -1,43 +1,39 @@
 -- A script that ran whole on a worker: its lines, stays and files are those of a run of its statements in the history that the writer has seen in the end.
-use Rattle.std.proofs.Common.{◌≡◌, ℕ, zero, suc, ◌+◌, ◌<◌, ◌≤◌, Bool, true, false, List, [], ◌∷◌, ◌++◌, length, map, All, Option, Some, None, leb, leb-true, leb-false, refl, sym, ap, ◌∙◌, subst, arith}
+use Rattle.std.proofs.Common.{◌≡◌, ℕ, suc, ◌≤◌, true, false, List, [], ◌∷◌, ◌++◌, length, All, None, leb, leb-true, leb-false, refl, sym, ap, ◌∙◌, subst, arith}
 use Rattle.std.proofs.lemmas.List.Elements.{All-nil, All-cons}
 use Rattle.plcr_machine.proofs.Cases.{by_cases, not_both}
-use Rattle.plcr_machine.proofs.Growing.{changes-grows}
 use Rattle.plcr_machine.specs.declared.entry.Entry.{Entry}
 use Rattle.plcr_machine.specs.Lists.{Grows, changes}
 use Rattle.plcr_machine.specs.Parts.{own_entries}
-use Rattle.plcr_nodes.specs.Entries.{WentOn}
 use Rattle.plcr_imagelist.specs.Holds.{WalkerState, HoldState}
 use Rattle.plcr_imagelist.specs.States.{WriterState, IsAtRest}
 use Rattle.plcr_imagelist.proofs.Sees.{sees_again, sees_itself}
 use Rattle.plcr_script.specs.declared.statements.Statement.{Statement}
 use Rattle.plcr_script.specs.declared.statements.Statement.TheVariants as stated
 use Rattle.plcr_script.specs.declared.statements.NumberedStatement.{NumberedStatement}
-use Rattle.plcr_script.specs.Meanings.{Meanings}
 use Rattle.plcr_script.specs.Reading.{files_of}
 use Rattle.plcr_script.specs.Scripts.{ScriptValue}
 use Rattle.plcr_turns.specs.declared.lines.ChangeLine.{ChangeLine}
 use Rattle.plcr_turns.specs.declared.view.View.{View}
 use Rattle.plcr_turns.specs.Lines.{accepted}
 use Rattle.plcr_workers.specs.declared.acting.Took.{Took}
-use Rattle.plcr_workers.specs.declared.acting.Took.TheVariants.{Silent, Said, Unwritten}
+use Rattle.plcr_workers.specs.declared.acting.Took.TheVariants.{Silent, Said}
 use Rattle.plcr_workers.specs.declared.lines.PassLine.{PassLine}
-use Rattle.plcr_workers.specs.declared.lines.PassSaid.TheVariants.{Entered, Walked, Left, Reported}
+use Rattle.plcr_workers.specs.declared.lines.PassSaid.TheVariants.{Entered, Walked, Left}
 use Rattle.plcr_workers.specs.declared.places.Place.{Place}
 use Rattle.plcr_workers.specs.declared.places.Place.TheVariants.{Out, In}
 use Rattle.plcr_workers.specs.Asking.{asked_in}
 use Rattle.plcr_workers.specs.inner.Moves.{Does, ComesOut}
-use Rattle.plcr_workers.specs.inner.Places.{PassGoes, walker_of}
-use Rattle.plcr_workers.specs.inner.Traces.{Applies, IsWell, MayRun, MayStand, Ran, Rise, Then, lines_said, stands_in}
-use Rattle.plcr_workers.specs.inner.Visits.{KnownStay, IsKnownStay, stay_by}
-use Rattle.plcr_workers.specs.Scripts.{IsScriptRun, Tells}
-use Rattle.plcr_workers.specs.Scripts.{Out as OutSpot, In as InSpot}
+use Rattle.plcr_workers.specs.inner.Places.{walker_of}
+use Rattle.plcr_workers.specs.inner.Traces.{IsWell, MayRun, MayStand, Ran, Rise, lines_said, stands_in}
+use Rattle.plcr_workers.specs.inner.Visits.{KnownStay, stay_by}
+use Rattle.plcr_workers.specs.Scripts.{IsScriptRun}
 use Rattle.plcr_workers.specs.Stays.{FollowOn, IsFresh, IsStay}
-use Rattle.plcr_workers.proofs.Freshly.{AreBelow, GoesOnFrom, below_next, early_accepted, goes_on, knows_next, later_lines, view_begins}
+use Rattle.plcr_workers.proofs.Freshly.{AreBelow, below_next, early_accepted, goes_on, knows_next, later_lines, view_begins}
 use Rattle.plcr_workers.proofs.Passing.{again}
-use Rattle.plcr_workers.proofs.Stayed.{World, Opening, IsOpen, Opened, OutTold, InTold, Told, IsEarlier, IsLater, IsGood, AreGood, by_names, pairs, ran_goes, out_goes}
-use Rattle.plcr_workers.proofs.Traced.{Around, as_said, closed, closed_before, closed_entries, closed_inside, closed_known, closed_window, closes, heard_in, heard_out, is_in, left_there, named_count, one, reported_in, reported_out, walked_on, went_in}
-use Rattle.plcr_workers.proofs.Visited.{stay_is, stay_later}
+use Rattle.plcr_workers.proofs.Stayed.{World, Opening, IsOpen, Opened, OutTold, InTold, Told, AreGood, by_names, pairs, ran_goes, out_goes}
+use Rattle.plcr_workers.proofs.Traced.{Around, as_said, closed, closed_before, closed_entries, closed_inside, closed_known, closes, heard_in, heard_out, is_in, left_there, named_count, one, reported_in, reported_out, walked_on, went_in}
+use Rattle.plcr_workers.proofs.Visited.{stay_is}
 
 -- where no statement is left, the pass comes out
 last_out : (W : World) (at : ℕ) (p : WalkerState) → W.final ≡ p → OutTold W at [] p [] []

@@ -1,52 +1,41 @@
 -- What the statements of a script tell, each by what it did: the lines, stays and files of the script, whatever other workers did meanwhile.
-use Rattle.std.proofs.Common.{◌≡◌, ℕ, zero, suc, ◌+◌, ◌<◌, ◌≤◌, Bool, true, false, List, [], ◌∷◌, ◌++◌, length, map, Contains, Option, Some, None, leb, leb-true, leb-false, refl, sym, ap, ◌∙◌, subst, length-append, arith}
-use Rattle.std.proofs.lemmas.List.{length-map}
-use Rattle.plcr_machine.proofs.Cases.{by_cases, not_both}
+use Rattle.std.proofs.Common.{◌≡◌, ℕ, suc, ◌≤◌, Bool, true, false, List, [], ◌∷◌, ◌++◌, length, Option, Some, refl, sym, ap, ◌∙◌, subst, arith}
 use Rattle.plcr_machine.proofs.Growing.{changes-grows}
 use Rattle.plcr_machine.specs.declared.entry.Entry.{Entry}
 use Rattle.plcr_machine.specs.declared.entry.Entry.TheVariants.{Announce, Enter, Leave, Retire}
 use Rattle.plcr_machine.specs.declared.image.Image.{Image}
-use Rattle.plcr_machine.specs.Lists.{Grows, changes}
+use Rattle.plcr_machine.specs.Lists.{Grows}
 use Rattle.plcr_machine.specs.Parts.{own_entries}
 use Rattle.plcr_machine.specs.Changes.{all_named}
-use Rattle.plcr_nodes.specs.Entries.{WentOn}
 use Rattle.plcr_nodes.proofs.Seeing.{grows_again}
-use Rattle.plcr_imagelist.specs.Holds.{WalkerState, HoldState, IsWalking, IsHeld, IsReleased}
+use Rattle.plcr_imagelist.specs.Holds.{WalkerState, HoldState, IsHeld, IsReleased}
 use Rattle.plcr_imagelist.specs.Carrying.{OnlySees}
 use Rattle.plcr_imagelist.specs.Walk.{images_of}
-use Rattle.plcr_imagelist.proofs.Sees.{met_few, sees_again, sees_itself}
+use Rattle.plcr_imagelist.proofs.Sees.{met_few, sees_again}
 use Rattle.plcr_macho.specs.Images.{Listed}
 use Rattle.plcr_run.specs.Walks.{IsFurther, IsToEnd}
 use Rattle.plcr_script.specs.declared.statements.Statement.{Statement}
 use Rattle.plcr_script.specs.declared.statements.Statement.TheVariants as stated
 use Rattle.plcr_script.specs.declared.statements.NumberedStatement.{NumberedStatement}
-use Rattle.plcr_script.specs.Meanings.{Meanings}
 use Rattle.plcr_script.specs.Reading.{files_of}
-use Rattle.plcr_script.specs.RunTurns.{listed}
-use Rattle.plcr_turns.specs.declared.lines.ChangeLine.{ChangeLine}
-use Rattle.plcr_turns.specs.declared.view.View.{View}
-use Rattle.plcr_turns.specs.Lines.{accepted}
 use Rattle.plcr_turns.proofs.Turned.{went_again}
 use Rattle.plcr_workers.specs.declared.acting.Took.{Took}
 use Rattle.plcr_workers.specs.declared.acting.Took.TheVariants.{Silent, Said, Unwritten}
 use Rattle.plcr_workers.specs.declared.lines.PassLine.{PassLine}
-use Rattle.plcr_workers.specs.declared.lines.PassSaid.{PassSaid}
 use Rattle.plcr_workers.specs.declared.lines.PassSaid.TheVariants.{Entered, Walked, Left, Reported}
 use Rattle.plcr_workers.specs.declared.places.Place.{Place}
 use Rattle.plcr_workers.specs.declared.places.Place.TheVariants.{Out, In}
-use Rattle.plcr_workers.specs.inner.Moves.{Does, ReportsFrom, SaysOf}
-use Rattle.plcr_workers.specs.inner.Places.{PassGoes, walker_of}
-use Rattle.plcr_workers.specs.inner.Traces.{IsWell, MayRun, MayStand, Ran, Rise, lines_said}
+use Rattle.plcr_workers.specs.inner.Moves.{ReportsFrom}
+use Rattle.plcr_workers.specs.inner.Places.{PassGoes}
+use Rattle.plcr_workers.specs.inner.Traces.{IsWell, lines_said}
 use Rattle.plcr_workers.specs.inner.Visits.{KnownStay, IsKnownStay, stay_by}
-use Rattle.plcr_workers.specs.Scripts.{IsReport, IsWalkLine, HasWindow, Tells}
+use Rattle.plcr_workers.specs.Scripts.{IsReport, HasWindow, Tells}
 use Rattle.plcr_workers.specs.Scripts.{Out as OutSpot, In as InSpot}
-use Rattle.plcr_workers.specs.Stays.{FollowOn, IsBehind}
-use Rattle.plcr_workers.proofs.Freshly.{AreBelow, below_next, early_accepted, goes_on, knows_next, later_lines, view_begins}
+use Rattle.plcr_workers.specs.Stays.{FollowOn}
 use Rattle.plcr_workers.proofs.Further.{to_end_rises, to_end_still, went_further}
-use Rattle.plcr_workers.proofs.Passing.{again, released}
-use Rattle.plcr_workers.proofs.Passing.{stays as goes_nowhere}
+use Rattle.plcr_workers.proofs.Passing.{released}
 use Rattle.plcr_workers.proofs.Reported.{named_on, same_listed}
-use Rattle.plcr_workers.proofs.Stayed.{World, Opening, IsOpen, Opened, OutTold, InTold, Told, IsEarlier, IsLater, IsGood, AreGood, by_names, pairs, ran_goes, out_goes, own_before, own_inside}
+use Rattle.plcr_workers.proofs.Stayed.{World, Opening, IsOpen, Opened, OutTold, InTold, Told, IsEarlier, IsLater, by_names, pairs, own_before, own_inside}
 use Rattle.plcr_workers.proofs.Visited.{pass_number, stay_of, stay_made, stay_later, window_is, stay_entries}
 
 abbrev pub is_in : Place → Bool

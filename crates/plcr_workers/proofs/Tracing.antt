@@ -1,5 +1,5 @@
 -- What a worker's statements did, kept as one statement more is taken.
-use Rattle.std.proofs.Common.{◌≡◌, ◌≢◌, ℕ, zero, suc, ◌+◌, ◌<◌, ◌≤◌, List, [], ◌∷◌, ◌++◌, length, take, get_or, slice_get, slice_index_or, All, Option, Some, None, refl, sym, ap, ◌∙◌, subst, length-append, append_assoc, append-nil, arith}
+use Rattle.std.proofs.Common.{◌≡◌, ℕ, suc, ◌+◌, ◌<◌, ◌≤◌, List, [], ◌∷◌, ◌++◌, length, take, get_or, slice_get, slice_index_or, Option, Some, None, refl, sym, ap, ◌∙◌, subst, length-append, append_assoc, append-nil, arith}
 use Rattle.std.specs.Prelude.{IfSome}
 use Rattle.std.specs.Io.KnownBytes.{append_known}
 use Rattle.std.proofs.lemmas.List.{take_more, length-take, get_or_append_left}
@@ -16,15 +16,14 @@ use Rattle.plcr_workers.specs.declared.acting.Took.{Took}
 use Rattle.plcr_workers.specs.declared.acting.Took.TheVariants.{Silent, Said, Unwritten}
 use Rattle.plcr_workers.specs.declared.drafts.Draft.{Draft}
 use Rattle.plcr_workers.specs.declared.lines.PassLine.{PassLine}
-use Rattle.plcr_workers.specs.declared.lines.PassSaid.{PassSaid}
 use Rattle.plcr_workers.specs.declared.lines.PassSaid.TheVariants.{Entered, Walked, Left, Reported}
 use Rattle.plcr_workers.specs.declared.places.Place.{Place}
 use Rattle.plcr_workers.specs.declared.places.Place.TheVariants.{Out, In}
 use Rattle.plcr_workers.specs.Asking.{asked_in}
 use Rattle.plcr_workers.specs.inner.Drafts.{TakesOutputs, WritesNext, next_after}
-use Rattle.plcr_workers.specs.inner.Moves.{Acts, Does, NextGains, ReportsFrom, ReportsInto, SaysOf}
+use Rattle.plcr_workers.specs.inner.Moves.{Acts, Does, NextGains, ReportsFrom, ReportsInto}
 use Rattle.plcr_workers.specs.inner.Places.{PassGoes, walker_of}
-use Rattle.plcr_workers.specs.inner.Traces.{Applies, HasTraced, HaveGained, IsWell, Ran, Then, lines_said}
+use Rattle.plcr_workers.specs.inner.Traces.{Applies, HasTraced, HaveGained, IsWell, Ran, lines_said}
 use Rattle.plcr_workers.proofs.Outputs.{below_next, different, no_report_next, there_is, written_of}
 
 -- ---- one statement more

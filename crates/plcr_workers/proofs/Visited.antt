@@ -1,19 +1,17 @@
 -- Stays of a pass, from where it comes out on: they stay what they are as it sees more, and are stays in what the writer has seen.
-use Rattle.std.proofs.Common.{◌≡◌, ℕ, ◌+◌, ◌<◌, ◌≤◌, List, [], ◌∷◌, ◌++◌, length, Contains, Option, Bool, true, refl, sym, ap, ◌∙◌, subst, length-append, arith}
+use Rattle.std.proofs.Common.{◌≡◌, ℕ, ◌≤◌, List, [], ◌∷◌, length, Option, refl, sym, ap, ◌∙◌, subst, length-append, arith}
 use Rattle.plcr_machine.proofs.Growing.{changes-grows, meets-grows, meets_until}
 use Rattle.plcr_machine.proofs.Pace.{paced_prefix, paced_even}
 use Rattle.plcr_machine.proofs.Renaming.{met_named, whole_named}
 use Rattle.plcr_machine.proofs.Staying.{whole_stays, lawful_wider}
 use Rattle.plcr_machine.specs.declared.entry.Entry.{Entry}
 use Rattle.plcr_machine.specs.declared.entry.Entry.TheVariants.{Announce, Enter, Leave, Retire}
-use Rattle.plcr_machine.specs.declared.image.Image.{Image}
 use Rattle.plcr_machine.specs.Lists.{Grows, load_number, changes, list_after}
 use Rattle.plcr_machine.specs.Walks.{Meets, IsWholeWalk}
 use Rattle.plcr_machine.specs.Changes.{load_of}
 use Rattle.plcr_machine.specs.Holds.{before_enter}
 use Rattle.plcr_machine.specs.Parts.{own_entries}
 use Rattle.plcr_machine.specs.Passes.{counts}
-use Rattle.plcr_nodes.specs.Entries.{WentOn}
 use Rattle.plcr_nodes.proofs.Seeing.{grows_again}
 use Rattle.plcr_imagelist.specs.Holds.{WalkerState, HoldState, IsWalking, IsHeld, IsReleased, start_of}
 use Rattle.plcr_imagelist.specs.Carrying.{OnlySees}

@@ -1,14 +1,12 @@
-use Rattle.std.proofs.Common.{Some, refl, sym}
+use Rattle.std.proofs.Common.{refl}
 use Rattle.crossbeam_queue.specs.Passes.{view}
 use Rattle.plcr_script.specs.Meanings.{meanings}
-use Rattle.plcr_script.specs.Reading.{file_of}
 use Rattle.plcr_turns.specs.Lines.{asked_by}
 use Rattle.plcr_workers.specs.Asking.{asked_in}
 use Rattle.plcr_workers.specs.inner.Places.{walker_of}
-use Rattle.plcr_workers.proofs.Going.{advanced, stayed, next_of}
-use Rattle.plcr_workers.proofs.Outputs.{silent_outputs, report_outputs, moved_outputs, next_within}
-use Rattle.plcr_workers.proofs.Owned.{adds_line, adds_none}
-use Rattle.plcr_workers.proofs.Moved.{acts_heard, acts_reported, acts_moved, applied_by, not_applied, no_file}
+use Rattle.plcr_workers.proofs.Going.{next_of}
+use Rattle.plcr_workers.proofs.Owned.{adds_line}
+use Rattle.plcr_workers.proofs.Moved.{acts_heard, acts_moved, applied_by, no_file}
 use Rattle.plcr_workers.proofs.acting.take_statement.Goals as goal
 
 pub apply-place-requires-clause-left : goal.apply-place-requires-clause-left

@@ -1,10 +1,9 @@
-use Rattle.std.proofs.Common.{◌≡◌, ◌+◌, ◌≤◌, ◌<◌, All, length, drop, map, refl, ap, ◌∙◌, subst, sym, arith}
+use Rattle.std.proofs.Common.{◌+◌, length, refl, ap, ◌∙◌, subst, sym, arith}
 use Rattle.crossbeam_queue.specs.Passes.{view}
 use Rattle.plcr_script.specs.Meanings.{meanings}
 use Rattle.plcr_run.proofs.Composed.{numbered_at}
 use Rattle.plcr_turns.specs.Lines.{lines_of}
 use Rattle.plcr_workers.specs.Asking.{change_lines}
-use Rattle.plcr_workers.specs.inner.Hired.{SoFar}
 use Rattle.plcr_workers.specs.inner.Places.{walker_of}
 use Rattle.plcr_workers.proofs.Going.{left_if_asked, so_far_next, take_past}
 use Rattle.plcr_script.specs.Reading.{file_of}
