@@ -20,7 +20,7 @@ use std::sync::Wait;
 use std::thread::Threads;
 
 /// Scripts that run side by side. The first has the sizes and values of all.
-const SIDE_BY_SIDE: Modes = Modes {
+pub const SIDE_BY_SIDE: Modes = Modes {
     first: Mode::Worker { first: true },
     later: Mode::Worker { first: false },
 };

@@ -16,8 +16,6 @@ mod places;
 mod stage;
 mod worker;
 
-pub use command::threads_command;
+pub use command::{SIDE_BY_SIDE, threads_command};
 pub use gate::{Gate, NoGate};
 pub use laws::known_journals_run;
-pub use lines::{PassLine, PassSaid};
-pub use log::{print_journal, print_script};

@@ -35,7 +35,7 @@ fn outcome_of(said: Said) -> Outcome<'static>
 /// # Errors
 ///
 /// `PutFailed` where the sink didn't take them all. A front of them was then written.
-pub fn print_journal<L: Sink>(journal: &[ChangeLine], lines: &mut L) -> Result<(), PutFailed>
+pub(crate) fn print_journal<L: Sink>(journal: &[ChangeLine], lines: &mut L) -> Result<(), PutFailed>
     requires { All (λ (l : JournalLine). l.script < MOST_SCRIPTS) journal.now }
     ensures ok { OnOk result (L.written lines.new ≡ append_known (L.written lines.old) (journal_text journal.now)) }
     ensures err { OnErr result (AppendsProperFront (L.written lines.old) (L.written lines.new) (journal_text journal.now)) }
@@ -97,7 +97,7 @@ fn file_of(statement: &Statement) -> &[u8]
 /// # Errors
 ///
 /// `PutFailed` where the sink didn't take them all. A front of them was then written.
-pub fn print_script<L: Sink>(
+pub(crate) fn print_script<L: Sink>(
     number: u32,
     script: &Script,
     told: &[PassLine],
