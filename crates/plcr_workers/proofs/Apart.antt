@@ -1,24 +1,23 @@
 -- Each statement of a script that was read stands on a line of its own: the numbers of the lines rise.
-use Rattle.std.proofs.Common.{◌≡◌, ℕ, zero, suc, ◌+◌, ◌<◌, ◌≤◌, Bool, true, false, cond, List, [], ◌∷◌, ◌++◌, length, slice_get, Option, Some, None, Result, Ok, Err, refl, sym, ap, subst, ◌∙◌, eqb, eqb-true, arith}
+use Rattle.std.proofs.Common.{◌≡◌, ℕ, zero, suc, ◌+◌, ◌≤◌, Bool, true, false, cond, List, [], ◌∷◌, ◌++◌, length, slice_get, Option, Some, None, Result, Ok, Err, sym, ap, subst, ◌∙◌, arith}
 use Rattle.std.specs.Prelude.{All, filter_map, option_map, unwrap_or}
-use Rattle.std.specs.List.{cons_option, enumerate_from}
+use Rattle.std.specs.List.{cons_option}
 use Rattle.std.specs.Result.{result_ok}
 use Rattle.std.proofs.lemmas.List.Elements.{All-nil, All-cons, All-append}
 use Rattle.plcr_base.proofs.Chained.{bind_ok}
-use Rattle.plcr_machine.proofs.Cases.{at_or_else, by_cases, eqb_same, not_both}
+use Rattle.plcr_machine.proofs.Cases.{at_or_else, eqb_same}
 use Rattle.plcr_script.specs.declared.modes.Mode.{Mode}
 use Rattle.plcr_script.specs.declared.statements.NumberedStatement.{NumberedStatement}
-use Rattle.plcr_script.specs.declared.statements.Statement.{Statement}
 use Rattle.plcr_script.specs.Scripts.{ScriptValue}
 use Rattle.plcr_script.specs.Splits.{lines}
 use Rattle.plcr_script.specs.Sayings.{Saying, Sizes, Number, Words, States, says_nothing, saying_in}
 use Rattle.plcr_script.specs.Refusals.{Refusal as Line}
-use Rattle.plcr_script.specs.Laws.{NumberedSaying, said_by, sayings_from, statement_by, IsSaidBy}
+use Rattle.plcr_script.specs.Laws.{NumberedSaying, sayings_from, statement_by}
 use Rattle.plcr_script.specs.Reading.{script_in, passes_of}
 use Rattle.plcr_script.proofs.SaidScripts.{script_said}
 use Rattle.plcr_command.specs.declared.jobs.Job.{Job}
 use Rattle.plcr_command.specs.declared.jobs.Modes.{Modes}
-use Rattle.plcr_command.specs.Jobs.{IsJob, RefusedScript, numbered, scripts_from, scripts_in}
+use Rattle.plcr_command.specs.Jobs.{IsJob, RefusedScript, numbered, scripts_from}
 use Rattle.plcr_workers.specs.Asking.{statement_on}
 use Rattle.plcr_workers.specs.inner.Own.{HaveOwnLines}
 

@@ -1,5 +1,5 @@
 -- A run on threads that begins after the files were taken, as seen from before that.
-use Rattle.std.proofs.Common.{inl, inr, ◌≡◌, ◌⊎◌, ℕ, List, [], Option, None, refl, sym, ap, subst, ◌∙◌, arith}
+use Rattle.std.proofs.Common.{inl, inr, ◌≡◌, ◌⊎◌, ℕ, List, [], Option, refl, sym, ap, subst, ◌∙◌, arith}
 use Rattle.plcr_base.specs.Causes.{Rose}
 use Rattle.plcr_base.specs.Told.{Gains}
 use Rattle.plcr_base.proofs.Appended.{append_nothing}
@@ -10,18 +10,17 @@ use Rattle.plcr_script.specs.Reading.{written_by}
 use Rattle.plcr_command.specs.declared.jobs.Job.{Job}
 use Rattle.plcr_command.specs.declared.endings.Ending.{Ending}
 use Rattle.plcr_command.specs.declared.endings.Ending.TheVariants.{Done, Stopped, Refused, Misused}
-use Rattle.plcr_command.specs.declared.refusals.Refusal.{Refusal}
 use Rattle.plcr_command.specs.declared.refusals.Refusal.TheVariants.{CannotRead, TooLong, CoreRefused, ScriptRefused, ReportRefused, OutOfMemory}
 use Rattle.plcr_command.specs.Seen.{Seen, seen}
 use Rattle.plcr_command.specs.Taking.{MadeNothing, TookSome}
 use Rattle.plcr_command.specs.Refusals.{IsRead}
 use Rattle.plcr_command.specs.Jobs.{IsJob, job_files}
-use Rattle.plcr_command.specs.Endings.{Ended, Goes, HasRead, status_of}
+use Rattle.plcr_command.specs.Endings.{HasRead, status_of}
 use Rattle.plcr_command.proofs.Kept.{kept_since, unprinted_since}
 use Rattle.plcr_command.proofs.Takings.{read_after, read_some, nothing_none}
 use Rattle.plcr_turns.specs.declared.lines.ChangeLine.{ChangeLine}
 use Rattle.plcr_workers.specs.declared.command.TheConstants.{SIDE_BY_SIDE}
-use Rattle.plcr_workers.specs.Command.{AllKept, NotAllKept, NotPrinted, RanTogether, StoppedBy, Threads, ThreadsDoes, ThreadsLeave, ThreadsTell}
+use Rattle.plcr_workers.specs.Command.{AllKept, NotAllKept, NotPrinted, RanTogether, StoppedBy, Threads, ThreadsLeave, ThreadsTell}
 use Rattle.plcr_workers.specs.inner.Stages.{RunEnds, LeavesBy, TellsBy}
 
 all_since : (job : Job) (old mid new : Told) (lines lines' : Option (List ℕ)) (faults faults' : ℕ) → MadeNothing old mid → AllKept job (seen mid lines faults) (seen new lines' faults') → AllKept job (seen old lines faults) (seen new lines' faults')

@@ -1,5 +1,5 @@
 -- Workers in the order of their scripts.
-use Rattle.std.proofs.Common.{◌≡◌, ℕ, zero, suc, ◌+◌, ◌-◌, ◌<◌, ◌≤◌, List, [], ◌∷◌, ◌++◌, length, map, reverse, get_or, slice_index_or, All, Option, Some, None, refl, sym, ap, ◌∙◌, subst, append_assoc, append-nil, length-append, arith}
+use Rattle.std.proofs.Common.{◌≡◌, ℕ, zero, suc, ◌+◌, ◌-◌, ◌<◌, List, [], ◌∷◌, ◌++◌, length, map, reverse, get_or, Some, refl, sym, ap, ◌∙◌, subst, append_assoc, append-nil, length-append, arith}
 use Rattle.std.specs.Prelude.{Vec}
 use Rattle.std.specs.declared.alloc.Global.{Global}
 use Rattle.std.proofs.lemmas.List.{get_or_append_left, get_or-reverse, length-reverse, reverse-append, reverse-reverse, map-append}
@@ -16,7 +16,7 @@ use Rattle.plcr_workers.specs.declared.drafts.Draft.{Draft}
 use Rattle.plcr_workers.specs.declared.lines.PassLine.{PassLine}
 use Rattle.plcr_workers.specs.declared.worker.Worker.{Worker}
 use Rattle.plcr_workers.specs.inner.Outputs.{in_order, outputs_of}
-use Rattle.plcr_workers.specs.inner.Hired.{IsNew, AreNew, AreNumbered, AreInOrder, AreFromTheLast, IsGone, views_of, lines_left, passes_left}
+use Rattle.plcr_workers.specs.inner.Hired.{AreNumbered, AreInOrder, AreFromTheLast, IsGone, views_of, lines_left, passes_left}
 
 -- the element behind a front
 pub at_end : {A : Type 0} (xs : List A) (x d : A) → get_or (xs ++ x ∷ []) (length xs) d ≡ x

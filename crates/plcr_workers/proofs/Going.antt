@@ -1,5 +1,5 @@
 -- How far a worker's script has come, as its statements are taken.
-use Rattle.std.proofs.Common.{◌≡◌, ℕ, zero, suc, ◌+◌, ◌<◌, ◌≤◌, List, [], ◌∷◌, ◌++◌, length, map, take, drop, get_or, slice_get, Option, Some, None, refl, sym, ap, ◌∙◌, subst, length-append, append-nil, arith}
+use Rattle.std.proofs.Common.{◌≡◌, ℕ, zero, suc, ◌+◌, ◌≤◌, List, [], ◌∷◌, ◌++◌, length, take, drop, slice_get, Option, Some, None, refl, sym, ap, ◌∙◌, subst, length-append, append-nil, arith}
 use Rattle.std.specs.Prelude.{filter_map, option_map, IfSome}
 use Rattle.std.proofs.lemmas.List.{take_more, length-map, take-append-drop}
 use Rattle.std.proofs.lemmas.List.Elements.{filter_map-append}

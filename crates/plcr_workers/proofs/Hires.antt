@@ -1,5 +1,5 @@
 -- A worker that was just hired has its whole script before it.
-use Rattle.std.proofs.Common.{◌≡◌, ℕ, zero, suc, List, [], ◌∷◌, length, map, slice_get, Option, Some, None, unwrap_or, refl, sym, ap, ◌∙◌, subst}
+use Rattle.std.proofs.Common.{◌≡◌, ℕ, zero, suc, List, [], ◌∷◌, length, map, slice_get, Option, Some, unwrap_or, sym, ap, ◌∙◌}
 use Rattle.atomic_table.specs.Seated.{TableId}
 use Rattle.plcr_script.specs.Scripts.{ScriptValue}
 use Rattle.plcr_turns.specs.declared.lines.ChangeLine.{ChangeLine}

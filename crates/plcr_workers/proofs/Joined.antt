@@ -1,8 +1,8 @@
 -- What all workers know, once they were taken in: of each script the first lines were applied, each once, and each line of
 -- the journal is known.
-use Rattle.std.proofs.Common.{◌≡◌, ℕ, zero, suc, ◌+◌, ◌-◌, ◌<◌, ◌≤◌, List, [], ◌∷◌, ◌++◌, length, map, take, drop, reverse, get_or, slice_get, All, Option, Some, None, unwrap_or, refl, sym, ap, ◌∙◌, subst, length-append, arith}
+use Rattle.std.proofs.Common.{◌≡◌, ℕ, zero, suc, ◌-◌, ◌<◌, List, [], ◌∷◌, ◌++◌, length, map, take, drop, reverse, get_or, slice_get, All, Option, Some, None, unwrap_or, refl, sym, ap, ◌∙◌, subst, arith}
 use Rattle.std.specs.Prelude.{option_and_then}
-use Rattle.std.proofs.lemmas.List.{get_or-reverse, length-reverse, length-map, take-append-drop}
+use Rattle.std.proofs.lemmas.List.{get_or-reverse, length-reverse, take-append-drop}
 use Rattle.std.proofs.lemmas.List.Elements.{All-tail, filter_map-append}
 use Rattle.std.proofs.lemmas.Option.{slice_get_within}
 use Rattle.atomic_table.specs.Seated.{TableId}
@@ -13,7 +13,6 @@ use Rattle.plcr_imagelist.specs.Holds.{WalkerState}
 use Rattle.plcr_script.specs.declared.statements.NumberedStatement.{NumberedStatement}
 use Rattle.plcr_script.specs.Scripts.{ScriptValue}
 use Rattle.plcr_script.specs.Meanings.{Meanings}
-use Rattle.plcr_turns.specs.declared.lines.Wanted.{Wanted}
 use Rattle.plcr_turns.specs.declared.lines.ChangeLine.{ChangeLine}
 use Rattle.plcr_turns.specs.declared.view.View.{View}
 use Rattle.plcr_turns.specs.Lines.{lines_of, wanted_by}
@@ -26,7 +25,7 @@ use Rattle.plcr_turns.proofs.Fronts.{all_front, take_front}
 use Rattle.plcr_workers.specs.declared.drafts.Draft.{Draft}
 use Rattle.plcr_workers.specs.declared.drafts.Progress.TheVariants.{Written}
 use Rattle.plcr_workers.specs.declared.worker.Worker.{Worker}
-use Rattle.plcr_workers.specs.Asking.{asked_in, change_lines, statement_on, statement_of}
+use Rattle.plcr_workers.specs.Asking.{change_lines, statement_on}
 use Rattle.plcr_workers.specs.Known.{IsKnownLine, AreKnown}
 use Rattle.plcr_workers.specs.inner.Hired.{AreNumbered, IsGone, IsWholeOf, views_of, passes_left}
 use Rattle.plcr_workers.specs.inner.Outputs.{outputs_of}

@@ -1,7 +1,7 @@
 -- Where each output was empty before its worker ran, it has a report that is lawful in what the writer has seen in the end.
-use Rattle.std.proofs.Common.{◌≡◌, ◌≢◌, ◌⊎◌, ⊎_elim, ℕ, zero, suc, ◌+◌, ◌<◌, ◌≤◌, List, [], ◌∷◌, ◌++◌, length, get_or, slice_index_or, All, Option, Some, None, refl, sym, ap, ◌∙◌, subst, arith}
+use Rattle.std.proofs.Common.{◌≡◌, ◌⊎◌, ⊎_elim, ℕ, zero, suc, ◌<◌, List, [], ◌∷◌, ◌++◌, length, get_or, All, Option, Some, None, refl, sym, ap, ◌∙◌, subst, arith}
 use Rattle.std.specs.Io.KnownBytes.{append_known}
-use Rattle.std.proofs.lemmas.List.Elements.{All-nil, All-append, All-head, All-tail}
+use Rattle.std.proofs.lemmas.List.Elements.{All-nil, All-append, All-tail}
 use Rattle.plcr_base.specs.Told.{IfTold}
 use Rattle.plcr_imagelist.specs.Holds.{WalkerState}
 use Rattle.plcr_imagelist.specs.States.{WriterState, IsAtRest}
@@ -12,8 +12,8 @@ use Rattle.plcr_workers.specs.declared.drafts.Progress.TheVariants.{Written}
 use Rattle.plcr_workers.specs.declared.worker.Worker.{Worker}
 use Rattle.plcr_workers.specs.Stopped.{IsLawfulReport}
 use Rattle.plcr_workers.specs.inner.Outputs.{AreFiles, name_at, outputs_of}
-use Rattle.plcr_workers.specs.inner.Drafts.{AreSamePlaces, HasTaken, HaveTaken}
-use Rattle.plcr_workers.specs.inner.Reports.{HasReport, HasReports, HaveReports, IsEmptyOutput, IsToldReport, IsSeenBy}
+use Rattle.plcr_workers.specs.inner.Drafts.{HaveTaken}
+use Rattle.plcr_workers.specs.inner.Reports.{HasReport, HaveReports, IsEmptyOutput, IsToldReport, IsSeenBy}
 use Rattle.plcr_workers.proofs.Reported.{report_lawful}
 
 told_bytes : (was now : Option (List ℕ)) (bytes : List ℕ) → IfTold was (λ b. b ≡ []) → now ≡ append_known was bytes → IfTold now (λ b. b ≡ bytes)

@@ -10,6 +10,14 @@ pub mod Passing
 pub mod Joined
 pub mod Reported
 pub mod Lawful
+pub mod Visited
+pub mod Moved
+pub mod Freshly
+pub mod Further
+pub mod Stayed
+pub mod Traced
+pub mod Running
+pub mod Tracing
 pub mod Settled
 pub mod Made
 pub mod Printing

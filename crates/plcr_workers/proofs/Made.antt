@@ -1,10 +1,10 @@
 -- Outputs that are made, script by script and report by report.
-use Rattle.std.proofs.Common.{⊎_elim, ◌≡◌, ◌≢◌, ℕ, zero, suc, ◌+◌, ◌<◌, ◌≤◌, List, [], ◌∷◌, ◌++◌, length, map, take, set, get_or, slice_get, Option, Some, None, Result, Ok, Err, refl, sym, ap, subst, ◌∙◌, append-nil, append_assoc, length-append, length-set, get_or-set_same, get_or-set_other, take_all, arith}
-use Rattle.std.specs.Prelude.{All, Vec, OnOk, OnErr, IfErr, flat_map, filter_map, option_map, option_and_then, unwrap_or, vec_len}
+use Rattle.std.proofs.Common.{⊎_elim, ◌≡◌, ℕ, zero, suc, ◌+◌, ◌<◌, ◌≤◌, List, [], ◌∷◌, ◌++◌, length, take, set, get_or, slice_get, Option, Some, None, Result, Ok, Err, refl, sym, ap, subst, ◌∙◌, append-nil, append_assoc, length-append, length-set, get_or-set_same, get_or-set_other, take_all, arith}
+use Rattle.std.specs.Prelude.{All, OnOk, OnErr, IfErr, filter_map, option_map, option_and_then, unwrap_or}
 use Rattle.std.proofs.lemmas.Bool.{cases_eq}
 use Rattle.std.proofs.lemmas.List.{map-append, length-map, take_more, get_or_default}
 use Rattle.std.proofs.lemmas.List.Concat.{flat_map-append}
-use Rattle.std.proofs.lemmas.List.Elements.{All-nil, All-cons, All-head, All-tail, All-append, All-weaker, All-get_or, filter_map-append}
+use Rattle.std.proofs.lemmas.List.Elements.{All-nil, All-cons, All-head, All-tail, All-append, All-weaker, filter_map-append}
 use Rattle.std.proofs.lemmas.Option.{slice_get_within, get_or_from_slice_get, slice_get-get_or}
 use Rattle.plcr_base.specs.Causes.{Rose}
 use Rattle.plcr_base.specs.Told.{Gains, add}
@@ -22,7 +22,7 @@ use Rattle.plcr_workers.specs.declared.drafts.Draft.{Draft}
 use Rattle.plcr_workers.specs.declared.worker.Worker.{Worker}
 use Rattle.plcr_workers.specs.Log.{file_of, file_in}
 use Rattle.plcr_workers.specs.inner.Hired.{AreNew, IsNew, writes_one}
-use Rattle.plcr_workers.specs.inner.Outputs.{HasOpenFor, IsDraftOf, name_at, draft_names, names_in, AreMade, HasMade, IsUnmade, IsSameWorker, AreSameWorkers, AllMade, NotAllMade, outputs_of, StandsAt}
+use Rattle.plcr_workers.specs.inner.Outputs.{HasOpenFor, IsDraftOf, name_at, draft_names, names_in, AreMade, HasMade, IsUnmade, IsSameWorker, AreSameWorkers, AllMade, NotAllMade, outputs_of}
 use Rattle.plcr_workers.proofs.Opened.{after_make, still_open}
 use Rattle.plcr_workers.proofs.Settled.{nothing_none, nothing_twice}
 

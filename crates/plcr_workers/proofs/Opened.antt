@@ -1,8 +1,7 @@
 -- Outputs are kept and given up only once they were made.
-use Rattle.std.proofs.Common.{◌≡◌, ℕ, ◌+◌, ◌<◌, ◌≤◌, List, [], ◌∷◌, ◌++◌, Option, Some, None, length, sym, subst, length-append, arith}
-use Rattle.std.specs.Prelude.{Result, Ok, Err}
+use Rattle.std.proofs.Common.{◌≡◌, ℕ, ◌+◌, ◌<◌, ◌≤◌, List, [], ◌∷◌, Option, Some, None, length, sym, subst, length-append, arith}
 use Rattle.plcr_base.specs.Told.{IfTold, add, add_told}
-use Rattle.plcr_io.specs.Desk.{Told, Balances, HasOpen, file}
+use Rattle.plcr_io.specs.Desk.{Told, Balances, HasOpen}
 use Rattle.plcr_workers.specs.inner.Outputs.{HasOpenFor}
 
 -- the same by its three lists

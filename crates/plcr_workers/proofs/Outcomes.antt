@@ -1,17 +1,14 @@
 -- The lines of a journal are the outcomes of a run.
-use Rattle.std.proofs.Common.{◌≡◌, ◌≢◌, ℕ, zero, suc, ◌+◌, ◌*◌, ◌<◌, ◌≤◌, Bool, true, false, List, [], ◌∷◌, ◌++◌, length, Option, Some, None, Result, Ok, Err, unwrap_or, refl, sym, ap, ◌∙◌, subst, append_assoc, append-nil, arith}
+use Rattle.std.proofs.Common.{◌≡◌, ℕ, zero, suc, ◌+◌, ◌*◌, ◌≤◌, Bool, true, false, List, [], ◌∷◌, ◌++◌, length, Option, Some, None, Ok, Err, unwrap_or, refl, sym, ap, ◌∙◌, subst, append_assoc, append-nil, arith}
 use Rattle.std.proofs.lemmas.List.{length-map}
-use Rattle.plcr_base.specs.declared.limits.TheConstants.{IMAGE_NAME_BYTES}
 use Rattle.plcr_machine.specs.declared.limits.TheConstants.{COUNT_UNIT, MOST_CHANGES}
 use Rattle.plcr_machine.specs.declared.entry.Entry.{Entry}
 use Rattle.plcr_machine.specs.declared.entry.Entry.TheVariants.{Announce, Enter, Leave, Retire, Load, Unload, Count, Look}
-use Rattle.plcr_machine.specs.declared.image.Image.{Image}
 use Rattle.plcr_machine.specs.declared.change.Named.{Named}
 use Rattle.plcr_machine.specs.declared.change.Change.{Change}
-use Rattle.plcr_machine.specs.Lists.{Grows, live, loads, unloads, changes, name_of}
+use Rattle.plcr_machine.specs.Lists.{Grows, live, unloads}
 use Rattle.plcr_machine.specs.Passes.{counts}
-use Rattle.plcr_machine.specs.Nodes.{waiting_count}
-use Rattle.plcr_machine.specs.Changes.{named, all_named, changes_of, list_of}
+use Rattle.plcr_machine.specs.Changes.{named, changes_of, list_of}
 use Rattle.plcr_machine.specs.Events.{events_of, changes_in}
 use Rattle.plcr_machine.proofs.Cases.{not_both}
 use Rattle.plcr_machine.proofs.Pace.{paced_rest}
@@ -23,30 +20,28 @@ use Rattle.plcr_nodes.proofs.Seeing.{grows_again}
 use Rattle.plcr_imagelist.specs.States.{WriterState, IsAtRest}
 use Rattle.plcr_imagelist.specs.Finding.{NoneFree}
 use Rattle.plcr_imagelist.specs.Changes.{Looks, IsLookedAt}
-use Rattle.plcr_imagelist.specs.Loading.{HasMade}
 use Rattle.plcr_imagelist.specs.Refusing.{IsFull}
 use Rattle.plcr_imagelist.specs.Listing.{AddsChanges}
 use Rattle.plcr_imagelist.specs.Opening.{opened_writer}
 use Rattle.plcr_imagelist.proofs.Changed.{has_lists}
 use Rattle.plcr_script.specs.declared.statements.Statement.{Statement}
 use Rattle.plcr_script.specs.declared.statements.Statement.TheVariants as statements
-use Rattle.plcr_script.specs.declared.outcomes.Outcome.{Outcome}
 use Rattle.plcr_script.specs.declared.outcomes.Outcome.TheVariants as outcomes
 use Rattle.plcr_script.specs.Scripts.{ScriptValue}
 use Rattle.plcr_script.specs.Meanings.{Meanings}
-use Rattle.plcr_script.specs.RunChanges.{Plan, planned_load, planned_unload}
+use Rattle.plcr_script.specs.RunChanges.{planned_load, planned_unload}
 use Rattle.plcr_run.proofs.Planned.{planned_worn, planned_long, planned_fine, plan_of, unplanned_worn, unplanned_none, unplanned_one}
 use Rattle.plcr_turns.specs.declared.lines.Asked.{Asked}
 use Rattle.plcr_turns.specs.declared.lines.Asked.TheVariants as asked
 use Rattle.plcr_turns.specs.declared.lines.Said.{Said}
 use Rattle.plcr_turns.specs.declared.lines.Said.TheVariants.{NotImage, Worn, Long, Full, NotLoaded, Loaded, Unloaded}
 use Rattle.plcr_turns.specs.declared.lines.ChangeLine.{ChangeLine}
-use Rattle.plcr_turns.specs.Turns.{TurnState, LoadSays, UnloadSays, Says, changes_by, Did, SeesOthers, Applied, IsTurn, NameSaid}
+use Rattle.plcr_turns.specs.Turns.{TurnState, LoadSays, UnloadSays, Says, changes_by, Applied, IsTurn, NameSaid}
 use Rattle.plcr_turns.specs.Journals.{change_made, changes_made}
 use Rattle.plcr_turns.proofs.Turned.{went_again, SameSizes, same_again, same_sizes}
 use Rattle.plcr_turns.proofs.Journaled.{grows_through, sizes_through, change_then, change_by_names, made_later, journal_is}
 use Rattle.plcr_workers.specs.Asking.{asked_in, statement_of, name_in, change_of, accepted_changes}
-use Rattle.plcr_workers.specs.Outcomes.{outcome_of, whole_outcome, unloads_in, Looked, IsFullAfter, LoadComesTo, ComesTo, IsRunLine, JournalRuns}
+use Rattle.plcr_workers.specs.Outcomes.{outcome_of, whole_outcome, unloads_in, Looked, IsFullAfter, LoadComesTo, ComesTo, JournalRuns}
 use Rattle.plcr_workers.specs.Known.{FaultTold, StatementFault, IsKnownLine, AreKnown, HasEnded}
 
 -- ---- a list that is full

@@ -1,6 +1,6 @@
 -- How many outputs of a script were taken, as its statements are.
-use Rattle.std.proofs.Common.{◌≡◌, ◌≢◌, ◌⊎◌, inl, inr, ℕ, zero, suc, ◌+◌, ◌-◌, ◌^◌, ◌<◌, ◌≤◌, List, [], ◌∷◌, ◌++◌, length, map, take, drop, get_or, slice_get, slice_set, slice_index_or, All, Option, Some, None, unwrap_or, eqb, true, false, Bool, refl, sym, ap, ◌∙◌, subst, length-append, append-nil, arith}
-use Rattle.std.specs.Prelude.{filter_map, option_map, is_some, IfSome}
+use Rattle.std.proofs.Common.{◌≡◌, ◌≢◌, inl, inr, ℕ, zero, suc, ◌+◌, ◌<◌, ◌≤◌, List, [], ◌∷◌, ◌++◌, length, take, drop, get_or, slice_get, slice_set, slice_index_or, All, Option, Some, None, unwrap_or, eqb, true, false, refl, sym, ap, ◌∙◌, subst, length-append, append-nil, arith}
+use Rattle.std.specs.Prelude.{filter_map, is_some, IfSome}
 use Rattle.std.proofs.lemmas.List.{take_more, get_or-set_same, get_or-set_other, length-set, take-append-drop}
 use Rattle.std.proofs.lemmas.List.Elements.{filter_map-append}
 use Rattle.std.proofs.lemmas.Option.{slice_get_within, get_or_from_slice_get}
@@ -13,10 +13,9 @@ use Rattle.plcr_turns.specs.declared.lines.Asked.{Asked}
 use Rattle.plcr_script.specs.Reading.{file_of, files_of}
 use Rattle.plcr_workers.specs.declared.acting.Took.{Took}
 use Rattle.plcr_workers.specs.declared.acting.Took.TheVariants.{Silent, Said, Unwritten}
-use Rattle.plcr_workers.specs.declared.lines.PassSaid.{PassSaid}
 use Rattle.plcr_workers.specs.declared.lines.PassSaid.TheVariants.{Entered, Walked, Left, Reported}
 use Rattle.plcr_workers.specs.declared.drafts.Draft.{Draft}
-use Rattle.plcr_workers.specs.declared.drafts.Progress.TheVariants.{Waiting, Written, Failed}
+use Rattle.plcr_workers.specs.declared.drafts.Progress.TheVariants.{Written, Failed}
 use Rattle.plcr_workers.specs.Asking.{asked_in}
 use Rattle.plcr_workers.specs.inner.Outputs.{AreDone}
 use Rattle.plcr_workers.specs.inner.Drafts.{IsOutput, WritesNext, TakesOutputs, AreUpTo, AreSamePlaces, IsNoReport, next_after}

@@ -1,5 +1,5 @@
 -- What a worker knows of the lines of its script, as the journal grows.
-use Rattle.std.proofs.Common.{◌≡◌, ℕ, zero, suc, ◌+◌, ◌<◌, ◌≤◌, List, [], ◌∷◌, ◌++◌, Option, Some, None, length, slice_get, refl, sym, ap, ◌∙◌, subst, append-nil, length-append, arith}
+use Rattle.std.proofs.Common.{◌≡◌, ℕ, List, [], ◌∷◌, ◌++◌, Option, Some, None, length, slice_get, refl, sym, ap, ◌∙◌, subst, append-nil, length-append, arith}
 use Rattle.plcr_machine.specs.declared.entry.Entry.{Entry}
 use Rattle.plcr_machine.specs.Lists.{name_of}
 use Rattle.plcr_nodes.specs.Entries.{WentOn}
@@ -10,20 +10,19 @@ use Rattle.plcr_script.specs.declared.statements.NumberedStatement.{NumberedStat
 use Rattle.plcr_script.specs.Meanings.{Meanings}
 use Rattle.plcr_turns.specs.declared.lines.Asked.{Asked}
 use Rattle.plcr_turns.specs.declared.lines.Said.{Said}
-use Rattle.plcr_turns.specs.declared.lines.Said.TheVariants.{NotImage, Loaded}
+use Rattle.plcr_turns.specs.declared.lines.Said.TheVariants.{NotImage}
 use Rattle.plcr_turns.specs.declared.lines.ChangeLine.{ChangeLine}
 use Rattle.plcr_turns.specs.declared.lines.Request.{Request}
 use Rattle.plcr_turns.specs.declared.lines.Request.TheVariants as requests
 use Rattle.plcr_turns.specs.declared.view.View.{View}
 use Rattle.plcr_turns.specs.Lines.{asked_by, lines_of, wanted_by}
 use Rattle.plcr_turns.specs.Turns.{FaultSaid, NameSaid, line_of}
-use Rattle.plcr_turns.specs.Turns.{name_in as name_of_request}
 use Rattle.plcr_turns.specs.Working.{AppliesLine}
 use Rattle.plcr_turns.proofs.Turned.{lines_more, line_here}
-use Rattle.plcr_workers.specs.Asking.{asked_in, statement_on, name_in}
+use Rattle.plcr_workers.specs.Asking.{asked_in}
 use Rattle.plcr_workers.specs.Known.{FaultTold, StatementFault}
-use Rattle.plcr_workers.specs.inner.Places.{Asks, fault_in, fault_of}
-use Rattle.plcr_workers.specs.inner.Own.{HaveOwnLines, CameTo, IsOwnLine, AreOwn, AddsLine, AddsOwn}
+use Rattle.plcr_workers.specs.inner.Places.{Asks, fault_in}
+use Rattle.plcr_workers.specs.inner.Own.{HaveOwnLines, CameTo, IsOwnLine, AreOwn, AddsOwn}
 
 -- the fault that a request has is what its line says
 fault_told : (fault : Option ℕ) (header : ℕ) (request : Request) (said : Said) → fault_in request ≡ fault → FaultSaid request said → asked_by request ≡ asked_by request → ((kind : ℕ) → fault ≡ Some kind → said ≡ NotImage kind)

@@ -1,8 +1,5 @@
 -- The pass of a worker goes on.
-use Rattle.std.proofs.Common.{◌≡◌, ℕ, List, [], ◌∷◌, ◌++◌, true, false, refl, sym, ap, ◌∙◌, subst}
-use Rattle.plcr_machine.specs.declared.entry.Entry.{Entry}
-use Rattle.plcr_machine.specs.Lists.{Grows}
-use Rattle.plcr_nodes.specs.Entries.{WentOn}
+use Rattle.std.proofs.Common.{ℕ, [], refl, ap, ◌∙◌}
 use Rattle.plcr_nodes.proofs.Seeing.{grows_again}
 use Rattle.plcr_imagelist.specs.Holds.{WalkerState, HoldState, IsHeld, IsReleased}
 use Rattle.plcr_imagelist.specs.Carrying.{OnlySees}

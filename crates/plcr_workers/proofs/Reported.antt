@@ -1,20 +1,18 @@
 -- Reports stay what they are as the pass of a worker sees more, and are lawful in what the writer has seen.
-use Rattle.std.proofs.Common.{◌≡◌, ◌≢◌, ◌⊎◌, inl, inr, ⊎_elim, ℕ, zero, suc, ◌+◌, ◌<◌, ◌≤◌, List, [], ◌∷◌, ◌++◌, length, map, slice_index_or, Contains, Option, Some, None, IfSome, true, false, leb, leb-true, leb-false, refl, sym, ap, ◌∙◌, subst, length-append, arith}
+use Rattle.std.proofs.Common.{◌≡◌, ◌≢◌, ◌⊎◌, inl, inr, ⊎_elim, ℕ, zero, suc, ◌+◌, ◌<◌, ◌≤◌, List, [], ◌∷◌, length, slice_index_or, Contains, Option, Some, None, IfSome, true, leb, leb-true, leb-false, refl, sym, ap, ◌∙◌, subst, length-append, arith}
 use Rattle.plcr_machine.proofs.Cases.{by_cases, at_or_else}
 use Rattle.plcr_machine.proofs.Rising.{contains_here, contains_later, contains_cases, contains_none}
 use Rattle.plcr_machine.proofs.Growing.{changes-grows}
 use Rattle.plcr_machine.proofs.Staying.{whole_stays}
 use Rattle.plcr_machine.proofs.Renaming.{whole_named}
-use Rattle.plcr_machine.specs.declared.entry.Entry.{Entry}
 use Rattle.plcr_machine.specs.declared.image.Image.{Image}
-use Rattle.plcr_machine.specs.declared.change.Named.{Named}
-use Rattle.plcr_machine.specs.Lists.{Grows, load_number, changes, list_after, name_of}
-use Rattle.plcr_machine.specs.Walks.{IsLawfulWalk, IsWholeWalk}
-use Rattle.plcr_machine.specs.Changes.{load_of, all_named}
+use Rattle.plcr_machine.specs.Lists.{Grows, load_number, list_after, name_of}
+use Rattle.plcr_machine.specs.Walks.{IsLawfulWalk}
+use Rattle.plcr_machine.specs.Changes.{all_named}
 use Rattle.plcr_macho.specs.Images.{Listed}
 use Rattle.plcr_nodes.specs.Entries.{WentOn}
 use Rattle.plcr_nodes.proofs.NamesKept.{name-older}
-use Rattle.plcr_imagelist.specs.Holds.{WalkerState, HoldState, IsWalking, HasEnded, start_of}
+use Rattle.plcr_imagelist.specs.Holds.{WalkerState, HoldState, IsWalking, start_of}
 use Rattle.plcr_imagelist.specs.States.{WriterState, IsAtRest}
 use Rattle.plcr_imagelist.specs.Walk.{with_name, images_of}
 use Rattle.plcr_imagelist.specs.Walk.{all_named as all_listed}
@@ -32,7 +30,7 @@ use Rattle.plcr_workers.specs.Stays.{lists}
 use Rattle.plcr_workers.specs.Stopped.{IsLawfulReport}
 
 -- what was met has its names as more come
-named_on : (names more : List (List ℕ)) (met : List Image) → WentOn names more → ((x : Image) → Contains met x → x.load ≤ length names) → all_listed more met ≡ all_listed names met
+pub named_on : (names more : List (List ℕ)) (met : List Image) → WentOn names more → ((x : Image) → Contains met x → x.load ≤ length names) → all_listed more met ≡ all_listed names met
 named_on names more [] went short = refl
 named_on names more (x ∷ met) went short =
     let here : name_of x.load more ≡ name_of x.load names = ap (name_of x.load) went.1 ∙ name-older x.load went.0 names (short x (contains_here x met)) in
@@ -67,7 +65,7 @@ load_most (y ∷ met) x c =
     (λ (d : Contains met x). let later = load_most met x d in omega (arith, later))
     (contains_cases y x met c)
 
-lawful_rises : (lists : ℕ → List Image) (a b : ℕ) (met : List Image) → IsLawfulWalk load_number lists a b met → a ≤ b
+pub lawful_rises : (lists : ℕ → List Image) (a b : ℕ) (met : List Image) → IsLawfulWalk load_number lists a b met → a ≤ b
 lawful_rises lists a b met l =
     by_cases (leb a b) (leb-true a b)
     (λ f. let less = leb-false a b f in
@@ -91,7 +89,7 @@ held_now report hold w ended =
     }
 
 -- the same images, by both words for a name
-same_listed : (names : List (List ℕ)) (met : List Image) → all_listed names met ≡ listed (all_named names met)
+pub same_listed : (names : List (List ℕ)) (met : List Image) → all_listed names met ≡ listed (all_named names met)
 same_listed names [] = refl
 same_listed names (x ∷ met) = ap (λ (l : List Listed). with_name names x ∷ l) (same_listed names met)
 

@@ -1,5 +1,5 @@
 -- What a run on threads comes to, once its outputs are kept and its lines are printed.
-use Rattle.std.proofs.Common.{inl, inr, ◌≡◌, ℕ, List, [], ◌∷◌, ◌++◌, ◌+◌, ◌≤◌, length, take, drop, Option, Some, None, Result, Ok, Err, map, refl, sym, ap, subst, ◌∙◌, append-nil, take_all, arith}
+use Rattle.std.proofs.Common.{inl, inr, ◌≡◌, ℕ, List, [], ◌∷◌, ◌++◌, length, take, drop, Option, Some, None, Result, Ok, Err, refl, sym, ap, subst, ◌∙◌, append-nil, take_all, arith}
 use Rattle.std.specs.Prelude.{All, OnOk, IfErr, unwrap_or}
 use Rattle.std.specs.Io.KnownBytes.{append_known}
 use Rattle.std.proofs.lemmas.List.{drop_all, map-append, length-map}
@@ -18,7 +18,7 @@ use Rattle.plcr_command.specs.declared.jobs.Job.{Job}
 use Rattle.plcr_command.specs.declared.endings.Ending.{Ending}
 use Rattle.plcr_command.specs.declared.endings.Ending.TheVariants.{Done, Stopped, Refused, Misused}
 use Rattle.plcr_command.specs.Saving.{TookNothing}
-use Rattle.plcr_command.specs.Seen.{Seen, seen}
+use Rattle.plcr_command.specs.Seen.{seen}
 use Rattle.plcr_command.specs.Lines.{cannot_write}
 use Rattle.plcr_command.specs.Endings.{kept_names}
 use Rattle.plcr_turns.specs.declared.lines.ChangeLine.{ChangeLine}

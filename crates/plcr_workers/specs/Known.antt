@@ -1,5 +1,5 @@
 -- What is known of the lines of a journal by the workers that applied them, and that the journal then runs.
-use Rattle.std.specs.Prelude.{◌≡◌, ℕ, ◌≤◌, List, [], ◌∷◌, Option, Some, None}
+use Rattle.std.specs.Prelude.{◌≡◌, ℕ, List, [], ◌∷◌, Option, Some, None}
 use Rattle.plcr_machine.specs.Lists.{Grows, name_of}
 use Rattle.plcr_machine.specs.Changes.{changes_of}
 use Rattle.plcr_nodes.specs.Entries.{WentOn}

@@ -11,10 +11,9 @@ use Rattle.plcr_script.specs.Scripts.{ScriptValue}
 use Rattle.plcr_script.specs.Meanings.{Meanings}
 use Rattle.plcr_script.specs.RunTurns.{listed}
 use Rattle.plcr_turns.specs.declared.lines.ChangeLine.{ChangeLine}
-use Rattle.plcr_workers.specs.declared.lines.PassSaid.{PassSaid}
 use Rattle.plcr_workers.specs.declared.lines.PassSaid.TheVariants.{Entered, Walked, Left, Reported}
 use Rattle.plcr_workers.specs.declared.lines.PassLine.{PassLine}
-use Rattle.plcr_workers.specs.Stays.{Stay, IsStay, entries_of, IsFresh}
+use Rattle.plcr_workers.specs.Stays.{Stay, IsStay, FollowOn, IsFresh}
 
 -- where a script's pass is: out; or in, in a stay of which the lines so far said that it met so many images, and whether its walk has ended
 pub data Spot : Type 0 where
@@ -110,7 +109,7 @@ pub record IsScriptRun (process : Meanings) (w : WriterState) (journal : List Ch
   pub stays : List Stay
   pub tells : Tells process 0 value.statements Out lines stays files
   pub are : All (IsStay w script) stays
-  -- the pass made the entries of these stays, in order, and no others
-  pub own : own_entries script w.history ≡ entries_of script stays
+  -- the pass made the entries of these stays, one stay after the other, and no others
+  pub own : FollowOn script [] stays (own_entries script w.history)
   -- and each of them is fresh
   pub fresh : (before : List ChangeLine) (line : ChangeLine) (after : List ChangeLine) → journal ≡ before ++ line ∷ after → All (λ (stay : Stay). IsFresh script stay before line) stays

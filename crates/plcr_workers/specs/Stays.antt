@@ -4,6 +4,7 @@ use Rattle.plcr_machine.specs.declared.entry.Entry.{Entry}
 use Rattle.plcr_machine.specs.declared.entry.Entry.TheVariants.{Announce, Enter, Leave, Retire}
 use Rattle.plcr_machine.specs.declared.change.Named.{Named}
 use Rattle.plcr_machine.specs.Lists.{Grows, changes}
+use Rattle.plcr_machine.specs.Parts.{own_entries}
 use Rattle.plcr_machine.specs.Passes.{counts}
 use Rattle.plcr_machine.specs.Walks.{RisesAbove, IsLawfulWalk}
 use Rattle.plcr_machine.specs.Changes.{load_of, changes_of, list_after_changes}
@@ -38,10 +39,13 @@ pub record IsStay (w : WriterState) (pass : ℕ) (stay : Stay) : Type 0 where
   pub listed : (image : Named) → Contains stay.met image → (j : ℕ) × (changes stay.before ≤ j) × (j ≤ changes stay.inside) × Contains (lists w j) image
   pub lawful : stay.ended ≡ true → IsLawfulWalk load_of (lists w) (changes stay.before) (changes stay.inside) stay.met
 
--- the entries that a pass makes in its stays, the last first
-abbrev pub entries_of : ℕ → List Stay → List Entry
-entries_of pass [] = []
-entries_of pass (stay ∷ stays) = entries_of pass stays ++ Retire pass ∷ Leave pass ∷ Enter pass ∷ Announce pass stay.announced ∷ []
+-- Stays of a pass that come one after the other, behind these entries of it. Each begins where the one before it ended: of the pass's own entries, those before it went in are the ones behind and an announcement, and those before it came out are the same and the entering. At last these are all
+abbrev pub FollowOn : ℕ → List Entry → List Stay → List Entry → Type 0
+FollowOn pass past [] all = all ≡ past
+FollowOn pass past (stay ∷ stays) all =
+    (own_entries pass stay.before ≡ Announce pass stay.announced ∷ past)
+    × (own_entries pass stay.inside ≡ Enter pass ∷ Announce pass stay.announced ∷ past)
+    × FollowOn pass (Retire pass ∷ Leave pass ∷ Enter pass ∷ Announce pass stay.announced ∷ past) stays all
 
 -- a line stands behind a stay that ended at a line
 abbrev pub IsBehind : Option ℕ → ℕ → Type 0

@@ -1,5 +1,5 @@
 -- What stands where a run on threads stops: an output or a file failed, or a line of the log.
-use Rattle.std.specs.Prelude.{◌≡◌, ℕ, ◌<◌, ◌≤◌, List, [], ◌∷◌, ◌++◌, length, Some, slice_get, All, map, take}
+use Rattle.std.specs.Prelude.{◌≡◌, ℕ, ◌<◌, ◌≤◌, List, ◌++◌, length, Some, slice_get, All, map, take}
 use Rattle.plcr_machine.specs.declared.change.Named.{Named}
 use Rattle.plcr_machine.specs.Walks.{IsLawfulWalk}
 use Rattle.plcr_machine.specs.Lists.{changes}

@@ -5,4 +5,7 @@ pub mod Outputs
 pub mod Drafts
 pub mod Own
 pub mod Reports
+pub mod Visits
+pub mod Moves
+pub mod Traces
 pub mod Stages

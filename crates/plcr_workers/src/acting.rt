@@ -9,9 +9,11 @@ ghost use Rattle.plcr_script.specs.Reading.{file_of};
 ghost use Rattle.plcr_turns.specs.Working.{IsWorking, HasNext, AppliesLine};
 ghost use Rattle.plcr_workers.specs.Asking.{asked_in};
 ghost use Rattle.plcr_workers.specs.inner.Drafts.{IsNoReport, IsOutput, TakesOutputs, WritesNext};
+ghost use Rattle.plcr_workers.specs.inner.Moves.{Acts, Moves, OnlyHears, ReportsNext, ReportsTo};
 ghost use Rattle.plcr_workers.specs.inner.Own.{AddsOwn};
 ghost use Rattle.plcr_workers.specs.inner.Places.{IsAt, PassGoes, walker_of, Asks, Advances};
 ghost use Rattle.plcr_workers.specs.inner.Reports.{HasReport};
+ghost use Rattle.plcr_workers.specs.inner.Traces.{Applies};
 
 use crate::drafts::{Draft, Progress};
 use crate::gate::Gate;
@@ -71,6 +73,7 @@ pub(crate) fn apply<R: Wait>(
     requires left { HasNext (view turns.old) }
     ensures queue { IsSamePass turns.old turns.new }
     ensures list { IsAt list.now result }
+    ensures hears { OnlyHears place result }
     ensures goes { PassGoes (walker_of place) (walker_of result) }
     ensures applies { AppliesLine line.now (view turns.old) (walker_of place).history (view turns.new) (walker_of result).history (walker_of result).names }
     ensures working { IsWorking line.now.script list.now (view turns.new) }
@@ -105,6 +108,7 @@ pub(crate) fn report<P: Process, G: Gate, K: Sink>(
     requires list { IsAt list.now place }
     requires few { script < MOST_SCRIPTS }
     ensures list { result.0.table ≡ list.now }
+    ensures reports { ReportsTo K.written (P.report process.now context.now) place result.0 result.1 draft.old draft.new }
     ensures goes { PassGoes (walker_of place) result.0 }
     ensures output { IsOutput K.faults (HasReport K.written (P.report process.now context.now) result.0) result.1 draft.old draft.new }
 {
@@ -174,6 +178,7 @@ fn write_next<P: Process, G: Gate, K: Sink>(
     requires few { script < MOST_SCRIPTS }
     requires next { next < length drafts.old.items }
     ensures list { IsAt list.now result.0 }
+    ensures reports { ReportsNext K.written (P.report process.now context.now) place result.0 result.1 next drafts.old.items drafts.new.items }
     ensures goes { PassGoes (walker_of place) (walker_of result.0) }
     ensures outputs { WritesNext K.faults (HasReport K.written (P.report process.now context.now) (walker_of result.0)) next result.1 drafts.old.items drafts.new.items }
 {
@@ -196,6 +201,7 @@ fn move_on<G: Gate>(
     ensures list { IsAt list.now result.0 }
     ensures goes { PassGoes (walker_of place) (walker_of result.0) }
     ensures said { IsNoReport result.1 }
+    ensures moves { asked_in statement.now ≡ None → file_of statement.now ≡ None → Moves statement.now place result.0 result.1 }
 {
     let (place, said) = move_pass(list, gate, script, line, statement, place);
     match said {
@@ -230,6 +236,8 @@ pub(crate) fn take_statement<R: Wait, P: Process, G: Gate, K: Sink>(
     ensures queue { IsSamePass turns.old turns.new }
     ensures list { IsAt list.now result.0 }
     ensures goes { PassGoes (walker_of place) (walker_of result.0) }
+    ensures acts { Acts K.written (P.report process.now context.now) statement.now place result.0 result.1 next drafts.old.items drafts.new.items }
+    ensures applies { Applies script line (asked_in statement.now) (walker_of place).history (view turns.old) (walker_of result.0).history (view turns.new) }
     ensures working { IsWorking script list.now (view turns.new) }
     ensures advances { Advances script line (asked_in statement.now) (view turns.old) (view turns.new) }
     ensures outputs { TakesOutputs K.faults (HasReport K.written (P.report process.now context.now) (walker_of result.0)) next (file_of statement.now) result.1 drafts.old.items drafts.new.items }

@@ -12,6 +12,7 @@ ghost use Rattle.plcr_workers.specs.inner.Hired.{IsHired, IsReadyToRun, IsGone, 
 ghost use Rattle.plcr_workers.specs.inner.Own.{KnowsOwnOf};
 ghost use Rattle.plcr_workers.specs.inner.Outputs.{in_order, outputs_of};
 ghost use Rattle.plcr_workers.specs.inner.Reports.{HasReports, HaveReports};
+ghost use Rattle.plcr_workers.specs.inner.Traces.{ActsWholeOf, HaveActed};
 
 use crate::drafts::Draft;
 use crate::gate::Gate;
@@ -169,6 +170,7 @@ pub(crate) fn run_all<R: Threads + Wait + Sync, P: Process + Sync, G: Gate, K: S
     requires ready { All (λ w. IsReadyToRun K.faults queue.now.table.shared.table_id list.now scripts.now w) workers.old }
     ensures taken { HaveTaken K.faults workers.old workers.new }
     ensures reports { HaveReports K.written (P.report process.now context.now) workers.old workers.new }
+    ensures acted { HaveActed K.written (P.report process.now context.now) scripts.now workers.old workers.new }
     ensures own { All (λ w. KnowsOwnOf (meanings (P.image_fault process.now) (P.report process.now context.now)) scripts.now w) workers.new }
     ensures gone { All (λ w. IsGone queue.now.table.shared.table_id list.now scripts.now w) workers.new }
     ensures whole { All (λ w. IsWholeOf scripts.now w) workers.new }
@@ -179,7 +181,7 @@ pub(crate) fn run_all<R: Threads + Wait + Sync, P: Process + Sync, G: Gate, K: S
         MOST_SCRIPTS,
         &|_, worker: &mut Worker<K>|
             requires { P.accepts process.now context.now × (ruled_capacity queue.now ≡ 1) × IsReadyToRun K.faults queue.now.table.shared.table_id list.now scripts.now worker.old }
-            ensures { IsGone queue.entry.now.table.shared.table_id list.entry.now scripts.entry.now worker.new × HasTaken K.faults worker.old worker.new × HasReports K.written (P.report process.entry.now context.entry.now) worker.old worker.new × KnowsOwnOf (meanings (P.image_fault process.entry.now) (P.report process.entry.now context.entry.now)) scripts.entry.now worker.new × IsWholeOf scripts.entry.now worker.new }
+            ensures { IsGone queue.entry.now.table.shared.table_id list.entry.now scripts.entry.now worker.new × HasTaken K.faults worker.old worker.new × HasReports K.written (P.report process.entry.now context.entry.now) worker.old worker.new × KnowsOwnOf (meanings (P.image_fault process.entry.now) (P.report process.entry.now context.entry.now)) scripts.entry.now worker.new × IsWholeOf scripts.entry.now worker.new × ActsWholeOf K.written (P.report process.entry.now context.entry.now) scripts.entry.now worker.old worker.new }
         {
             let script = &scripts[worker.script as usize];
             worker.run(rt, queue, list, script, process, context, gate)

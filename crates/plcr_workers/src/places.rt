@@ -1,7 +1,12 @@
 //! Where a worker's pass of the list is, and the statements that move it.
-ghost use Rattle.std.specs.Prelude.{◌≡◌, ◌<◌, IfSome};
-ghost use Rattle.plcr_imagelist.specs.Holds.{IsWalking};
+ghost use Rattle.std.specs.Prelude.{◌≡◌, ◌<◌, ℕ, IfSome, None, length};
+ghost use Rattle.plcr_imagelist.specs.Carrying.{OnlySees};
+ghost use Rattle.plcr_imagelist.specs.Holds.{IsHeld, IsReleased, IsWalking};
+ghost use Rattle.plcr_run.specs.Walks.{IsFurther};
+ghost use Rattle.plcr_script.specs.Reading.{file_of};
+ghost use Rattle.plcr_workers.specs.Asking.{asked_in};
 ghost use Rattle.plcr_workers.specs.inner.Drafts.{IsNoReportSaid};
+ghost use Rattle.plcr_workers.specs.inner.Moves.{ComesIn, ComesOut, Moves, took_of};
 ghost use Rattle.plcr_workers.specs.inner.Places.{IsAt, PassGoes, walker_of};
 
 use crate::gate::Gate;
@@ -25,6 +30,7 @@ pub(crate) fn enter<G: Gate>(list: &ImageList, gate: &G, script: u32, line: u32,
     requires few { script < MOST_SCRIPTS }
     ensures list { result.walker.table ≡ list.now }
     ensures walking { IsWalking result }
+    ensures held { IsHeld pass result }
     ensures goes { PassGoes pass result.walker }
 {
     let hold = pass.enter(list);
@@ -44,6 +50,7 @@ pub(crate) fn come_in<G: Gate>(
     requires few { script < MOST_SCRIPTS }
     ensures list { result.walker.table ≡ list.now }
     ensures walking { IsWalking result }
+    ensures comes { ComesIn place result }
     ensures goes { PassGoes (walker_of place) result.walker }
 {
     match place {
@@ -56,6 +63,7 @@ pub(crate) fn come_in<G: Gate>(
 pub(crate) fn come_out(list: &ImageList, place: Place) -> Pass
     requires list { IsAt list.now place }
     ensures list { result.table ≡ list.now }
+    ensures comes { ComesOut place result }
     ensures goes { PassGoes (walker_of place) result }
 {
     match place {
@@ -78,6 +86,7 @@ pub(crate) fn move_pass<G: Gate>(
     requires few { script < MOST_SCRIPTS }
     ensures list { IsAt list.now result.0 }
     ensures said { IfSome result.1 IsNoReportSaid }
+    ensures moves { asked_in statement.now ≡ None → file_of statement.now ≡ None → Moves statement.now place result.0 (took_of result.1) }
     ensures goes { PassGoes (walker_of place) (walker_of result.0) }
 {
     match place {
@@ -108,7 +117,9 @@ fn walk_on(list: &ImageList, hold: Hold, most: u32) -> (Hold, PassSaid)
     requires walking { IsWalking hold }
     ensures list { result.0.walker.table ≡ list.now }
     ensures walking { IsWalking result.0 }
-    ensures said { IsNoReportSaid result.1 }
+    ensures said { result.1 ≡ PassSaid.Walked (length result.0.met) result.0.ended }
+    ensures further { IsFurther hold most result.0 }
+    ensures sees { OnlySees hold.walker result.0.walker }
     ensures goes { PassGoes hold.walker result.0.walker }
 {
     let mut hold = hold;
@@ -122,7 +133,7 @@ fn walk_on(list: &ImageList, hold: Hold, most: u32) -> (Hold, PassSaid)
 fn leave(list: &ImageList, hold: Hold) -> (Pass, PassSaid)
     requires list { hold.walker.table ≡ list.now }
     ensures list { result.0.table ≡ list.now }
-    ensures said { IsNoReportSaid result.1 }
+    ensures said { (low : ℕ) × (high : ℕ) × IsReleased hold result.0 low high × (result.1 ≡ PassSaid.Left (length hold.met) low high) }
     ensures goes { PassGoes hold.walker result.0 }
 {
     let met = hold.met();

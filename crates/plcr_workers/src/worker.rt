@@ -1,5 +1,5 @@
 //! A worker, which runs one script.
-ghost use Rattle.std.specs.Prelude.{◌≡◌, ◌+◌, ◌^◌, ◌<◌, ◌≤◌, ℕ, All, vec_len, vec_capacity};
+ghost use Rattle.std.specs.Prelude.{◌≡◌, ◌+◌, ◌^◌, ◌<◌, ◌≤◌, ◌++◌, ℕ, All, vec_len, vec_capacity};
 ghost use Rattle.plcr_workers.specs.declared.lines.PassLine.{PassLine as Line};
 ghost use Rattle.crossbeam_queue.specs.Passes.{ruled_capacity, view};
 ghost use Rattle.plcr_script.specs.Meanings.{meanings};
@@ -8,6 +8,7 @@ ghost use Rattle.plcr_workers.specs.inner.Own.{AreOwn, HaveOwnLines, KnowsOwn};
 ghost use Rattle.plcr_workers.specs.inner.Places.{IsAt, PassGoes, walker_of};
 ghost use Rattle.plcr_workers.specs.inner.Reports.{AreReports, HasReports};
 ghost use Rattle.plcr_workers.specs.inner.Drafts.{HasOutputs, HasTaken, next_after};
+ghost use Rattle.plcr_workers.specs.inner.Traces.{ActsWhole, TracesWhole, lines_said};
 ghost use Rattle.plcr_workers.specs.inner.Hired.{IsReady, IsWhole, HasRun, Begins, Goes};
 
 use crate::acting::{Took, take_statement};
@@ -54,6 +55,7 @@ impl<K: Sink> Worker<K> {
         ensures taken { HasTaken K.faults self.old self.new }
         ensures whole { IsWhole script.entry.now self.new }
         ensures reports { HasReports K.written (P.report process.entry.now context.entry.now) self.old self.new }
+        ensures acted { ActsWhole K.written (P.report process.entry.now context.entry.now) script.entry.now.statements self.old self.new }
         ensures own { KnowsOwn (meanings (P.image_fault process.entry.now) (P.report process.entry.now context.entry.now)) script.entry.now.statements self.new }
     {
         let Some(pass) = self.image.take() else {
@@ -88,6 +90,7 @@ impl<K: Sink> Worker<K> {
         ensures taken { HasTaken K.faults self.old self.new }
         ensures whole { IsWhole script.entry.now self.new }
         ensures reports { AreReports K.written (P.report process.entry.now context.entry.now) (walker_of result) self.old.drafts.items self.new.drafts.items }
+        ensures traced { TracesWhole K.written (P.report process.entry.now context.entry.now) script.entry.now.statements place result self.old self.new }
         ensures own { AreOwn (meanings (P.image_fault process.entry.now) (P.report process.entry.now context.entry.now)) script.entry.now.statements (walker_of result).names (lines_of self.new.script (view self.new.turns).journal) }
     {
         let mut place = place;
@@ -124,6 +127,7 @@ fn add_line(lines: &mut Vec<PassLine>, at: usize, took: Took, next: usize) -> Op
     requires room { vec_len lines.old < vec_capacity lines.old }
     requires small { next + 1 < 2 ^ 64 }
     ensures lines { (n : ℕ) → at < n → All (λ (l : Line). l.at < n) lines.old.items → All (λ (l : Line). l.at < n) lines.new.items }
+    ensures said { lines.new.items ≡ lines.old.items ++ lines_said at took }
     ensures len { vec_len lines.new ≤ vec_len lines.old + 1 }
     ensures capacity { vec_capacity lines.new ≡ vec_capacity lines.old }
     ensures next { result ≡ next_after took next }

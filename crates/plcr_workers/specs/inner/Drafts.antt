@@ -1,17 +1,16 @@
 -- What the statements of a script do to the outputs of its reports.
-use Rattle.std.specs.Prelude.{◌≡◌, ℕ, ◌+◌, ◌<◌, ◌≤◌, List, [], ◌∷◌, Option, Some, None, length, slice_set, slice_index_or, IfSome, All, Vec, vec_len}
+use Rattle.std.specs.Prelude.{◌≡◌, ℕ, ◌+◌, ◌<◌, ◌≤◌, List, Option, Some, None, length, slice_set, slice_index_or, All}
 use Rattle.plcr_base.specs.Causes.{Rose}
-use Rattle.plcr_script.specs.declared.statements.NumberedStatement.{NumberedStatement}
 use Rattle.plcr_script.specs.Scripts.{ScriptValue}
-use Rattle.plcr_script.specs.Reading.{file_of, files_of}
+use Rattle.plcr_script.specs.Reading.{files_of}
 use Rattle.plcr_workers.specs.declared.acting.Took.{Took}
 use Rattle.plcr_workers.specs.declared.acting.Took.TheVariants.{Silent, Said, Unwritten}
 use Rattle.plcr_workers.specs.declared.lines.PassSaid.{PassSaid}
 use Rattle.plcr_workers.specs.declared.lines.PassSaid.TheVariants.{Entered, Walked, Left, Reported}
 use Rattle.plcr_workers.specs.declared.drafts.Draft.{Draft}
-use Rattle.plcr_workers.specs.declared.drafts.Progress.TheVariants.{Waiting, Written, Failed}
+use Rattle.plcr_workers.specs.declared.drafts.Progress.TheVariants.{Written, Failed}
 use Rattle.plcr_workers.specs.declared.worker.Worker.{Worker}
-use Rattle.plcr_workers.specs.inner.Outputs.{IsWaiting, AreDone}
+use Rattle.plcr_workers.specs.inner.Outputs.{AreDone}
 
 -- the output of a report was written whole, or a put failed, for which the count of its faults rose
 abbrev pub IsWrittenAs : {K : Type 0} → (K → ℕ) → (Draft K → Draft K → Type 0) → Took → Draft K → Draft K → Type 0

@@ -2,7 +2,7 @@
 use Rattle.std.specs.Prelude.{◌≡◌, ℕ, ◌+◌, ◌<◌, ◌≤◌, List, [], ◌∷◌, length, map, take, Option, Some, None, Vec, vec_len, vec_capacity, slice_get, slice_index_or, All}
 use Rattle.std.specs.declared.alloc.Global.{Global}
 use Rattle.atomic_table.specs.Seated.{TableId}
-use Rattle.crossbeam_queue.specs.Passes.{view, IsSamePass, IsPassOf}
+use Rattle.crossbeam_queue.specs.Passes.{view}
 use Rattle.plcr_imagelist.specs.Holds.{WalkerState}
 use Rattle.plcr_command.specs.declared.limits.TheConstants.{MOST_SCRIPTS}
 use Rattle.plcr_script.specs.declared.statements.NumberedStatement.{NumberedStatement}

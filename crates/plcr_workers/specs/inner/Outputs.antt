@@ -1,16 +1,15 @@
 -- Outputs that were made, and are neither kept nor given up yet.
-use Rattle.std.specs.Prelude.{◌≡◌, ◌≢◌, ◌⊎◌, ℕ, ◌+◌, ◌<◌, ◌≤◌, List, [], ◌∷◌, ◌++◌, Option, Some, length, map, reverse, take, slice_get, slice_index_or, option_and_then, Vec, vec_len, vec_capacity, All, IsTrue}
+use Rattle.std.specs.Prelude.{◌≡◌, ◌≢◌, ◌⊎◌, ℕ, ◌+◌, ◌<◌, ◌≤◌, List, [], ◌∷◌, ◌++◌, Option, Some, length, map, reverse, take, slice_get, slice_index_or, option_and_then, Vec, All}
 use Rattle.std.specs.declared.alloc.Global.{Global}
 use Rattle.plcr_base.specs.Causes.{Rose}
 use Rattle.plcr_base.specs.Told.{IfTold, Gains}
 use Rattle.plcr_io.specs.Desk.{Told}
-use Rattle.plcr_script.specs.declared.statements.Statement.TheVariants.{Report}
 use Rattle.plcr_script.specs.declared.statements.NumberedStatement.{NumberedStatement}
 use Rattle.plcr_script.specs.Scripts.{ScriptValue}
 use Rattle.plcr_script.specs.Reading.{files_of, written_by}
 use Rattle.plcr_command.specs.Saving.{TookNothing}
 use Rattle.plcr_workers.specs.declared.drafts.Draft.{Draft}
-use Rattle.plcr_workers.specs.declared.drafts.Progress.TheVariants.{Waiting, Written, Failed}
+use Rattle.plcr_workers.specs.declared.drafts.Progress.TheVariants.{Waiting, Written}
 use Rattle.plcr_workers.specs.declared.worker.Worker.{Worker}
 use Rattle.plcr_workers.specs.Log.{file_of}
 

@@ -1,7 +1,12 @@
+use Rattle.std.proofs.Common.{[], ◌∷◌, length, refl, sym, ap, ◌∙◌}
+use Rattle.std.specs.Io.KnownBytes.{append_known}
+use Rattle.plcr_workers.specs.declared.acting.Took.TheVariants.{Said, Unwritten}
+use Rattle.plcr_workers.specs.declared.lines.PassSaid.TheVariants.{Reported}
 use Rattle.plcr_imagelist.specs.Walk.{images_of}
 use Rattle.plcr_workers.specs.inner.Places.{walker_of}
 use Rattle.plcr_workers.proofs.Passing.{again, sees, same_walk, released}
 use Rattle.plcr_workers.proofs.Reported.{held_now, held_later}
+use Rattle.plcr_workers.proofs.Moved.{reports_moved}
 use Rattle.plcr_workers.proofs.acting.report.Goals as goal
 
 pub returns-in-Ok-clause-goes : goal.returns-in-Ok-clause-goes
@@ -42,4 +47,26 @@ returns-in-Ok-clause-output g c =
           gains = c.in-Ok.ensures.written;
         },
       );
+    }
+
+pub returns-in-Ok-clause-reports : goal.returns-in-Ok-clause-reports
+returns-in-Ok-clause-reports g c =
+    let report = g.P.Process.report c.args.process.now c.args.context.now in
+    let same = c.write_walk-captured.ensures.same in
+    record {
+      wrote = report (images_of c.write_walk-captured.new.hold) ∷ [];
+      reports = reports_moved report c.args.place c.come_in-hold.result c.walk_to_end.new.hold c.write_walk-captured.new.hold c.leave-pass.result.0 (Said (Reported c.in-Ok.bytes c.met-images.result c.leave-pass.result.1.low c.leave-pass.result.1.high)) (report (images_of c.write_walk-captured.new.hold) ∷ [])
+          c.leave-pass.result.1.low c.leave-pass.result.1.high c.come_in-hold.ensures.comes c.come_in-hold.ensures.walking c.walk_to_end.ensures.to_end c.walk_to_end.ensures.ended c.walk_to_end.ensures.sees c.walk_to_end.ensures.walking same c.leave-pass.ensures.released
+          (c.met-images.ensures, refl, refl, c.in-Ok.ensures.length ∙ ap (λ l. length (report l)) (sym same.named), refl);
+      gains = c.in-Ok.ensures.written ∙ ap (λ l. append_known (g.K.Sink.written c.args.draft.now.out) (report l)) (sym same.named);
+    }
+
+pub returns-in-Err-clause-reports : goal.returns-in-Err-clause-reports
+returns-in-Err-clause-reports g c =
+    let report = g.P.Process.report c.args.process.now c.args.context.now in
+    record {
+      wrote = [];
+      reports = reports_moved report c.args.place c.come_in-hold.result c.walk_to_end.new.hold c.write_walk-captured.new.hold c.leave-pass.result.0 Unwritten [] c.leave-pass.result.1.low c.leave-pass.result.1.high
+          c.come_in-hold.ensures.comes c.come_in-hold.ensures.walking c.walk_to_end.ensures.to_end c.walk_to_end.ensures.ended c.walk_to_end.ensures.sees c.walk_to_end.ensures.walking c.write_walk-captured.ensures.same c.leave-pass.ensures.released refl;
+      gains = tt;
     }

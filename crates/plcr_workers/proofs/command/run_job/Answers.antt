@@ -1,4 +1,4 @@
-use Rattle.std.proofs.Common.{◌≡◌, ◌≤◌, List, All, length, sym, ap, subst, arith}
+use Rattle.std.proofs.Common.{List, All, length, sym, ap, subst, arith}
 use Rattle.plcr_script.specs.Lawful.{IsLawful}
 use Rattle.plcr_script.specs.Scripts.{ScriptValue}
 use Rattle.plcr_command.specs.Seen.{seen}

@@ -1,6 +1,4 @@
-use Rattle.std.proofs.Common.{◌≡◌, ◌+◌, length, take, arith}
-use Rattle.plcr_workers.specs.Asking.{asked_in, change_lines}
-use Rattle.plcr_workers.specs.inner.Hired.{asks_one}
+use Rattle.std.proofs.Common.{arith}
 use Rattle.plcr_workers.proofs.Going.{counted_next}
 use Rattle.plcr_workers.proofs.crew.changes_of.Goals as goal
 

@@ -1,15 +1,14 @@
-use Rattle.std.proofs.Common.{◌≡◌, ◌≤◌, ◌+◌, ◌++◌, ◌∷◌, [], All, List, Some, None, Option, length, reverse, ◌∙◌, ap, sym, subst, refl, arith}
+use Rattle.std.proofs.Common.{◌≡◌, ◌++◌, ◌∷◌, [], All, List, Option, length, reverse, ◌∙◌, ap, sym, subst, refl, arith}
 use Rattle.std.specs.Prelude.{IfSome}
 use Rattle.std.proofs.lemmas.List.{reverse-reverse}
 use Rattle.crossbeam_queue.specs.Passes.{view}
 use Rattle.plcr_imagelist.specs.Holds.{WalkerState}
-use Rattle.plcr_turns.specs.declared.view.View.{View}
 use Rattle.plcr_turns.specs.Gathering.{HasGathered}
 use Rattle.plcr_turns.proofs.Fronts.{all_front, all_last}
 use Rattle.plcr_turns.proofs.Gathered.{gathers_next}
 use Rattle.plcr_workers.specs.declared.worker.Worker.{Worker}
 use Rattle.plcr_workers.specs.inner.Hired.{IsGone, lines_left, views_of}
-use Rattle.plcr_workers.proofs.Crews.{AreIn, AreSome, nobody_in, one_in, last_in, none_left, again}
+use Rattle.plcr_workers.proofs.Crews.{AreIn, nobody_in, one_in, last_in, none_left, again}
 use Rattle.plcr_workers.proofs.crew.gather.Goals as goal
 
 pub take_in-requires-clause-queue : goal.take_in-requires-clause-queue

@@ -1,4 +1,4 @@
-use Rattle.std.proofs.Common.{◌≡◌, ◌≤◌, ◌+◌, All, length, vec_len, vec_capacity}
+use Rattle.std.proofs.Common.{◌≤◌, ◌+◌, All, length, vec_len, vec_capacity}
 use Rattle.crossbeam_queue.specs.Passes.{view, IsSamePass}
 use Rattle.plcr_workers.specs.inner.Hired.{IsGone}
 use Rattle.plcr_workers.proofs.Crews.{AreSome}

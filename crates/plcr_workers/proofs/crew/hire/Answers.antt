@@ -1,15 +1,14 @@
-use Rattle.std.proofs.Common.{◌≡◌, ℕ, ◌+◌, ◌<◌, ◌≤◌, ◌∙◌, ◌++◌, List, ◌∷◌, [], length, map, All, Some, None, slice_get, slice_index_or, sym, ap, subst, add-one, refl, arith}
+use Rattle.std.proofs.Common.{◌≡◌, ℕ, ◌+◌, ◌<◌, ◌∙◌, List, ◌∷◌, [], length, All, slice_get, slice_index_or, sym, ap, subst, add-one, refl, arith}
 use Rattle.std.proofs.lemmas.List.{length-map, length-append}
 use Rattle.crossbeam_queue.specs.Passes.{view}
 use Rattle.plcr_imagelist.specs.Holds.{WalkerState}
 use Rattle.plcr_script.specs.Scripts.{ScriptValue}
 use Rattle.plcr_script.specs.Reading.{files_of}
 use Rattle.plcr_turns.specs.declared.view.View.{View}
-use Rattle.plcr_turns.specs.Gathering.{HasHanded, HasGathered}
+use Rattle.plcr_turns.specs.Gathering.{HasHanded}
 use Rattle.plcr_turns.specs.Views.{left_view}
 use Rattle.plcr_turns.proofs.Fronts.{all_more, all_none}
-use Rattle.plcr_turns.proofs.Gathered.{hands_next, nobody_gathered}
-use Rattle.plcr_workers.specs.declared.worker.Worker.{Worker}
+use Rattle.plcr_turns.proofs.Gathered.{hands_next}
 use Rattle.plcr_workers.specs.Asking.{change_lines}
 use Rattle.plcr_workers.specs.inner.Hired.{SoFar, IsHired, AreNew, IsNew, AreFromTheLast, totals_in}
 use Rattle.plcr_workers.proofs.Hires.{fresh_so_far, some_value}

@@ -1,4 +1,4 @@
-use Rattle.std.proofs.Common.{◌≡◌, ◌+◌, ◌≤◌, length, take, arith}
+use Rattle.std.proofs.Common.{arith}
 use Rattle.plcr_workers.proofs.Made.{files_count}
 use Rattle.plcr_workers.proofs.crew.reports_of.Goals as goal
 

@@ -1,4 +1,4 @@
-use Rattle.std.proofs.Common.{◌≡◌, ℕ, ◌+◌, length, refl, subst, arith}
+use Rattle.std.proofs.Common.{ℕ, length, refl, subst, arith}
 use Rattle.plcr_workers.specs.inner.Outputs.{HasOpenFor, in_order}
 use Rattle.plcr_workers.proofs.Opened.{still_open}
 use Rattle.plcr_workers.proofs.Settled.{dropped_none, dropped_twice, order_long}

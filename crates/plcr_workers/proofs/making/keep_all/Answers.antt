@@ -1,4 +1,4 @@
-use Rattle.std.proofs.Common.{◌≡◌, ◌+◌, [], Result, length, rules, subst}
+use Rattle.std.proofs.Common.{◌≡◌, [], Result, length, rules, subst}
 use Rattle.std.specs.Prelude.{OnOk, IfErr, reverse}
 use Rattle.plcr_workers.specs.declared.making.Unwritten.{Unwritten}
 use Rattle.plcr_workers.specs.inner.Outputs.{HasKeptAll, HasKeptUpTo, in_order}

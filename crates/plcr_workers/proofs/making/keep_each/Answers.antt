@@ -1,8 +1,8 @@
-use Rattle.std.proofs.Common.{◌≡◌, ◌∷◌, [], ◌++◌, ◌+◌, Result, ℕ, length, rules, subst, arith}
-use Rattle.std.specs.Prelude.{OnOk, IfErr, reverse}
+use Rattle.std.proofs.Common.{◌≡◌, ◌∷◌, [], ◌+◌, Result, length, rules, subst, arith}
+use Rattle.std.specs.Prelude.{OnOk, IfErr}
 use Rattle.plcr_workers.specs.declared.making.Unwritten.{Unwritten}
-use Rattle.plcr_workers.specs.inner.Outputs.{HasKeptAll, HasKeptUpTo, HasOpenFor}
-use Rattle.plcr_workers.proofs.Opened.{has_open, still_open}
+use Rattle.plcr_workers.specs.inner.Outputs.{HasKeptAll, HasKeptUpTo}
+use Rattle.plcr_workers.proofs.Opened.{has_open}
 use Rattle.plcr_workers.proofs.Settled.{from_none, to_none, each_none, last_left, each_one, each_cut, each_all, each_open}
 use Rattle.plcr_workers.proofs.making.keep_each.Goals as goal
 

@@ -1,7 +1,4 @@
-use Rattle.std.proofs.Common.{◌≡◌, ◌+◌, ◌++◌, ℕ, List, All, length, vec_len}
-use Rattle.std.specs.Prelude.{reverse}
-use Rattle.plcr_workers.specs.declared.drafts.Draft.{Draft}
-use Rattle.plcr_workers.specs.inner.Outputs.{IsDraftOf, AreDone, HasKeptAll, HasOpenFor}
+use Rattle.std.proofs.Common.{vec_len}
 use Rattle.plcr_workers.proofs.Settled.{KeepingEach}
 use Rattle.plcr_workers.proofs.making.keep_each.Given as goal
 

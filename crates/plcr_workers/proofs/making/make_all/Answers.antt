@@ -1,4 +1,4 @@
-use Rattle.std.proofs.Common.{◌<◌, ◌≤◌, length, slice_index_or, arith}
+use Rattle.std.proofs.Common.{arith}
 use Rattle.plcr_workers.proofs.Made.{makes_none, makes_one, makes_cut, makes_same, makes_all, new_empty, still_new, ok_of, err_of, stands_in}
 use Rattle.plcr_workers.proofs.making.make_all.Goals as goal
 

@@ -1,4 +1,4 @@
-use Rattle.std.proofs.Common.{◌≡◌, ◌++◌, List, All, vec_len}
+use Rattle.std.proofs.Common.{◌≡◌, ◌++◌, List, vec_len}
 use Rattle.plcr_imagelist.specs.States.{IsAtRest}
 use Rattle.plcr_imagelist.specs.Holds.{WalkerState}
 use Rattle.plcr_workers.specs.inner.Stages.{HasMetThese}

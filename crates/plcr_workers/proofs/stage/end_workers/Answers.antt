@@ -1,10 +1,8 @@
-use Rattle.std.proofs.Common.{◌≡◌, ◌<◌, All, List, Some, length, map, reverse, ap, sym, ◌∙◌, subst}
+use Rattle.std.proofs.Common.{◌<◌, All, List, length, ap, sym, ◌∙◌, subst}
 use Rattle.crossbeam_queue.specs.Passes.{view}
-use Rattle.plcr_imagelist.specs.Holds.{WalkerState}
 use Rattle.plcr_imagelist.specs.States.{WriterState, IsAtRest}
 use Rattle.plcr_turns.specs.declared.lines.ChangeLine.{ChangeLine}
 use Rattle.plcr_workers.specs.Command.{IsJournalOf}
-use Rattle.plcr_workers.specs.declared.lines.PassLine.{PassLine}
 use Rattle.plcr_workers.specs.inner.Hired.{views_of}
 use Rattle.plcr_workers.specs.inner.Stages.{AppliesAll, AreLinesOf, HasMetThese}
 use Rattle.plcr_workers.proofs.Worked.{few_lines, journal_applies, journal_is, lines_are, same_table, writer_is}

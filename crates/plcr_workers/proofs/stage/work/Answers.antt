@@ -1,7 +1,7 @@
-use Rattle.std.proofs.Common.{◌≡◌, All, subst, sym, ◌∙◌}
+use Rattle.std.proofs.Common.{All, subst, ◌∙◌}
 use Rattle.plcr_script.specs.Meanings.{Meanings}
 use Rattle.plcr_workers.specs.inner.Own.{KnowsOwnOf}
-use Rattle.plcr_workers.proofs.Made.{ok_of, err_of}
+use Rattle.plcr_workers.proofs.Made.{ok_of}
 use Rattle.plcr_workers.proofs.Worked.{hired_same, gone_all, know_all, numbered_same, numbered_taken, ready_all, has_worked, meanings_are, context_fits}
 use Rattle.plcr_workers.specs.Command.{meanings_in}
 use Rattle.plcr_workers.proofs.stage.work.Goals as goal

@@ -1,4 +1,4 @@
-use Rattle.std.proofs.Common.{refl, subst}
+use Rattle.std.proofs.Common.{◌∙◌, refl, subst, sym}
 use Rattle.crossbeam_queue.specs.Passes.{view}
 use Rattle.plcr_script.specs.Meanings.{meanings}
 use Rattle.plcr_turns.specs.Lines.{lines_of}
@@ -21,4 +21,19 @@ returns-clause-own g c =
       held = refl;
       own = own_later (meanings (g.P.Process.image_fault c.args.process.now) (g.P.Process.report c.args.process.now c.args.context.now)) c.args.script.now.statements (walker_of c.take_statements-place.result).names c.come_out.result.names
           (lines_of worker.script (view worker.turns).journal) c.come_out.ensures.goes.went c.take_statements-place.ensures.own;
+    }
+
+pub returns-clause-acted : goal.returns-clause-acted
+returns-clause-acted g c = λ all.
+    let t = c.take_statements-place.ensures.traced all in
+    record {
+      first = c.in-Some.pass;
+      was = sym c.take.ensures.value ∙ c.in-Some.is;
+      last = c.come_out.result;
+      is = refl;
+      place = c.take_statements-place.result;
+      out = c.come_out.ensures.comes;
+      wrote = t.1.wrote;
+      ran = t.1.ran;
+      gained = t.1.gained;
     }

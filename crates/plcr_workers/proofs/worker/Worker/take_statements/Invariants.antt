@@ -1,4 +1,4 @@
-use Rattle.std.proofs.Common.{◌≡◌, ◌≤◌, ◌<◌, [], All, length, vec_len, vec_capacity}
+use Rattle.std.proofs.Common.{◌≡◌, ◌≤◌, ◌<◌, [], All, length, take, vec_len, vec_capacity}
 use Rattle.crossbeam_queue.specs.Passes.{view}
 use Rattle.plcr_script.specs.Meanings.{meanings}
 use Rattle.plcr_script.specs.Reading.{files_of}
@@ -7,6 +7,7 @@ use Rattle.plcr_workers.specs.declared.lines.PassLine.{PassLine}
 use Rattle.plcr_workers.specs.inner.Own.{AreOwn}
 use Rattle.plcr_workers.specs.inner.Places.{IsAt, PassGoes, walker_of}
 use Rattle.plcr_workers.specs.inner.Hired.{SoFar}
+use Rattle.plcr_workers.specs.inner.Traces.{HasTraced}
 use Rattle.plcr_workers.proofs.Outputs.{AreNext}
 use Rattle.plcr_workers.proofs.Reported.{AreReported}
 use Rattle.plcr_workers.proofs.worker.Worker.take_statements.Given as goal
@@ -24,5 +25,6 @@ invariant-loop-at g l = record {
   room : length l.script.statements ≤ vec_capacity l.self.lines;
   all : length l.self.drafts.items ≡ length (files_of l.script.statements);
   reported : AreReported g.K.Sink.written (g.P.Process.report l.process l.context) (walker_of l.place) l.next l.fn.self.drafts.items l.self.drafts.items;
+  traced : HasTraced g.K.Sink.written (g.P.Process.report l.process l.context) l.self.script (take l.at l.script.statements) l.fn.place (view l.fn.self.turns) l.place (view l.self.turns) l.self.lines.items l.next l.fn.self.drafts.items l.self.drafts.items;
   outputs : AreNext g.K.Sink.faults l.script.statements l.at l.next l.fn.self.drafts.items l.self.drafts.items;
 }

@@ -25,4 +25,5 @@ returns g c =
       c.run.ensures.reports,
       record { script = script; stands = stands; knows = c.run.ensures.own },
       record { script = script; stands = stands; whole = c.run.ensures.whole },
+      record { script = script; stands = ready.stands ∙ ap Some same; acts = c.run.ensures.acted },
     )
