@@ -113,7 +113,15 @@ fn files_before_the_first_that_is_not_kept_stay(rt: HostRuntime) -> Result<(), F
 #[test]
 fn a_log_that_is_cut_leaves_the_files(rt: HostRuntime) -> Result<(), Fail> {
     for (put, front) in [(1, ""), (2, "1:1 load 1\n")] {
-        let came = run(&rt, rt.alloc(), &[LOAD_A, REPORT], &NoGate, &[], &[], &[put])?;
+        let came = run(
+            &rt,
+            rt.alloc(),
+            &[LOAD_A, REPORT],
+            &NoGate,
+            &[],
+            &[],
+            &[put],
+        )?;
         assert_eq!(rt; came.status, 5);
         assert_eq!(rt; came.lines.bytes(), front.as_bytes());
         assert!(rt; came.desk.file("t").is_some());
@@ -125,9 +133,21 @@ fn a_log_that_is_cut_leaves_the_files(rt: HostRuntime) -> Result<(), Fail> {
 #[test]
 fn files_that_cannot_be_read_are_named(rt: HostRuntime) -> Result<(), Fail> {
     // The takes are the calls 1 to 3.
-    let cases = [(1, "cannot read q\n"), (2, "cannot read s\n"), (3, "cannot read ss\n")];
+    let cases = [
+        (1, "cannot read q\n"),
+        (2, "cannot read s\n"),
+        (3, "cannot read ss\n"),
+    ];
     for (call, line) in cases {
-        let came = run(&rt, rt.alloc(), &[LOAD_A, REPORT], &NoGate, &[call], &[], &[])?;
+        let came = run(
+            &rt,
+            rt.alloc(),
+            &[LOAD_A, REPORT],
+            &NoGate,
+            &[call],
+            &[],
+            &[],
+        )?;
         assert_eq!(rt; came.status, 2);
         assert_eq!(rt; came.lines.bytes(), line.as_bytes());
         assert!(rt; came.past.is_none());

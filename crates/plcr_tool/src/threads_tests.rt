@@ -205,7 +205,11 @@ fn a_change_waits_for_a_hold(rt: HostRuntime) -> Result<(), Fail> {
         assert!(rt; !gate.asked.was_missed());
         // Where the change waits it isn't made before the hold.
         let said = came.lines.bytes();
-        let lawful = if change_waits { &BESIDE[..4] } else { BESIDE.as_slice() };
+        let lawful = if change_waits {
+            &BESIDE[..4]
+        } else {
+            BESIDE.as_slice()
+        };
         assert!(rt; lawful.iter().any(|log| log.as_bytes() == said));
     }
     Ok(())
@@ -253,7 +257,15 @@ fn a_list_of_two_nodes_is_full(rt: HostRuntime) -> Result<(), Fail> {
     let log = "1:2 load 1\n1:4 unload 1\n1:5 load 2\n1:6 full 1 1 12884901889\n1:7 unload 2\n\
         1:8 full 0 2 17179869185\n1:3 enter 0\n";
     assert_eq!(rt; came.lines.bytes(), log.as_bytes());
-    let came = run(&rt, rt.alloc(), &["load 0x5000 x\n"], &NoGate, &[], &[], &[])?;
+    let came = run(
+        &rt,
+        rt.alloc(),
+        &["load 0x5000 x\n"],
+        &NoGate,
+        &[],
+        &[],
+        &[],
+    )?;
     assert_eq!(rt; came.status, 0);
     assert_eq!(rt; came.lines.bytes(), b"1:1 notimage 1\n".as_slice());
     Ok(())
@@ -277,7 +289,10 @@ fn a_report_sees_the_loads_before_it(rt: HostRuntime) -> Result<(), Fail> {
     let script = "report 0 t\nload 0x100000000 A\n";
     let came = run(&rt, rt.alloc(), &[script], &NoGate, &[], &[], &[])?;
     assert_eq!(rt; came.status, 0);
-    assert_eq!(rt; came.lines.bytes(), b"1:2 load 1\n1:1 report t 271 0 0 0\n".as_slice());
+    assert_eq!(rt;
+        came.lines.bytes(),
+        b"1:2 load 1\n1:1 report t 271 0 0 0\n".as_slice()
+    );
     Ok(())
 }
 
@@ -298,7 +313,10 @@ fn counts_its_scripts(rt: HostRuntime) -> Result<(), Fail> {
     assert_eq!(rt; came.status, 0);
     let mut log = Vec::from_slice(rt.alloc(), b"\n")?;
     log.extend_from_slice(came.lines.bytes())?;
-    assert_eq!(rt; log.as_slice().iter().filter(|byte| **byte == b'\n').count(), 65);
+    assert_eq!(rt;
+        log.as_slice().iter().filter(|byte| **byte == b'\n').count(),
+        65
+    );
     for number in 1..65u32 {
         let load = format!(in rt.alloc(); ":1 load {number}\n")?;
         assert!(rt; has(log.as_slice(), load.as_bytes()));
