@@ -15,7 +15,7 @@ use Rattle.plcr_imagelist.specs.Tellings.{IsMet}
 use Rattle.plcr_imagelist.proofs.Changed.{met_adds, adds_more}
 use Rattle.plcr_imagelist.proofs.Looking.{went_again}
 use Rattle.plcr_imagelist.proofs.Opened.{walkers_numbered}
-use Rattle.plcr_workers.specs.inner.Hired.{AreInOrder}
+use Rattle.plcr_workers.specs.inner.Hired.{AreInOrder, AreUntouched}
 use Rattle.plcr_workers.specs.inner.Stages.{HasMetThese}
 
 pub met_none : (writer : WriterState) → HasMetThese [] writer writer
@@ -60,3 +60,9 @@ opened_in_order table nodes passes writer images o place other less =
     let count = opened_count table nodes passes writer images o in
     let is = ap (λ (l : List WalkerState). get_or l place other) o.numbered ∙ (walkers_numbered table nodes passes passes).1 place other (omega (arith, less, count)) in
     (ap (λ (w : WalkerState). w.table) is, ap (λ (w : WalkerState). w.number) is)
+
+pub opened_untouched : (table : TableId) (nodes passes : ℕ) (writer : WriterState) (images : List WalkerState) → IsOpenedList nodes passes table writer images → AreUntouched images
+opened_untouched table nodes passes writer images o place other less =
+    let count = opened_count table nodes passes writer images o in
+    let is = ap (λ (l : List WalkerState). get_or l place other) o.numbered ∙ (walkers_numbered table nodes passes passes).1 place other (omega (arith, less, count)) in
+    ap (λ (w : WalkerState). w.history) is
