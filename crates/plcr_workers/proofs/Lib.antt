@@ -18,6 +18,7 @@ pub mod Stayed
 pub mod Traced
 pub mod Running
 pub mod Tracing
+pub mod Whole
 pub mod Settled
 pub mod Made
 pub mod Printing

@@ -6,6 +6,7 @@ use Rattle.plcr_base.specs.Causes.{Rose}
 use Rattle.plcr_base.specs.Told.{AppendsProperFront}
 use Rattle.crossbeam_queue.specs.Passes.{view, IsPassOf, ruled_capacity}
 use Rattle.plcr_machine.specs.Lists.{Grows}
+use Rattle.plcr_machine.specs.Parts.{own_entries}
 use Rattle.plcr_nodes.specs.Entries.{WentOn, among}
 use Rattle.plcr_imagelist.specs.States.{WriterState}
 use Rattle.plcr_imagelist.specs.Holds.{WalkerState}
@@ -43,6 +44,8 @@ pub record HasMetThese (passes : List WalkerState) (old new : WriterState) : Typ
   pub changes : AddsChanges old [] new
   pub joined : All (λ (i : WalkerState). among i.number new.joined ≡ true) passes
   pub known : All (λ (i : WalkerState). WentOn i.names new.names) passes
+  pub seen : All (λ (i : WalkerState). Grows i.history new.history) passes
+  pub own : All (λ (i : WalkerState). own_entries i.number new.history ≡ own_entries i.number i.history) passes
 
 -- the list, the queue and the workers are ready, with all room for what the workers leave
 pub record IsStage {K : Type 0} (scripts : List ScriptValue) (stage : Stage K) : Type 0 where
