@@ -19,6 +19,8 @@ pub mod Traced
 pub mod Running
 pub mod Tracing
 pub mod Whole
+pub mod Gone
+pub mod Wholly
 pub mod Settled
 pub mod Made
 pub mod Printing

@@ -17,6 +17,7 @@ use Rattle.plcr_script.specs.declared.statements.NumberedStatement.{NumberedStat
 use Rattle.plcr_script.specs.Meanings.{Meanings}
 use Rattle.plcr_script.specs.Reading.{file_of, files_of, written_by}
 use Rattle.plcr_script.specs.Scripts.{ScriptValue}
+use Rattle.plcr_command.specs.Endings.{kept_names}
 use Rattle.plcr_turns.specs.declared.lines.ChangeLine.{ChangeLine}
 use Rattle.plcr_turns.specs.declared.view.View.{View}
 use Rattle.plcr_turns.specs.Gathering.{AreWorking, HasGathered}
@@ -35,7 +36,7 @@ use Rattle.plcr_workers.specs.Threads.{ScriptsRun}
 use Rattle.plcr_workers.specs.inner.Hired.{AreNumbered, views_of, passes_left, lines_left}
 use Rattle.plcr_workers.specs.inner.Outputs.{AreFiles, draft_names, name_at, outputs_of}
 use Rattle.plcr_workers.specs.inner.Places.{walker_of}
-use Rattle.plcr_workers.specs.inner.Stages.{HasMetThese, items_of}
+use Rattle.plcr_workers.specs.inner.Stages.{HasMetThese, HaveRun, items_of}
 use Rattle.plcr_workers.specs.inner.Traces.{HasGone, HaveBytes, IsActed, IsRunnable, Ran}
 use Rattle.plcr_workers.proofs.Freshly.{GoesOnFrom}
 use Rattle.plcr_workers.proofs.Joined.{element, outputs_each, pass_of, some_same}
@@ -164,18 +165,24 @@ all_run written process w journal number (s ∷ scripts) (x ∷ workers) count e
       );
     }
 
--- so they ran, and their outputs have the files
-pub record HaveRun {K : Type 0} (written : K → Option (List ℕ)) (process : Meanings) (scripts : List ScriptValue) (w : WriterState) (journal : List ChangeLine) (workers : List (Worker K)) : Type 0 where
-  pub wrote : List (List ℕ)
-  pub told : HaveBytes written (outputs_of workers) wrote
-  pub runs : ScriptsRun process w journal 0 scripts (items_of (lines_left workers)) (pairs (written_by scripts) wrote)
+pairs_names : {K : Type 0} (written : K → Option (List ℕ)) (scripts : List ScriptValue) (drafts : List (Draft K)) (wrote : List (List ℕ)) → HaveBytes written drafts wrote → kept_names (pairs (draft_names scripts drafts) wrote) ≡ draft_names scripts drafts
+pairs_names written scripts [] [] told = refl
+pairs_names written scripts [] (w ∷ wrote) told = absurd told
+pairs_names written scripts (d ∷ drafts) [] told = absurd told
+pairs_names written scripts (d ∷ drafts) (w ∷ wrote) told = ap (λ (l : List (List ℕ)). name_at scripts d.script d.at ∷ l) (pairs_names written scripts drafts wrote told.1)
 
+-- so they ran, and their outputs have the files
 pub scripts_ran : {K : Type 0} (written : K → Option (List ℕ)) (process : Meanings) (list : TableId) (scripts : List ScriptValue) (workers : List (Worker K)) (chief : View) (t : TurnState) (images : List WalkerState) (w : WriterState)
-    → length workers ≡ length scripts → AllLeft list (length scripts) workers chief t images w → All IsRunnable scripts → All (λ (x : Worker K). IsActed written process.report scripts x) workers → All (λ (d : Draft K). d.progress ≡ Written) (outputs_of workers)
-    → HaveRun written process scripts w t.journal workers
-scripts_ran {K} written process list scripts workers chief t images w many a may acted whole =
+    → length workers ≡ length scripts → AllLeft list (length scripts) workers chief t images w → All IsRunnable scripts → All (λ (x : Worker K). IsActed written process.report scripts x) workers → draft_names scripts (outputs_of workers) ≡ written_by scripts → All (λ (d : Draft K). d.progress ≡ Written) (outputs_of workers)
+    → HaveRun written process scripts w t.journal (outputs_of workers) (items_of (lines_left workers))
+scripts_ran {K} written process list scripts workers chief t images w many a may acted names whole =
     let r = all_run written process w t.journal 0 scripts workers many one in
-    record { wrote = r.wrote; told = r.told; runs = r.runs }
+    record {
+      files = pairs (written_by scripts) r.wrote;
+      are = subst (λ (l : List (List ℕ)). AreFiles written scripts (outputs_of workers) (pairs l r.wrote)) names (are_files written scripts (outputs_of workers) r.wrote r.told);
+      names = subst (λ (l : List (List ℕ)). kept_names (pairs l r.wrote) ≡ l) names (pairs_names written scripts (outputs_of workers) r.wrote r.told);
+      runs = r.runs;
+    }
   where
     one : (k : ℕ) (script : ScriptValue) (worker : Worker K) → slice_get workers k ≡ Some worker → slice_get scripts k ≡ Some script → OneRun written process w t.journal (0 + k) script worker
     one k script worker at stands =
