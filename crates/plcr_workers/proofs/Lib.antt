@@ -21,6 +21,7 @@ pub mod Tracing
 pub mod Whole
 pub mod Gone
 pub mod Wholly
+pub mod Runnable
 pub mod Settled
 pub mod Made
 pub mod Printing

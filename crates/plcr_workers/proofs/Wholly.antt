@@ -13,7 +13,17 @@ use Rattle.plcr_command.specs.declared.endings.Ending.{Ending}
 use Rattle.plcr_command.specs.declared.endings.Ending.TheVariants.{Done, Stopped, Refused, Misused}
 use Rattle.plcr_command.specs.Jobs.{IsJob, job_files}
 use Rattle.plcr_command.specs.Endings.{HasRead}
-use Rattle.plcr_command.specs.Seen.{seen}
+use Rattle.plcr_command.specs.Seen.{Seen, seen}
+use Rattle.plcr_command.specs.Taking.{MadeNothing}
+use Rattle.plcr_command.specs.Refusals.{IsRead}
+use Rattle.plcr_command.proofs.Takings.{read_after}
+use Rattle.plcr_command.specs.Endings.{status_of}
+use Rattle.plcr_command.specs.declared.refusals.Refusal.TheVariants.{CannotRead}
+use Rattle.plcr_command.specs.declared.refusals.Refusal.TheVariants.{TooLong}
+use Rattle.plcr_command.specs.declared.refusals.Refusal.TheVariants.{CoreRefused}
+use Rattle.plcr_command.specs.declared.refusals.Refusal.TheVariants.{ScriptRefused}
+use Rattle.plcr_command.specs.declared.refusals.Refusal.TheVariants.{ReportRefused}
+use Rattle.plcr_command.specs.declared.refusals.Refusal.TheVariants.{OutOfMemory}
 use Rattle.plcr_turns.specs.declared.lines.ChangeLine.{ChangeLine}
 use Rattle.plcr_workers.specs.declared.command.TheConstants.{SIDE_BY_SIDE}
 use Rattle.plcr_workers.specs.declared.drafts.Draft.{Draft}
@@ -71,3 +81,42 @@ module _ {K : Type 0} (written : K → Option (List ℕ)) (faults : K → ℕ) (
       → result ≡ Ok done → Settles written job.scripts drafts made mid new result → LogEnds lines lines' (threads_log job.scripts journal others) counts counts' ending → WholeBy job (seen old lines counts) (seen new lines' counts') (Some w) ending
   whole_kept made result done ending worked acted is settles ends =
       by_ending made result done ending worked acted (subst (λ (r : Result (Unit {0}) Unwritten). Settles written job.scripts drafts made mid new r) is settles) ends
+
+-- ---- the command
+
+ran_since : (past : Option WriterState) (job : Job) (old mid new : Told) (lines lines' : Option (List ℕ)) (counts counts' : ℕ) → MadeNothing old mid → RanWhole past job (seen mid lines counts) (seen new lines' counts') → RanWhole past job (seen old lines counts) (seen new lines' counts')
+ran_since past job old mid new lines lines' counts counts' nothing r = record {
+  writer = r.writer;
+  is = r.is;
+  journal = r.journal;
+  others = r.others;
+  files = r.files;
+  tells = r.tells;
+  applied = r.applied;
+  runs = r.runs;
+  names = r.names;
+  kept = subst (λ (m : Option (List (List ℕ × List ℕ))). Gains m new.kept r.files) nothing.kept r.kept;
+  lines = r.lines;
+}
+
+pub run_whole : (core : List ℕ) (scripts : List (List ℕ)) (job : Job) (past : Option WriterState) (ending : Ending) (old mid new : Told) (lines lines' : Option (List ℕ)) (counts counts' : ℕ) → IsRead (IsJob SIDE_BY_SIDE) (job_files core scripts) old mid job → MadeNothing old mid → new.taken ≡ mid.taken → All IsRunnable job.scripts
+    → WholeBy job (seen mid lines counts) (seen new lines' counts') past ending → WholeIn core scripts (seen old lines counts) (seen new lines' counts') past ending
+run_whole core scripts job past Done old mid new lines lines' counts counts' read nothing same may ran = record {
+  value = job;
+  read = read_after (IsJob SIDE_BY_SIDE) (job_files core scripts) job old mid new read same;
+  ends = ran_since past job old mid new lines lines' counts counts' nothing (ran may);
+}
+run_whole core scripts job past Stopped old mid new lines lines' counts counts' read nothing same may ran = tt
+run_whole core scripts job past (Refused refusal) old mid new lines lines' counts counts' read nothing same may ran = tt
+run_whole core scripts job past Misused old mid new lines lines' counts counts' read nothing same may ran = tt
+
+pub whole_by : (core : List ℕ) (scripts : List (List ℕ)) (old new : Seen) (past : Option WriterState) (ending : Ending) (status : ℕ) → status ≡ status_of ending → WholeIn core scripts old new past ending → ThreadsRan core scripts old new past status
+whole_by core scripts old new past Done status is whole = λ zero. whole
+whole_by core scripts old new past Stopped status is whole = λ zero. absurd (omega (arith, is, zero))
+whole_by core scripts old new past (Refused (CannotRead word)) status is whole = λ zero. absurd (omega (arith, is, zero))
+whole_by core scripts old new past (Refused (TooLong word)) status is whole = λ zero. absurd (omega (arith, is, zero))
+whole_by core scripts old new past (Refused (CoreRefused fault)) status is whole = λ zero. absurd (omega (arith, is, zero))
+whole_by core scripts old new past (Refused (ScriptRefused number line kind)) status is whole = λ zero. absurd (omega (arith, is, zero))
+whole_by core scripts old new past (Refused (ReportRefused fault)) status is whole = λ zero. absurd (omega (arith, is, zero))
+whole_by core scripts old new past (Refused OutOfMemory) status is whole = λ zero. absurd (omega (arith, is, zero))
+whole_by core scripts old new past Misused status is whole = λ zero. absurd (omega (arith, is, zero))
