@@ -1,5 +1,5 @@
 -- Where all workers ran their scripts whole, their lines and files are those of runs of the scripts over the one history.
-use Rattle.std.proofs.Common.{◌≡◌, ℕ, zero, suc, ◌+◌, ◌<◌, ◌≤◌, List, [], ◌∷◌, ◌++◌, length, map, reverse, slice_get, slice_index_or, get_or, All, Option, Some, None, refl, sym, ap, ◌∙◌, subst, length-append, append_assoc, append-nil, arith}
+use Rattle.std.proofs.Common.{◌≡◌, ℕ, zero, suc, ◌+◌, ◌<◌, ◌≤◌, List, [], ◌∷◌, ◌++◌, length, map, reverse, slice_get, slice_index_or, get_or, All, Option, Some, None, refl, sym, ap, ◌∙◌, subst, length-append, append_assoc, append-nil, zero-add, arith}
 use Rattle.std.specs.Io.KnownBytes.{append_known}
 use Rattle.std.proofs.lemmas.List.{nil_from_length}
 use Rattle.std.proofs.lemmas.Option.{slice_get_within, get_or_from_slice_get}
@@ -190,5 +190,6 @@ scripts_ran {K} written process list scripts workers chief t images w many a may
         let is = get_or_from_slice_get workers k worker worker at in
         let below = slice_get_within scripts k script stands in
         let runnable = subst IsRunnable (get_or_from_slice_get scripts k script script stands) (may k script below) in
+        subst (λ n. OneRun written process w t.journal n script worker) (sym (zero-add k)) (
         one_run written process list (length scripts) scripts workers chief t images w a k script worker at stands (ap (λ (x : Worker K). x.script) (sym is) ∙ a.numbers k worker within) runnable
-        (subst (λ (x : Worker K). IsActed written process.report scripts x) is (acted k worker within)) (outputs_each (λ (d : Draft K). d.progress ≡ Written) workers whole k worker at)
+        (subst (λ (x : Worker K). IsActed written process.report scripts x) is (acted k worker within)) (outputs_each (λ (d : Draft K). d.progress ≡ Written) workers whole k worker at))
