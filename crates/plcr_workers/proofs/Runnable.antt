@@ -11,7 +11,7 @@ use Rattle.plcr_script.specs.declared.faults.Kind.{Kind}
 use Rattle.plcr_script.specs.declared.faults.Kind.TheVariants.{TooFew}
 use Rattle.plcr_script.specs.declared.keys.NumberKey.{NumberKey}
 use Rattle.plcr_script.specs.declared.keys.TextKey.{TextKey}
-use Rattle.plcr_script.specs.declared.limits.TheConstants.{MOST_NODES, MOST_PASSES}
+use Rattle.plcr_machine.specs.declared.limits.TheConstants.{MOST_NODES, MOST_PASSES}
 use Rattle.plcr_script.specs.declared.modes.Mode.{Mode}
 use Rattle.plcr_script.specs.declared.statements.Statement.{Statement}
 use Rattle.plcr_script.specs.declared.statements.Statement.TheVariants as stated
@@ -34,7 +34,7 @@ use Rattle.plcr_workers.proofs.Apart.{numbered_ok, script_rises}
 
 -- ---- one statement more
 
-behind_all : Bool → List NumberedStatement → Bool
+abbrev behind_all : Bool → List NumberedStatement → Bool
 behind_all was [] = was
 behind_all was (s ∷ statements) = behind_all (stands_in was s.statement) statements
 

@@ -101,14 +101,14 @@ ran_since past job old mid new lines lines' counts counts' nothing r = record {
 
 pub run_whole : (core : List ℕ) (scripts : List (List ℕ)) (job : Job) (past : Option WriterState) (ending : Ending) (old mid new : Told) (lines lines' : Option (List ℕ)) (counts counts' : ℕ) → IsRead (IsJob SIDE_BY_SIDE) (job_files core scripts) old mid job → MadeNothing old mid → new.taken ≡ mid.taken → All IsRunnable job.scripts
     → WholeBy job (seen mid lines counts) (seen new lines' counts') past ending → WholeIn core scripts (seen old lines counts) (seen new lines' counts') past ending
-run_whole core scripts job past Done old mid new lines lines' counts counts' read nothing same may ran = record {
+run_whole core scripts job past Done old mid new lines lines' counts counts' read nothing taken may ran = record {
   value = job;
-  read = read_after (IsJob SIDE_BY_SIDE) (job_files core scripts) job old mid new read same;
+  read = read_after (IsJob SIDE_BY_SIDE) (job_files core scripts) job old mid new read taken;
   ends = ran_since past job old mid new lines lines' counts counts' nothing (ran may);
 }
-run_whole core scripts job past Stopped old mid new lines lines' counts counts' read nothing same may ran = tt
-run_whole core scripts job past (Refused refusal) old mid new lines lines' counts counts' read nothing same may ran = tt
-run_whole core scripts job past Misused old mid new lines lines' counts counts' read nothing same may ran = tt
+run_whole core scripts job past Stopped old mid new lines lines' counts counts' read nothing taken may ran = tt
+run_whole core scripts job past (Refused refusal) old mid new lines lines' counts counts' read nothing taken may ran = tt
+run_whole core scripts job past Misused old mid new lines lines' counts counts' read nothing taken may ran = tt
 
 pub whole_by : (core : List ℕ) (scripts : List (List ℕ)) (old new : Seen) (past : Option WriterState) (ending : Ending) (status : ℕ) → status ≡ status_of ending → WholeIn core scripts old new past ending → ThreadsRan core scripts old new past status
 whole_by core scripts old new past Done status is whole = λ zero. whole
