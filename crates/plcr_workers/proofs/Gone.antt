@@ -1,23 +1,20 @@
 -- Workers that took all statements of their scripts, by what they were before.
-use Rattle.std.proofs.Common.{◌≡◌, ℕ, zero, suc, ◌+◌, ◌<◌, ◌≤◌, List, [], ◌∷◌, ◌++◌, length, get_or, slice_get, slice_index_or, All, Option, Some, None, refl, sym, ap, ◌∙◌, subst, arith}
-use Rattle.std.specs.Io.KnownBytes.{append_known}
-use Rattle.std.proofs.lemmas.List.Elements.{All-head, All-tail}
+use Rattle.std.proofs.Common.{◌≡◌, ℕ, suc, ◌<◌, List, [], ◌∷◌, length, get_or, slice_get, All, Option, Some, sym, ap, ◌∙◌, subst, arith}
+use Rattle.std.proofs.lemmas.List.Elements.{All-tail}
 use Rattle.atomic_table.specs.Seated.{TableId}
 use Rattle.crossbeam_queue.specs.Passes.{view}
 use Rattle.plcr_base.specs.Told.{IfTold}
 use Rattle.plcr_macho.specs.Images.{Listed}
 use Rattle.plcr_imagelist.specs.Holds.{WalkerState}
-use Rattle.plcr_script.specs.declared.statements.NumberedStatement.{NumberedStatement}
 use Rattle.plcr_script.specs.Reading.{files_of}
 use Rattle.plcr_script.specs.Scripts.{ScriptValue}
 use Rattle.plcr_workers.specs.declared.drafts.Draft.{Draft}
-use Rattle.plcr_workers.specs.declared.lines.PassLine.{PassLine}
 use Rattle.plcr_workers.specs.declared.places.Place.TheVariants.{Out}
 use Rattle.plcr_workers.specs.declared.worker.Worker.{Worker}
 use Rattle.plcr_workers.specs.inner.Drafts.{HasTaken, HaveTaken}
 use Rattle.plcr_workers.specs.inner.Hired.{AreNew, IsReadyToRun}
 use Rattle.plcr_workers.specs.inner.Outputs.{AreEmpty, AreSameWorkers, HaveEmpty}
-use Rattle.plcr_workers.specs.inner.Traces.{ActsWholeOf, HasGone, HaveActed, HaveBytes, HaveGained, IsActed, Ran}
+use Rattle.plcr_workers.specs.inner.Traces.{ActsWholeOf, HaveActed, HaveBytes, HaveGained, IsActed, Ran}
 use Rattle.plcr_workers.proofs.Hires.{some_value}
 use Rattle.plcr_workers.proofs.Lawful.{told_bytes}
 use Rattle.plcr_workers.proofs.Tracing.{ran_count}
@@ -28,12 +25,11 @@ have_bytes written [] [] (b ∷ wrote) many same gained empty = absurd (omega (a
 have_bytes written [] (d ∷ drafts) wrote many same gained empty = absurd (omega (arith, same))
 have_bytes written (f ∷ firsts) [] wrote many same gained empty = absurd (omega (arith, same))
 have_bytes written (f ∷ firsts) (d ∷ drafts) [] many same gained empty = absurd (omega (arith, many))
-have_bytes {K} written (f ∷ firsts) (d ∷ drafts) (b ∷ wrote) many same gained empty =
-    (
-      told_bytes (written f.out) (written d.out) b (empty 0 f (omega arith)) (gained 0 b d (omega arith)),
-      have_bytes written firsts drafts wrote (omega (arith, many)) (omega (arith, same)) (λ k bytes other less. gained (suc k) bytes other (omega (arith, less)))
-          (All-tail (λ (x : Draft K). IfTold (written x.out) (λ bytes. bytes ≡ [])) f firsts empty),
-    )
+have_bytes {K} written (f ∷ firsts) (d ∷ drafts) (b ∷ wrote) many same gained empty = (
+  told_bytes (written f.out) (written d.out) b (empty 0 f (omega arith)) (gained 0 b d (omega arith)),
+  have_bytes written firsts drafts wrote (omega (arith, many)) (omega (arith, same)) (λ k bytes other less. gained (suc k) bytes other (omega (arith, less)))
+      (All-tail (λ (x : Draft K). IfTold (written x.out) (λ bytes. bytes ≡ [])) f firsts empty),
+)
 
 acted_one : {K : Type 0} (written : K → Option (List ℕ)) (faults : K → ℕ) (report : List Listed → List ℕ) (queue list : TableId) (scripts : List ScriptValue) (old new : Worker K) → (view old.turns).journal ≡ [] → ((image : WalkerState) → old.image ≡ Some image → image.history ≡ [])
     → AreEmpty written old.drafts.items → IsReadyToRun faults queue list scripts old → HasTaken faults old new → ActsWholeOf written report scripts old new → IsActed written report scripts new

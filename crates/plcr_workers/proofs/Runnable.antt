@@ -1,12 +1,11 @@
 -- Scripts that were read for workers can be run by them: their lines rise, and each statement finds the one pass where it may be.
-use Rattle.std.proofs.Common.{◌≡◌, ◌&&◌, ◌||◌, ℕ, zero, suc, ◌+◌, ◌<◌, ◌≤◌, Bool, true, false, not, List, [], ◌∷◌, ◌++◌, length, Option, Some, None, Result, Ok, Err, refl, sym, ap, ◌∙◌, subst, add-one, arith}
+use Rattle.std.proofs.Common.{◌≡◌, ◌&&◌, ◌||◌, ℕ, ◌+◌, ◌<◌, Bool, true, false, not, List, [], ◌∷◌, ◌++◌, length, Option, Some, None, Result, Ok, refl, sym, ap, ◌∙◌, subst, arith}
 use Rattle.std.specs.Prelude.{All, if◌then◌else◌, codes}
 use Rattle.std.specs.Str.{bytes_eq}
 use Rattle.std.proofs.lemmas.Bool.{or_parts}
 use Rattle.std.proofs.lemmas.List.Elements.{All-nil, All-cons, All-append}
 use Rattle.plcr_base.specs.Chains.{◌>>=◌}
 use Rattle.plcr_base.proofs.Chained.{bind_ok}
-use Rattle.plcr_machine.proofs.Cases.{not_both}
 use Rattle.plcr_script.specs.declared.faults.Kind.{Kind}
 use Rattle.plcr_script.specs.declared.faults.Kind.TheVariants.{TooFew}
 use Rattle.plcr_script.specs.declared.keys.NumberKey.{NumberKey}
@@ -29,7 +28,7 @@ use Rattle.plcr_script.proofs.WholeScripts.{Turn, Silent, Said, lines_turn}
 use Rattle.plcr_command.specs.declared.jobs.Job.{Job}
 use Rattle.plcr_command.specs.Jobs.{IsJob, numbered, scripts_from}
 use Rattle.plcr_workers.specs.declared.command.TheConstants.{SIDE_BY_SIDE}
-use Rattle.plcr_workers.specs.inner.Traces.{IsRunnable, MayRun, MayStand, Rise, stands_in}
+use Rattle.plcr_workers.specs.inner.Traces.{IsRunnable, MayRun, MayStand, stands_in}
 use Rattle.plcr_workers.proofs.Apart.{numbered_ok, script_rises}
 
 -- ---- one statement more

@@ -1,21 +1,16 @@
 -- Where all workers ran their scripts whole, their lines and files are those of runs of the scripts over the one history.
-use Rattle.std.proofs.Common.{◌≡◌, ℕ, zero, suc, ◌+◌, ◌<◌, ◌≤◌, List, [], ◌∷◌, ◌++◌, length, map, reverse, slice_get, slice_index_or, get_or, All, Option, Some, None, refl, sym, ap, ◌∙◌, subst, length-append, append_assoc, append-nil, zero-add, arith}
-use Rattle.std.specs.Io.KnownBytes.{append_known}
+use Rattle.std.proofs.Common.{◌≡◌, ℕ, zero, suc, ◌+◌, List, [], ◌∷◌, ◌++◌, length, map, reverse, slice_get, All, Option, Some, refl, sym, ap, ◌∙◌, subst, length-append, zero-add, arith}
 use Rattle.std.proofs.lemmas.List.{nil_from_length}
 use Rattle.std.proofs.lemmas.Option.{slice_get_within, get_or_from_slice_get}
 use Rattle.atomic_table.specs.Seated.{TableId}
 use Rattle.crossbeam_queue.specs.Passes.{view}
-use Rattle.plcr_base.specs.Told.{IfTold}
-use Rattle.plcr_machine.specs.declared.entry.Entry.{Entry}
 use Rattle.plcr_machine.specs.Lists.{Grows}
 use Rattle.plcr_machine.specs.Parts.{own_entries}
-use Rattle.plcr_macho.specs.Images.{Listed}
 use Rattle.plcr_nodes.specs.Entries.{WentOn}
 use Rattle.plcr_imagelist.specs.Holds.{WalkerState}
 use Rattle.plcr_imagelist.specs.States.{WriterState, IsAtRest}
-use Rattle.plcr_script.specs.declared.statements.NumberedStatement.{NumberedStatement}
 use Rattle.plcr_script.specs.Meanings.{Meanings}
-use Rattle.plcr_script.specs.Reading.{file_of, files_of, written_by}
+use Rattle.plcr_script.specs.Reading.{files_of, written_by}
 use Rattle.plcr_script.specs.Scripts.{ScriptValue}
 use Rattle.plcr_command.specs.Endings.{kept_names}
 use Rattle.plcr_turns.specs.declared.lines.ChangeLine.{ChangeLine}
@@ -28,7 +23,6 @@ use Rattle.plcr_turns.proofs.Gathered.{each_once}
 use Rattle.plcr_turns.proofs.Turned.{lines_more}
 use Rattle.plcr_workers.specs.declared.drafts.Draft.{Draft}
 use Rattle.plcr_workers.specs.declared.drafts.Progress.TheVariants.{Written}
-use Rattle.plcr_workers.specs.declared.lines.PassLine.{PassLine}
 use Rattle.plcr_workers.specs.declared.places.Place.TheVariants.{Out}
 use Rattle.plcr_workers.specs.declared.worker.Worker.{Worker}
 use Rattle.plcr_workers.specs.Scripts.{IsScriptRun}
@@ -37,9 +31,9 @@ use Rattle.plcr_workers.specs.inner.Hired.{AreNumbered, views_of, passes_left, l
 use Rattle.plcr_workers.specs.inner.Outputs.{AreFiles, draft_names, name_at, outputs_of}
 use Rattle.plcr_workers.specs.inner.Places.{walker_of}
 use Rattle.plcr_workers.specs.inner.Stages.{HasMetThese, HaveRun, items_of}
-use Rattle.plcr_workers.specs.inner.Traces.{HasGone, HaveBytes, IsActed, IsRunnable, Ran}
+use Rattle.plcr_workers.specs.inner.Traces.{HaveBytes, IsActed, IsRunnable, Ran}
 use Rattle.plcr_workers.proofs.Freshly.{GoesOnFrom}
-use Rattle.plcr_workers.proofs.Joined.{element, outputs_each, pass_of, some_same}
+use Rattle.plcr_workers.proofs.Joined.{outputs_each, pass_of, some_same}
 use Rattle.plcr_workers.proofs.Passing.{again}
 use Rattle.plcr_workers.proofs.Running.{Ended, script_ran}
 use Rattle.plcr_workers.proofs.Stayed.{World, out_goes, pairs, ran_goes}
@@ -152,7 +146,7 @@ all_run written process w journal number (s ∷ scripts) (x ∷ workers) count e
     let here : number + 0 ≡ number = omega arith in
     let one = each 0 s x refl refl in
     let rest = all_run written process w journal (suc number) scripts workers (omega (arith, count))
-        (λ k script worker at stands. (let next : number + suc k ≡ suc number + k = omega arith in subst (λ n. OneRun written process w journal n script worker) next (each (suc k) script worker at stands))) in
+    (λ k script worker at stands. (let next : number + suc k ≡ suc number + k = omega arith in subst (λ n. OneRun written process w journal n script worker) next (each (suc k) script worker at stands))) in
     record {
       wrote = one.wrote ++ rest.wrote;
       told = bytes_both written x.drafts.items (outputs_of workers) one.wrote rest.wrote one.told rest.told;

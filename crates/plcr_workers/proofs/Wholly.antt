@@ -1,18 +1,15 @@
 -- What a run on threads comes to whose scripts all ran whole.
-use Rattle.std.proofs.Common.{◌≡◌, ℕ, List, ◌++◌, Option, Some, Result, Ok, Err, refl, sym, ap, ◌∙◌, subst, arith}
+use Rattle.std.proofs.Common.{◌≡◌, ℕ, List, Option, Some, Result, Ok, Err, refl, sym, ap, ◌∙◌, subst, arith}
 use Rattle.std.specs.Prelude.{All, OnOk}
 use Rattle.std.specs.Io.KnownBytes.{append_known}
 use Rattle.plcr_base.specs.Told.{Gains}
 use Rattle.plcr_imagelist.specs.States.{WriterState}
 use Rattle.plcr_io.specs.Desk.{Told}
 use Rattle.plcr_script.specs.Meanings.{Meanings}
-use Rattle.plcr_script.specs.Reading.{written_by}
-use Rattle.plcr_script.specs.Scripts.{ScriptValue}
 use Rattle.plcr_command.specs.declared.jobs.Job.{Job}
 use Rattle.plcr_command.specs.declared.endings.Ending.{Ending}
 use Rattle.plcr_command.specs.declared.endings.Ending.TheVariants.{Done, Stopped, Refused, Misused}
 use Rattle.plcr_command.specs.Jobs.{IsJob, job_files}
-use Rattle.plcr_command.specs.Endings.{HasRead}
 use Rattle.plcr_command.specs.Seen.{Seen, seen}
 use Rattle.plcr_command.specs.Taking.{MadeNothing}
 use Rattle.plcr_command.specs.Refusals.{IsRead}
@@ -31,11 +28,11 @@ use Rattle.plcr_workers.specs.declared.drafts.Progress.TheVariants.{Written}
 use Rattle.plcr_workers.specs.declared.lines.PassLine.{PassLine}
 use Rattle.plcr_workers.specs.declared.making.Unwritten.{Unwritten}
 use Rattle.plcr_workers.specs.declared.worker.Worker.{Worker}
-use Rattle.plcr_workers.specs.Command.{AllApplied, IsJournalOf, RanWhole, ThreadsRan, meanings_in}
+use Rattle.plcr_workers.specs.Command.{IsJournalOf, RanWhole, ThreadsRan, meanings_in}
 use Rattle.plcr_workers.specs.Log.{threads_log}
-use Rattle.plcr_workers.specs.inner.Outputs.{AreFiles, HasKeptAll, draft_names, outputs_of}
+use Rattle.plcr_workers.specs.inner.Outputs.{AreFiles, HasKeptAll, outputs_of}
 use Rattle.plcr_workers.specs.inner.Own.{KnowsOwnOf}
-use Rattle.plcr_workers.specs.inner.Stages.{AppliesAll, HasWorked, HaveRun, LogEnds, RunWhole, Settles, WholeBy, WholeIn}
+use Rattle.plcr_workers.specs.inner.Stages.{AppliesAll, HasWorked, LogEnds, RunWhole, Settles, WholeBy, WholeIn}
 use Rattle.plcr_workers.specs.inner.Traces.{IsActed, IsRunnable}
 use Rattle.plcr_workers.proofs.Staged.{Worked}
 

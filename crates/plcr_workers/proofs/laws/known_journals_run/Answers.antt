@@ -1,4 +1,3 @@
-use Rattle.plcr_workers.proofs.Whole.{scripts_ran}
 use Rattle.plcr_workers.proofs.Outcomes.{known_journals_run, known_journals_are}
 use Rattle.plcr_workers.proofs.laws.known_journals_run.Goals as goal
 

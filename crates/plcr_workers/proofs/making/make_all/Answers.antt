@@ -30,9 +30,10 @@ returns-in-Err-clause-same g c =
 
 pub loop-script-preserved : goal.loop-script-preserved
 loop-script-preserved g c =
-    let less = c.loop-script-test.true in let count = c.requires.count in
-    (makes_one g.D.Out.Sink.faults c.args.scripts.now c.args.workers.now c.loop-script.script c.loop-script.workers c.make_for.new.worker c.index-scripts-script.result (g.D.Desk.told c.args.desk.now) (g.D.Desk.told c.loop-script.desk) (g.D.Desk.told c.make_for.new.desk) (stands_in c.args.scripts.now c.loop-script.script c.index-scripts-script.result less c.index-scripts-script.is) (omega (arith, less, count)) (new_empty c.args.scripts.now c.args.workers.now c.requires.new) c.loop-script.invariant.0 c.index-workers-script.result c.make_for.ensures.same (ok_of c.in_default.is c.make_for.ensures.ok),
-    All-set (λ (w : Worker g.row.D-Out.Denot). AreEmpty g.D.Out.Sink.written w.drafts.items) c.loop-script.workers c.loop-script.script c.make_for.new.worker c.make_for.ensures.empty c.loop-script.invariant.1)
+    let less = c.loop-script-test.true in let count = c.requires.count in (
+      makes_one g.D.Out.Sink.faults c.args.scripts.now c.args.workers.now c.loop-script.script c.loop-script.workers c.make_for.new.worker c.index-scripts-script.result (g.D.Desk.told c.args.desk.now) (g.D.Desk.told c.loop-script.desk) (g.D.Desk.told c.make_for.new.desk) (stands_in c.args.scripts.now c.loop-script.script c.index-scripts-script.result less c.index-scripts-script.is) (omega (arith, less, count)) (new_empty c.args.scripts.now c.args.workers.now c.requires.new) c.loop-script.invariant.0 c.index-workers-script.result c.make_for.ensures.same (ok_of c.in_default.is c.make_for.ensures.ok),
+      All-set (λ (w : Worker g.row.D-Out.Denot). AreEmpty g.D.Out.Sink.written w.drafts.items) c.loop-script.workers c.loop-script.script c.make_for.new.worker c.make_for.ensures.empty c.loop-script.invariant.1,
+    )
 
 pub returns-clause-ok : goal.returns-clause-ok
 returns-clause-ok g c =

@@ -68,16 +68,16 @@ returns-clause-runs g c = λ process may acted names whole.
     let images = c.gather-left.result.images.items in
     let count = sym c.args.workers.ok.0 ∙ c.requires.count in
     let r = scripts_ran g.K.Sink.written process c.args.list.now scripts workers (view c.gather-left.new.chief) c.take_last.result images w count
-        (record {
-          gathered = left.chief;
-          working = left.working;
-          numbers = c.requires.numbers;
-          taken = c.take_last.ensures.taken;
-          turn = c.take_last.ensures.turn;
-          passes = left.passes;
-          met = subst (λ (x : WriterState). HasMetThese images x w) c.end-writer.ensures.writer c.meet_all-writer.ensures.met;
-          rest = c.meet_all-writer.ensures.rest;
-        })
-        may acted names whole in
+    (record {
+      gathered = left.chief;
+      working = left.working;
+      numbers = c.requires.numbers;
+      taken = c.take_last.ensures.taken;
+      turn = c.take_last.ensures.turn;
+      passes = left.passes;
+      met = subst (λ (x : WriterState). HasMetThese images x w) c.end-writer.ensures.writer c.meet_all-writer.ensures.met;
+      rest = c.meet_all-writer.ensures.rest;
+    })
+    may acted names whole in
     subst (λ (j : List ChangeLine). HaveRun g.K.Sink.written process scripts w j (outputs_of workers) (items_of c.gather-left.result.others.items)) (sym c.end-writer.ensures.journal)
     (subst (λ (l : List (Vec PassLine Global)). HaveRun g.K.Sink.written process scripts w c.take_last.result.journal (outputs_of workers) (items_of l)) (sym left.others) r)
