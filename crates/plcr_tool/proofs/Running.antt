@@ -17,8 +17,8 @@ use Rattle.plcr_tool.specs.Threads.{ThreadsIs, ThreadsByStatus, ThreadsAreComple
 use Rattle.plcr_tool.proofs.Statused.{refuses, is_none, wants, job_read, job_long, job_report}
 
 threads_at : (core : List ℕ) (scripts : List (List ℕ)) (old new : Seen) (past : Option WriterState) (status : ℕ) (ending : Ending) → status ≡ status_of ending → Threads core scripts old new ending → ThreadsLeave core scripts old new past status → ThreadsIs core scripts old new past status
-threads_at core scripts old new past status Done is did left = inl (is, (did, left.done is))
-threads_at core scripts old new past status Stopped is did left = inr (inr (inr (inr (inl (is, (did, left.stopped is))))))
+threads_at core scripts old new past status Done is did left = inl (is, did, left.done is)
+threads_at core scripts old new past status Stopped is did left = inr (inr (inr (inr (inl (is, did, left.stopped is)))))
 threads_at core scripts old new past status (Refused (CannotRead word)) is did left =
     let none = left.others (λ e. omega (arith, is, e)) (λ e. omega (arith, is, e)) in
     let unreadable : IsUnreadable (job_files core scripts) (named word) old.desk new.desk = elim did.cause [ inl un ↦ un | inr m ↦ absurd (job_read SIDE_BY_SIDE m.contents word m.misread) ] in

@@ -12,7 +12,9 @@ use Rattle.plcr_command.specs.Jobs.{IsJob, JobMisread, HasNoCore, HasNoScript, j
 use Rattle.plcr_command.specs.Complete.{CanBeTaken, ComesWhere, LongFilesAreRefused}
 use Rattle.plcr_command.specs.Endings.{HasRead}
 use Rattle.plcr_workers.specs.declared.command.TheConstants.{SIDE_BY_SIDE}
-use Rattle.plcr_workers.specs.Command.{AllKept, HasStopped, LeftByScripts, ThreadsDoes, ThreadsLeave}
+use Rattle.plcr_workers.specs.Command.{AllKept, HasStopped, LeftByScripts, ThreadsDoes, ThreadsLeave, ThreadsTell}
+use Rattle.plcr_tool.specs.Headline.{TopTellsTruly}
+use Rattle.plcr_tool.specs.Past.{TopLeaves}
 use Rattle.plcr_tool.specs.Statuses.{CannotTake, IsNone, WantsMemory}
 use Rattle.plcr_tool.specs.Top.{SideBySide, TopDoes, form_of}
 
@@ -82,3 +84,17 @@ WordsThreads =
     (words : List (List ℕ)) → (core : List ℕ) → (scripts : List (List ℕ)) → (old new : Seen) → (status : ℕ)
     → form_of words ≡ SideBySide core scripts → TopDoes words old new status
     → ThreadsDoes core scripts old new status
+
+-- they leave what it leaves
+abbrev pub WordsLeaveAsThreads : Type 0
+WordsLeaveAsThreads =
+    (words : List (List ℕ)) → (core : List ℕ) → (scripts : List (List ℕ)) → (old new : Seen)
+    → (past : Option WriterState) → (status : ℕ) → form_of words ≡ SideBySide core scripts
+    → TopLeaves words old new past status → ThreadsLeave core scripts old new past status
+
+-- and the headline tells of them what it tells of that command
+abbrev pub WordsTellAsThreads : Type 0
+WordsTellAsThreads =
+    (words : List (List ℕ)) → (core : List ℕ) → (scripts : List (List ℕ)) → (old new : Seen)
+    → (past : Option WriterState) → (status : ℕ) → form_of words ≡ SideBySide core scripts
+    → TopTellsTruly words old new past status → ThreadsTell core scripts old new past status

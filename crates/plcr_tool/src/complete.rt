@@ -18,6 +18,8 @@ ghost use Rattle.plcr_tool.specs.Threads.{
   ThreadsRefuseCores,
   ThreadsRefuseScripts,
   ThreadsRefuseLong,
+  WordsLeaveAsThreads,
+  WordsTellAsThreads,
   WordsThreads,
 };
 
@@ -52,6 +54,8 @@ pub fn threads_are_complete()
     ensures no_script { ThreadsRefuseScripts }
     ensures too_long { ThreadsRefuseLong }
     ensures words { WordsThreads }
+    ensures leaves { WordsLeaveAsThreads }
+    ensures tells { WordsTellAsThreads }
 {}
 
 /// Words of the form `make N CORE SCRIPT` do what `make` does. What it answers where nothing fails is

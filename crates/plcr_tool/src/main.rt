@@ -23,6 +23,8 @@ mod statuses;
 #[cfg(test)]
 mod tests;
 #[cfg(test)]
+mod threads_fault_tests;
+#[cfg(test)]
 mod threads_tests;
 mod top;
 

@@ -1,5 +1,5 @@
 //! Scripts that run side by side, with gates at which a worker waits for another.
-use crate::fixtures::{Core, core_bytes};
+use crate::fixtures::{Core, REPORT as NO_IMAGE, core_bytes};
 use crate::top::top;
 use plcr_imagelist::Writer;
 use plcr_io::{MemDesk, MemFile, MemOut};
@@ -16,29 +16,29 @@ const TURNS: u32 = 100_000_000;
 
 /// What a run on threads came to.
 #[derive(Drop)]
-struct Came {
-    status: u8,
-    desk: MemDesk,
-    lines: MemOut,
-    past: Option<Writer>,
+pub(crate) struct Came {
+    pub(crate) status: u8,
+    pub(crate) desk: MemDesk,
+    pub(crate) lines: MemOut,
+    pub(crate) past: Option<Writer>,
 }
 
 /// What a gate waits for.
 #[derive(Drop)]
-struct Signal {
+pub(crate) struct Signal {
     given: AtomicBool,
     missed: AtomicBool,
 }
 
 impl Signal {
-    fn new() -> Signal {
+    pub(crate) fn new() -> Signal {
         Signal {
             given: AtomicBool::new(false),
             missed: AtomicBool::new(false),
         }
     }
 
-    fn give(&self) {
+    pub(crate) fn give(&self) {
         self.given.store(true, Ordering::SeqCst);
     }
 
@@ -51,6 +51,10 @@ impl Signal {
             spin_loop();
         }
         self.missed.store(true, Ordering::SeqCst);
+    }
+
+    pub(crate) fn was_given(&self) -> bool {
+        self.given.load(Ordering::SeqCst)
     }
 
     fn was_missed(&self) -> bool {
@@ -105,15 +109,16 @@ impl Gate for InTurn {
     }
 }
 
-/// Runs scripts on a core of eight images. The calls of these numbers fail on the desk, and puts of
-/// those numbers on each output.
-fn run<R: Threads + Wait + Sync, G: Gate>(
+/// Runs scripts on a core of eight images, with three outputs. The calls of these numbers fail on the desk, puts of
+/// those numbers on each output, and puts of the last numbers on the sink of the lines.
+pub(crate) fn run<R: Threads + Wait + Sync, G: Gate>(
     rt: &R,
     alloc: Global,
     scripts: &[&str],
     gate: &G,
     failing: &[u32],
     puts: &[u32],
+    said: &[u32],
 ) -> Result<Came, Fail> {
     let mut files = Vec::new(alloc);
     files.push(MemFile {
@@ -124,7 +129,6 @@ fn run<R: Threads + Wait + Sync, G: Gate>(
     words.push(String::from_str(alloc, "threads")?)?;
     words.push(String::from_str(alloc, "q")?)?;
     let mut name = String::new(alloc);
-    let mut outs = Vec::new(alloc);
     for script in scripts {
         name.push('s')?;
         files.push(MemFile {
@@ -132,11 +136,14 @@ fn run<R: Threads + Wait + Sync, G: Gate>(
             bytes: Vec::from_slice(alloc, script.as_bytes())?,
         })?;
         words.push(String::from_str(alloc, name.as_str())?)?;
-        outs.push(MemOut::new(alloc, 1000, 100, Vec::from_slice(alloc, puts)?)?)?;
     }
+    let one = MemOut::new(alloc, 1000, 100, Vec::from_slice(alloc, puts)?)?;
+    let two = MemOut::new(alloc, 1000, 100, Vec::from_slice(alloc, puts)?)?;
+    let three = MemOut::new(alloc, 1000, 100, Vec::from_slice(alloc, puts)?)?;
+    let outs = vec![in alloc; one, two, three]?;
     let failing = Vec::from_slice(alloc, failing)?;
     let mut desk = MemDesk::new(alloc, files, outs, failing)?;
-    let mut lines = MemOut::new(alloc, 4000, 64, Vec::new(alloc))?;
+    let mut lines = MemOut::new(alloc, 4000, 64, Vec::from_slice(alloc, said)?)?;
     let mut past = None;
     let status = top(
         rt,
@@ -155,26 +162,33 @@ fn run<R: Threads + Wait + Sync, G: Gate>(
     })
 }
 
-const LOAD_A: &str = "load 0x100000000 A\n";
+pub(crate) const LOAD_A: &str = "load 0x100000000 A\n";
 
 const LOAD_BOTH: &str = "load 0x100000000 A\nload 0x100004000 B\n";
 
-const REPORT: &str = "report 0 t\n";
+pub(crate) const REPORT: &str = "report 0 t\n";
+
+/// All logs that a load beside a report can have, by all orders of their steps.
+const BESIDE: [&str; 5] = [
+    "1:1 load 1\n2:1 report t 271 0 0 0\n",
+    "1:1 load 1\n2:1 report t 271 0 0 1\n",
+    "1:1 load 1\n2:1 report t 315 1 0 0\n",
+    "1:1 load 1\n2:1 report t 315 1 0 1\n",
+    "1:1 load 1\n2:1 report t 315 1 1 1\n",
+];
 
 #[test]
 fn loads_beside_a_report(rt: HostRuntime) -> Result<(), Fail> {
-    let came = run(&rt, rt.alloc(), &[LOAD_A, REPORT], &NoGate, &[], &[])?;
+    let came = run(&rt, rt.alloc(), &[LOAD_A, REPORT], &NoGate, &[], &[], &[])?;
     assert_eq!(rt; came.status, 0);
-    let lawful = [
-        "1:1 load 1\n2:1 report t 271 0 0 0\n",
-        "1:1 load 1\n2:1 report t 271 0 0 1\n",
-        "1:1 load 1\n2:1 report t 315 1 0 0\n",
-        "1:1 load 1\n2:1 report t 315 1 0 1\n",
-        "1:1 load 1\n2:1 report t 315 1 1 1\n",
-    ];
     let said = came.lines.bytes();
-    assert!(rt; lawful.iter().any(|log| log.as_bytes() == said));
-    assert!(rt; came.desk.file("t").is_some());
+    assert!(rt; BESIDE.iter().any(|log| log.as_bytes() == said));
+    let file = came.desk.file("t").ok_or("not kept")?;
+    if BESIDE[..2].iter().any(|log| log.as_bytes() == said) {
+        assert_eq!(rt; file, NO_IMAGE.as_slice());
+    } else {
+        assert_eq!(rt; file.len(), 315);
+    }
     assert!(rt; came.past.is_some());
     Ok(())
 }
@@ -187,10 +201,18 @@ fn a_change_waits_for_a_hold(rt: HostRuntime) -> Result<(), Fail> {
             asked: Signal::new(),
             change_waits,
         };
-        let came = run(&rt, rt.alloc(), &[LOAD_A, REPORT], &gate, &[], &[])?;
+        let came = run(&rt, rt.alloc(), &[LOAD_A, REPORT], &gate, &[], &[], &[])?;
         assert_eq!(rt; came.status, 0);
         assert!(rt; !gate.inside.was_missed());
         assert!(rt; !gate.asked.was_missed());
+        // Where the change waits it isn't made before the hold.
+        let said = came.lines.bytes();
+        let lawful = if change_waits {
+            &BESIDE[..4]
+        } else {
+            BESIDE.as_slice()
+        };
+        assert!(rt; lawful.iter().any(|log| log.as_bytes() == said));
     }
     Ok(())
 }
@@ -201,7 +223,7 @@ fn a_hold_meets_what_is_loaded_inside_it(rt: HostRuntime) -> Result<(), Fail> {
         inside: Signal::new(),
         second: Signal::new(),
     };
-    let came = run(&rt, rt.alloc(), &[LOAD_BOTH, REPORT], &gate, &[], &[])?;
+    let came = run(&rt, rt.alloc(), &[LOAD_BOTH, REPORT], &gate, &[], &[], &[])?;
     assert_eq!(rt; came.status, 0);
     assert!(rt; !gate.inside.was_missed());
     assert!(rt; !gate.second.was_missed());
@@ -220,7 +242,7 @@ fn a_hold_meets_what_is_loaded_inside_it(rt: HostRuntime) -> Result<(), Fail> {
 fn one_script_runs_alone(rt: HostRuntime) -> Result<(), Fail> {
     let script =
         "load 0x100000000 A\nenter 0\nwalk 0 0\nunload 0x100000000\nwalk 0 9\nleave 0\nreport 0 t\n";
-    let came = run(&rt, rt.alloc(), &[script], &NoGate, &[], &[])?;
+    let came = run(&rt, rt.alloc(), &[script], &NoGate, &[], &[], &[])?;
     assert_eq!(rt; came.status, 0);
     let log = "1:1 load 1\n1:4 unload 1\n1:2 enter 0\n1:3 walk 0 0 more\n1:5 walk 0 0 end\n\
         1:6 leave 0 0 1 2\n1:7 report t 271 0 2 2\n";
@@ -229,75 +251,81 @@ fn one_script_runs_alone(rt: HostRuntime) -> Result<(), Fail> {
 }
 
 #[test]
-fn refuses_scripts_by_their_numbers(rt: HostRuntime) -> Result<(), Fail> {
-    let cases: [(&[&str], &str); 8] = [
-        (
-            &["load 0x100000000 A\nbegin load 0x100004000 B\n"],
-            "script 1 2 6\n",
-        ),
-        (&["enter 1\n"], "script 1 1 5\n"),
-        (&["begin load 0x100000000 A\n", ""], "script 1 1 6\n"),
-        (&["load 0x100000000 A\nend\n", ""], "script 1 2 6\n"),
-        (&["report 1 t\n", ""], "script 1 1 5\n"),
-        (&["", "set os 1\n"], "script 2 1 6\n"),
-        (&[REPORT, "# again\nreport 0 t\n"], "script 2 2 6\n"),
-        (&["", "table 1 1\n"], "script 2 1 6\n"),
+fn a_list_of_two_nodes_is_full(rt: HostRuntime) -> Result<(), Fail> {
+    let script = "table 2 1\nload 0x100000000 A\nenter 0\nunload 0x100000000\n\
+        load 0x100004000 B\nload 0x100008000 C\nunload 0x100004000\nload 0x100008000 C\n";
+    let came = run(&rt, rt.alloc(), &[script], &NoGate, &[], &[], &[])?;
+    assert_eq!(rt; came.status, 0);
+    let log = "1:2 load 1\n1:4 unload 1\n1:5 load 2\n1:6 full 1 1 12884901889\n1:7 unload 2\n\
+        1:8 full 0 2 17179869185\n1:3 enter 0\n";
+    assert_eq!(rt; came.lines.bytes(), log.as_bytes());
+    let came = run(
+        &rt,
+        rt.alloc(),
+        &["load 0x5000 x\n"],
+        &NoGate,
+        &[],
+        &[],
+        &[],
+    )?;
+    assert_eq!(rt; came.status, 0);
+    assert_eq!(rt; came.lines.bytes(), b"1:1 notimage 1\n".as_slice());
+    Ok(())
+}
+
+#[test]
+fn a_report_sees_the_loads_before_it(rt: HostRuntime) -> Result<(), Fail> {
+    let scripts = ["load 0x100000000 A\nreport 0 t\n", "load 0x100004000 B\n"];
+    let came = run(&rt, rt.alloc(), &scripts, &NoGate, &[], &[], &[])?;
+    assert_eq!(rt; came.status, 0);
+    let lawful = [
+        "1:1 load 1\n2:1 load 2\n1:2 report t 315 1 1 1\n",
+        "1:1 load 1\n2:1 load 2\n1:2 report t 315 1 1 2\n",
+        "1:1 load 1\n2:1 load 2\n1:2 report t 359 2 1 1\n",
+        "1:1 load 1\n2:1 load 2\n1:2 report t 359 2 1 2\n",
+        "1:1 load 1\n2:1 load 2\n1:2 report t 359 2 2 2\n",
+        "2:1 load 1\n1:1 load 2\n1:2 report t 359 2 2 2\n",
     ];
-    for (scripts, line) in cases {
-        let came = run(&rt, rt.alloc(), scripts, &NoGate, &[], &[])?;
-        assert_eq!(rt; came.status, 4);
-        assert_eq!(rt; came.lines.bytes(), line.as_bytes());
-        assert!(rt; came.past.is_none());
+    let said = came.lines.bytes();
+    assert!(rt; lawful.iter().any(|log| log.as_bytes() == said));
+    let script = "report 0 t\nload 0x100000000 A\n";
+    let came = run(&rt, rt.alloc(), &[script], &NoGate, &[], &[], &[])?;
+    assert_eq!(rt; came.status, 0);
+    assert_eq!(rt;
+        came.lines.bytes(),
+        b"1:2 load 1\n1:1 report t 271 0 0 0\n".as_slice()
+    );
+    Ok(())
+}
+
+/// Whether a text has a part.
+fn has(text: &[u8], part: &[u8]) -> bool {
+    for at in 0..text.len() {
+        if text[at..].starts_with(part) {
+            return true;
+        }
     }
-    Ok(())
-}
-
-#[test]
-fn an_output_that_fails_ends_its_script_alone(rt: HostRuntime) -> Result<(), Fail> {
-    let scripts = ["load 0x100000000 A\n", "report 0 t\nload 0x100004000 B\n"];
-    let came = run(&rt, rt.alloc(), &scripts, &NoGate, &[], &[1])?;
-    assert_eq!(rt; came.status, 5);
-    assert_eq!(rt; came.lines.bytes(), b"cannot write t\n".as_slice());
-    assert!(rt; came.desk.file("t").is_none());
-    assert_eq!(rt; came.desk.dropped(0).map(|front| front.len()), Some(0));
-    assert!(rt; came.past.is_some());
-    Ok(())
-}
-
-#[test]
-fn an_output_that_is_not_made_starts_no_worker(rt: HostRuntime) -> Result<(), Fail> {
-    // The takes are the calls 1 to 3, and the makes 4 and 5.
-    let scripts = ["report 0 a\n", "report 0 b\nload 0x100000000 A\n"];
-    let came = run(&rt, rt.alloc(), &scripts, &NoGate, &[5], &[])?;
-    assert_eq!(rt; came.status, 5);
-    assert_eq!(rt; came.lines.bytes(), b"cannot write b\n".as_slice());
-    assert!(rt; came.desk.file("a").is_none());
-    assert_eq!(rt; came.desk.dropped(0).map(|front| front.len()), Some(0));
-    assert!(rt; came.past.is_some());
-    Ok(())
-}
-
-#[test]
-fn files_before_the_first_that_is_not_kept_stay(rt: HostRuntime) -> Result<(), Fail> {
-    // The takes are the calls 1 to 4, the makes 5 to 7, and the keeps 8 to 10.
-    let scripts = ["report 0 a\n", "report 0 b\n", "report 0 c\n"];
-    let came = run(&rt, rt.alloc(), &scripts, &NoGate, &[9], &[])?;
-    assert_eq!(rt; came.status, 5);
-    assert_eq!(rt; came.lines.bytes(), b"cannot write b\n".as_slice());
-    assert!(rt; came.desk.file("a").is_some());
-    assert!(rt; came.desk.file("b").is_none());
-    assert!(rt; came.desk.file("c").is_none());
-    Ok(())
+    false
 }
 
 #[test]
 fn counts_its_scripts(rt: HostRuntime) -> Result<(), Fail> {
     let many = [LOAD_A; 65];
-    let came = run(&rt, rt.alloc(), &many[..64], &NoGate, &[], &[])?;
+    let came = run(&rt, rt.alloc(), &many[..64], &NoGate, &[], &[], &[])?;
     assert_eq!(rt; came.status, 0);
-    let lines = came.lines.bytes().iter().filter(|byte| **byte == b'\n');
-    assert_eq!(rt; lines.count(), 64);
-    let came = run(&rt, rt.alloc(), many.as_slice(), &NoGate, &[], &[])?;
+    let mut log = Vec::from_slice(rt.alloc(), b"\n")?;
+    log.extend_from_slice(came.lines.bytes())?;
+    assert_eq!(rt;
+        log.as_slice().iter().filter(|byte| **byte == b'\n').count(),
+        65
+    );
+    for number in 1..65u32 {
+        let load = format!(in rt.alloc(); ":1 load {number}\n")?;
+        assert!(rt; has(log.as_slice(), load.as_bytes()));
+        let script = format!(in rt.alloc(); "\n{number}:1 load ")?;
+        assert!(rt; has(log.as_slice(), script.as_bytes()));
+    }
+    let came = run(&rt, rt.alloc(), many.as_slice(), &NoGate, &[], &[], &[])?;
     assert_eq!(rt; came.status, 1);
     assert_eq!(rt;
         came.lines.bytes(),
