@@ -109,7 +109,7 @@ impl Gate for InTurn {
     }
 }
 
-/// Runs scripts on a core of eight images. The calls of these numbers fail on the desk, puts of
+/// Runs scripts on a core of eight images, with three outputs. The calls of these numbers fail on the desk, puts of
 /// those numbers on each output, and puts of the last numbers on the sink of the lines.
 pub(crate) fn run<R: Threads + Wait + Sync, G: Gate>(
     rt: &R,
@@ -129,7 +129,6 @@ pub(crate) fn run<R: Threads + Wait + Sync, G: Gate>(
     words.push(String::from_str(alloc, "threads")?)?;
     words.push(String::from_str(alloc, "q")?)?;
     let mut name = String::new(alloc);
-    let mut outs = Vec::new(alloc);
     for script in scripts {
         name.push('s')?;
         files.push(MemFile {
@@ -137,8 +136,11 @@ pub(crate) fn run<R: Threads + Wait + Sync, G: Gate>(
             bytes: Vec::from_slice(alloc, script.as_bytes())?,
         })?;
         words.push(String::from_str(alloc, name.as_str())?)?;
-        outs.push(MemOut::new(alloc, 1000, 100, Vec::from_slice(alloc, puts)?)?)?;
     }
+    let one = MemOut::new(alloc, 1000, 100, Vec::from_slice(alloc, puts)?)?;
+    let two = MemOut::new(alloc, 1000, 100, Vec::from_slice(alloc, puts)?)?;
+    let three = MemOut::new(alloc, 1000, 100, Vec::from_slice(alloc, puts)?)?;
+    let outs = vec![in alloc; one, two, three]?;
     let failing = Vec::from_slice(alloc, failing)?;
     let mut desk = MemDesk::new(alloc, files, outs, failing)?;
     let mut lines = MemOut::new(alloc, 4000, 64, Vec::from_slice(alloc, said)?)?;
