@@ -3,10 +3,10 @@ ghost use Rattle.std.specs.Prelude.{◌≡◌, ◌<◌, ◌^◌, ◌++◌, OnOk}
 ghost use Rattle.plcr_make.specs.Images as images;
 ghost use Rattle.plcr_make.specs.Images.{image_bytes};
 
-use crate::constants::{FIRST_IMAGE, IMAGE_BYTES, IMAGE_SIZE, MH_DYLIB, VM_PROT_READ_EXECUTE};
+use crate::constants::{FIRST_IMAGE, IMAGE_BYTES, IMAGE_SIZE, VM_PROT_READ_EXECUTE};
 use crate::numbers::add_u32s;
 use crate::segments::{Segment, add_header, add_segment};
-use plcr_loader::{LC_UUID, SEG_TEXT, segment_command_64, uuid_command};
+use plcr_loader::{LC_UUID, MH_DYLIB, SEG_TEXT, segment_command_64, uuid_command};
 use std::alloc::AllocError;
 
 /// The address of an image.

@@ -2,10 +2,11 @@
 ghost use Rattle.std.specs.Prelude.{◌≡◌, ◌≤◌, ◌++◌, codes, IfOk, OnOk};
 ghost use Rattle.plcr_make.specs.declared.constants.TheConstants.{MOST_IMAGES};
 ghost use Rattle.plcr_make.specs.Numbers.{joined};
-ghost use Rattle.plcr_make.specs.Scripts.{load_line, unload_lines, script_of};
+ghost use Rattle.plcr_make.specs.Scripts.{sizes_line, load_line, unload_lines, report_line, script_of};
 
-use crate::constants::UNLOAD_STRIDE;
+use crate::constants::{MADE_REPORT, UNLOAD_STRIDE};
 use crate::images::image_address;
+use plcr_machine::MOST_NODES;
 use std::alloc::{AllocError, Global};
 
 /// The bytes of the script for so many images.
@@ -15,11 +16,29 @@ pub fn script_bytes(alloc: Global, images: u32) -> Result<Vec<u8>, AllocError>
     ensures { IfOk result (λ bytes. bytes.items ≡ script_of images) }
 {
     let mut bytes = Vec::new(alloc);
-    bytes.extend_from_slice(b"table 4096 1\n")?;
+    add_sizes(alloc, &mut bytes)?;
     add_loads(alloc, &mut bytes, images)?;
     add_unloads(alloc, &mut bytes, images)?;
-    bytes.extend_from_slice(b"report 0 made.plcrash\n")?;
+    add_report(&mut bytes)?;
     Ok(bytes)
+}
+
+/// Adds the line of the sizes.
+fn add_sizes(alloc: Global, bytes: &mut Vec<u8>) -> Result<(), AllocError>
+    ensures { OnOk result (bytes.new.items ≡ bytes.old.items ++ sizes_line) }
+{
+    let nodes = MOST_NODES;
+    let line = format!(in alloc; "table {nodes} 1\n")?;
+    bytes.extend_from_slice(line.as_bytes())
+}
+
+/// Adds the line of the report.
+fn add_report(bytes: &mut Vec<u8>) -> Result<(), AllocError>
+    ensures { OnOk result (bytes.new.items ≡ bytes.old.items ++ report_line) }
+{
+    bytes.extend_from_slice(b"report 0 ")?;
+    bytes.extend_from_slice(MADE_REPORT.as_bytes())?;
+    bytes.extend_from_slice(b"\n")
 }
 
 /// Adds the line of each load.

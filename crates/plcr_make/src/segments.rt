@@ -2,9 +2,10 @@
 ghost use Rattle.std.specs.Prelude.{◌≡◌, ◌++◌, OnOk};
 ghost use Rattle.plcr_make.specs.Segments.{header, segment_command};
 
-use crate::constants::CPU_SUBTYPE_X86_64_ALL;
 use crate::numbers::{add_u32s, add_u64s};
-use plcr_loader::{CPU_TYPE_X86_64, LC_SEGMENT_64, MH_MAGIC_64, segment_command_64};
+use plcr_loader::{
+    CPU_SUBTYPE_X86_64_ALL, CPU_TYPE_X86_64, LC_SEGMENT_64, MH_MAGIC_64, segment_command_64,
+};
 use std::alloc::AllocError;
 
 /// A segment without sections: its name, where it stands in memory and in the file, and what its memory may be used

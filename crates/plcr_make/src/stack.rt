@@ -6,12 +6,13 @@ ghost use Rattle.plcr_make.specs.declared.constants.TheConstants.{MOST_IMAGES, T
 
 use crate::constants::{
     CODE_OFFSET, FIRST_STACK, FRAME_SIZE, FRAMES, STACK_SIZE, THREAD_COMMAND_SIZE, THREAD_STRIDE,
-    THREADS, VM_PROT_READ_WRITE, x86_THREAD_STATE64, x86_THREAD_STATE64_COUNT,
+    THREADS, VM_PROT_READ_WRITE,
 };
 use crate::images::image_address;
 use crate::numbers::{add_u32s, add_u64s};
 use crate::segments::Segment;
 use plcr_loader::LC_THREAD;
+use plcr_regs::{x86_THREAD_STATE64, x86_THREAD_STATE64_COUNT};
 use std::alloc::AllocError;
 
 /// The address of a thread's stack.
