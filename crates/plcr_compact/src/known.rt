@@ -114,12 +114,14 @@ fn keep_page(memory: &Memory, slots: &mut [Option<KnownPage>; KNOWN_PAGES], know
     slots[slot] = Some(known);
 }
 
+#[inline(always)]
 fn no_indexes(memory: &Memory) -> [Option<KnownIndex>; KNOWN_INDEXES]
     ensures { All (IndexHolds memory.now) result }
 {
     [None; KNOWN_INDEXES]
 }
 
+#[inline(always)]
 fn no_pages(memory: &Memory) -> [Option<KnownPage>; KNOWN_PAGES]
     ensures { All (PageHolds memory.now) result }
 {
@@ -149,6 +151,7 @@ impl<'m> Model for KnownSections<'m> {
 
 impl<'m> KnownSections<'m> {
     /// The sections of a memory, of which nothing was read.
+    #[inline(always)]
     pub fn new(memory: &'m Memory) -> KnownSections<'m>
         ensures { result ≡ memory.now }
     {

@@ -47,6 +47,7 @@ impl Cursor {
     /// A walk over the frames of a thread in this state, under which so many low bits of an address
     /// of code count.
     #[tactic(auto, unfolding(crate::specs::Frames::frames_of))]
+    #[inline(always)]
     pub fn new(state: &Registers, bits: u8) -> Cursor
         requires known { IsSome (register_at state.now (pc_place state.now.arch)) }
         requires bits { (32 ≤ bits) × (bits ≤ 64) }

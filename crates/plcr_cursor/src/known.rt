@@ -54,6 +54,7 @@ fn keep(
     slots[slot % KNOWN_IMAGES] = Some(known);
 }
 
+#[inline(always)]
 fn no_images(memory: &Memory) -> [Option<KnownImage>; KNOWN_IMAGES]
     ensures { All (Holds memory.now) result }
 {
@@ -84,6 +85,7 @@ impl<'m> Model for Known<'m> {
 
 impl<'m> Known<'m> {
     /// A memory of which nothing was looked for.
+    #[inline(always)]
     pub fn new(memory: &'m Memory) -> Known<'m>
         ensures { result ≡ memory.now }
     {

@@ -33,6 +33,7 @@ impl Model for Turning {
 
 impl Turning {
     /// This frame.
+    #[inline(always)]
     pub fn at(frame: &Frame) -> Turning
         ensures { result ≡ frame.now }
     {

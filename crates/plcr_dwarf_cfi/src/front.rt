@@ -28,6 +28,7 @@ pub struct Run {
 
 impl Run {
     /// No entries, at a place.
+    #[inline(always)]
     pub fn at(place: u64) -> Run
         ensures { result ≡ run_at place }
     {

@@ -64,12 +64,14 @@ fn front_slot(part: Part) -> usize
 }
 
 #[tactic(auto, using(crate::proofs::Running::run_empty))]
+#[inline(always)]
 fn no_runs(memory: &Memory, part: Part) -> [Run; FRONT_RUNS]
     ensures { All (IsRun (section_at memory.now part.at part.size)) result }
 {
     [Run::at(0); FRONT_RUNS]
 }
 
+#[inline(always)]
 fn no_front(memory: &Memory, part: Part) -> KnownFront
     ensures { FrontHolds memory.now result }
 {
@@ -77,6 +79,7 @@ fn no_front(memory: &Memory, part: Part) -> KnownFront
     KnownFront { part, runs }
 }
 
+#[inline(always)]
 fn no_fronts(memory: &Memory) -> [KnownFront; KNOWN_FRONTS]
     ensures { All (FrontHolds memory.now) result }
 {
@@ -170,6 +173,7 @@ fn keep(
     slots[slot] = Some(known);
 }
 
+#[inline(always)]
 fn no_descriptions(memory: &Memory) -> [Option<KnownDescription>; KNOWN_DESCRIPTIONS]
     ensures { All (Holds memory.now) result }
 {
@@ -199,6 +203,7 @@ impl<'m> Model for KnownDescriptions<'m> {
 
 impl<'m> KnownDescriptions<'m> {
     /// A memory in whose sections nothing was looked for.
+    #[inline(always)]
     pub fn new(memory: &'m Memory) -> KnownDescriptions<'m>
         ensures { result ≡ memory.now }
     {

@@ -73,6 +73,7 @@ impl Row {
     ghost use Rattle.plcr_dwarf_cfi.specs.declared.limits.TheConstants.{MOST_RULES};
 
     /// A row without rules.
+    #[inline(always)]
     pub fn empty() -> Row
         ensures { result ≡ no_rules }
     {

@@ -38,6 +38,7 @@ impl RowTable {
     ghost use Rattle.plcr_dwarf_cfi.specs.Rows.{applied, at_first, begun, created, is_past, moved, remembered, taken_back, with_definition, with_ruling};
 
     /// Room for a table.
+    #[inline(always)]
     pub fn new() -> RowTable
         ensures { result ≡ at_first 0 }
     {

@@ -21,6 +21,7 @@ pub(crate) struct Room {
 }
 
 impl Room {
+    #[inline(always)]
     pub(crate) fn new() -> Room {
         Room {
             rows: ArrayVec::new(),

@@ -87,6 +87,7 @@ fn store_word(books: &mut Books, nodes: &Nodes, header: u64, name: &[u8], made: 
 }
 
 // Any step of a load but the count.
+#[inline(always)]
 fn load_step(books: &mut Books, nodes: &Nodes, header: u64, name: &[u8], load: u32, made: u32)
     requires table { books.old.owner.table ≡ nodes.now }
     requires making { IsMaking books.old (Task.Load header) name.now load made }
@@ -101,6 +102,7 @@ fn load_step(books: &mut Books, nodes: &Nodes, header: u64, name: &[u8], load: u
 }
 
 // The step of an unload before the count.
+#[inline(always)]
 fn unload_step(
     books: &mut Books,
     nodes: &Nodes,
@@ -119,6 +121,7 @@ fn unload_step(
 }
 
 // All steps of a load before the change itself, and how many they are.
+#[inline(always)]
 fn store_load(books: &mut Books, nodes: &Nodes, header: u64, name: &[u8], load: u32) -> u32
     requires table { books.old.owner.table ≡ nodes.now }
     requires making { IsMaking books.old (Task.Load header) name.now load 0 }
@@ -132,6 +135,7 @@ fn store_load(books: &mut Books, nodes: &Nodes, header: u64, name: &[u8], load: 
 }
 
 // The same of any change: an unload has no such steps.
+#[inline(always)]
 fn store_words(books: &mut Books, nodes: &Nodes, task: Task, name: &[u8], load: u32) -> u32
     requires table { books.old.owner.table ≡ nodes.now }
     requires making { IsMaking books.old task name.now load 0 }
@@ -147,6 +151,7 @@ fn store_words(books: &mut Books, nodes: &Nodes, task: Task, name: &[u8], load: 
 }
 
 // Any step of a change but the count.
+#[inline(always)]
 fn make_step(books: &mut Books, nodes: &Nodes, task: Task, name: &[u8], load: u32, made: u32)
     requires table { books.old.owner.table ≡ nodes.now }
     requires making { IsMaking books.old task name.now load made }
@@ -189,6 +194,7 @@ impl Change {
     }
 
     /// Makes one step. The last gives the writer back.
+    #[inline(always)]
     pub fn step(mut self, list: &ImageList) -> Progress
         requires table { self.writer.table ≡ list.now }
         ensures step { IsStepped self result }
@@ -206,6 +212,7 @@ impl Change {
     }
 
     /// Makes all its steps.
+    #[inline(always)]
     pub(crate) fn finish(self, list: &ImageList) -> Writer
         requires table { self.writer.table ≡ list.now }
         requires begun { self.made ≡ 0 }
@@ -219,6 +226,7 @@ impl Change {
     }
 
     // All steps before the change itself.
+    #[inline(always)]
     fn store_all(&mut self, list: &ImageList)
         requires table { self.old.writer.table ≡ list.now }
         requires begun { self.old.made ≡ 0 }
@@ -236,6 +244,7 @@ impl Change {
     }
 
     // The last step, which counts the change.
+    #[inline(always)]
     fn count(self, list: &ImageList) -> Writer
         requires table { self.writer.table ≡ list.now }
         requires last { self.made ≡ change_step self.doing }
@@ -256,6 +265,7 @@ impl Change {
     }
 
     // Any step before that.
+    #[inline(always)]
     fn advance(&mut self, list: &ImageList)
         requires table { self.old.writer.table ≡ list.now }
         requires early { self.old.made < change_step self.old.doing }

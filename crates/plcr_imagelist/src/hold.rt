@@ -5,7 +5,6 @@ ghost use Rattle.plcr_imagelist.specs.Holds.{IsHeld, IsNext, IsReleased, IsWalki
 ghost use Rattle.plcr_imagelist.specs.Carrying.{OnlySees};
 
 use crate::books::last_of;
-use crate::index::open_spots;
 use crate::list::ImageList;
 use plcr_macho::Spot;
 use plcr_nodes::NodePass;
@@ -23,7 +22,7 @@ pub struct Pass {
 }
 
 impl Model for Pass {
-    ghost use Rattle.std.specs.Prelude.{◌≤◌, vec_capacity, vec_len};
+    ghost use Rattle.std.specs.Prelude.{◌≤◌, vec_capacity};
     ghost use Rattle.plcr_imagelist.specs.Holds.{WalkerState};
     ghost use Rattle.plcr_imagelist.specs.inner.Holding.{walker_state, IsOut};
 
@@ -31,7 +30,7 @@ impl Model for Pass {
 
     ghost view = { λ p. walker_state p.pass };
 
-    ghost invariant = { λ p. IsOut (walker_state p.pass) × (p.pass.nodes ≤ vec_capacity p.met) × (p.pass.nodes ≤ vec_len p.spots) };
+    ghost invariant = { λ p. IsOut (walker_state p.pass) × (p.pass.nodes ≤ vec_capacity p.met) × (p.pass.nodes ≤ vec_capacity p.spots) };
 }
 
 /// A pass that is in, with its walk. While it is in, no node that it may reach is loaded again, so it has to come out by
@@ -50,7 +49,7 @@ pub struct Hold {
 }
 
 impl Model for Hold {
-    ghost use Rattle.std.specs.Prelude.{◌≤◌, vec_capacity, vec_len};
+    ghost use Rattle.std.specs.Prelude.{◌≤◌, vec_capacity};
     ghost use Rattle.plcr_macho.specs.Spots.{IsSettled};
     ghost use Rattle.plcr_imagelist.specs.Holds.{HoldState};
     ghost use Rattle.plcr_imagelist.specs.inner.Indexing.{extents_in};
@@ -60,7 +59,7 @@ impl Model for Hold {
 
     ghost view = { λ h. record { walker = walker_state h.pass; met = images_on h.met.items h.pass.history; ended = h.ended; extents = extents_in h.count h.spots.items h.filled } };
 
-    ghost invariant = { λ h. IsHolding h.pass h.met.items h.ended h.low × (h.pass.nodes ≤ vec_capacity h.met) × (h.pass.nodes ≤ vec_len h.spots) × IsSettled h.count h.spots.items h.filled };
+    ghost invariant = { λ h. IsHolding h.pass h.met.items h.ended h.low × (h.pass.nodes ≤ vec_capacity h.met) × (h.pass.nodes ≤ vec_capacity h.spots) × IsSettled h.count h.spots.items h.filled };
 }
 
 /// How many changes were counted before a hold's enter, and before its leave.
@@ -77,7 +76,7 @@ impl Pass {
         ensures { IfOk result (λ p. p ≡ walker_state pass) }
     {
         let met = Vec::with_capacity(alloc, nodes as usize)?;
-        let spots = open_spots(alloc, nodes)?;
+        let spots = Vec::with_capacity(alloc, nodes as usize)?;
         Ok(Pass { pass, met, spots })
     }
 

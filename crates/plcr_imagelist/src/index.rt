@@ -1,5 +1,5 @@
 //! The index of the images that a hold has met, in the room of its pass.
-ghost use Rattle.std.specs.Prelude.{◌≡◌, ◌≤◌, length, vec_len, IfOk};
+ghost use Rattle.std.specs.Prelude.{◌≡◌, ◌≤◌, length, vec_len, vec_capacity};
 ghost use Rattle.plcr_macho.specs.Index.{index_of, least_over};
 ghost use Rattle.plcr_macho.specs.Spots.{IsIndexOf};
 ghost use Rattle.plcr_imagelist.specs.inner.Indexing.{met_on, AreHeld, StaysHeld};
@@ -11,19 +11,25 @@ use plcr_macho::{Spot, locate_in, put_spot, settle};
 use plcr_memory::Memory;
 use plcr_nodes::{NodePass, Nodes};
 use plcr_regs::Arch;
-use std::alloc::{AllocError, Global};
 
-/// Room for one spot a node.
-pub(crate) fn open_spots(alloc: Global, nodes: u32) -> Result<Vec<Spot>, AllocError>
-    ensures { IfOk result (λ spots. nodes ≤ vec_len spots) }
+// Makes a room at least as long as this. It has the capacity: pages of it that no index ever needs stay untouched.
+fn lengthen(spots: &mut Vec<Spot>, count: usize)
+    requires { count ≤ vec_capacity spots.old }
+    ensures long { count ≤ vec_len spots.new }
+    ensures room { vec_capacity spots.old ≤ vec_capacity spots.new }
 {
-    let spot = Spot {
-        start: 0,
-        size: 0,
-        reach: 0,
-        position: 0,
-    };
-    vec![in alloc; spot; nodes as usize]
+    if spots.len() < count {
+        let spot = Spot {
+            start: 0,
+            size: 0,
+            reach: 0,
+            position: 0,
+        };
+        match spots.resize(count, spot) {
+            Ok(()) => {}
+            Err(_) => unreachable!(),
+        }
+    }
 }
 
 // Reads the header of each image that was met, and makes the images' index in a room. Gives how many spots it has.
@@ -60,6 +66,7 @@ impl Hold {
         ensures same { IsSameWalk self.old self.new }
     {
         let count = self.met.len();
+        lengthen(&mut self.spots, count);
         let met = self.met.as_slice();
         let room = self.spots.as_mut_slice();
         self.filled = index_met(&mut self.pass, met, &list.nodes, room, memory, arch);

@@ -22,7 +22,7 @@ pub struct KeptHold {
 }
 
 impl Model for KeptHold {
-    ghost use Rattle.std.specs.Prelude.{◌≤◌, vec_capacity, vec_len};
+    ghost use Rattle.std.specs.Prelude.{◌≤◌, vec_capacity};
     ghost use Rattle.plcr_macho.specs.Spots.{IsSettled};
     ghost use Rattle.plcr_imagelist.specs.Holds.{HoldState};
     ghost use Rattle.plcr_imagelist.specs.inner.Indexing.{extents_in};
@@ -32,7 +32,7 @@ impl Model for KeptHold {
 
     ghost view = { λ h. record { walker = walker_state h.pass; met = images_on h.met.items h.pass.history; ended = h.ended; extents = extents_in h.count h.spots.items h.filled } };
 
-    ghost invariant = { λ h. IsHolding h.pass h.met.items h.ended h.low × (h.pass.nodes ≤ vec_capacity h.met) × (h.pass.nodes ≤ vec_len h.spots) × IsSettled h.count h.spots.items h.filled };
+    ghost invariant = { λ h. IsHolding h.pass h.met.items h.ended h.low × (h.pass.nodes ≤ vec_capacity h.met) × (h.pass.nodes ≤ vec_capacity h.spots) × IsSettled h.count h.spots.items h.filled };
 }
 
 impl Hold {

@@ -47,6 +47,7 @@ impl Model for Writer {
 }
 
 // A load in a free node.
+#[inline(always)]
 fn start_load(books: Books, kept: Vec<u8>, header: u64, name: &[u8]) -> Change
     requires rest { IsAtRest (writer_state books.owner) }
     requires fresh { changes books.owner.history < MOST_CHANGES }
@@ -72,6 +73,7 @@ fn start_load(books: Books, kept: Vec<u8>, header: u64, name: &[u8]) -> Change
 }
 
 // An unload of an image of the list.
+#[inline(always)]
 fn start_unload(books: Books, kept: Vec<u8>, at: usize, image: Image) -> Change
     requires rest { IsAtRest (writer_state books.owner) }
     requires fresh { changes books.owner.history < MOST_CHANGES }
@@ -110,6 +112,7 @@ impl Writer {
     /// Begins a load on a free node. No step is made yet and nothing stored, but where no node is free it looks once at
     /// each pass, in the order of their numbers. `Worn` comes exactly where 4,294,967,295 changes were made, then
     /// `NameTooLong` exactly above 1,024 bytes, and `Full` exactly where no node is free after these looks.
+    #[inline(always)]
     pub fn begin_load(
         self,
         list: &ImageList,
@@ -150,6 +153,7 @@ impl Writer {
 
     /// Begins an unload of the first image with the header. `Worn` comes exactly where 4,294,967,295 changes were made, and
     /// otherwise `NotLoaded` exactly where no image of the list has the header.
+    #[inline(always)]
     pub fn begin_unload(
         self,
         list: &ImageList,
@@ -182,6 +186,7 @@ impl Writer {
     }
 
     /// Loads an image: makes all steps. Gives the number of the load.
+    #[inline(always)]
     pub fn load(
         self,
         list: &ImageList,
@@ -208,6 +213,7 @@ impl Writer {
     }
 
     /// Unloads the first image with the header: makes all steps. Gives the number of its load.
+    #[inline(always)]
     pub fn unload(self, list: &ImageList, header: u64) -> (Writer, Result<u32, UnloadRefused>)
         requires { self.table ≡ list.now }
         ensures worn { IsWorn self → (result.0 ≡ self) × (result.1 ≡ Err (UnloadRefused.Worn MOST_CHANGES)) }

@@ -1,6 +1,6 @@
 //! The constants and structures of Apple's loader.h, nlist.h and machine.h that the crates of the
-//! workspace read or write, and the list of load commands that Mach-O core files and images share, over any
-//! source of bytes.
+//! workspace read or write, and the list of load commands that Mach-O core files and images share,
+//! over any source of bytes.
 #![tactic(auto)]
 
 mod constants;

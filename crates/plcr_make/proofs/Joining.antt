@@ -1,6 +1,5 @@
 -- Lists that are joined piece by piece.
-use Rattle.std.proofs.Common.{◌≡◌, ℕ, ◌+◌, ◌≤◌, List, [], ◌++◌, Result, Ok, Err, refl, sym, ap, ◌∙◌, append_assoc, add-one, subst, arith}
-use Rattle.std.specs.Prelude.{OnOk}
+use Rattle.std.proofs.Common.{◌≡◌, ℕ, ◌+◌, ◌≤◌, List, [], ◌++◌, refl, sym, ap, ◌∙◌, append_assoc, add-one, subst, arith}
 use Rattle.std.proofs.lemmas.List.{append-nil}
 use Rattle.plcr_make.specs.Numbers.{joined}
 
@@ -18,15 +17,8 @@ joined_on list k start old new so_far more = rw (more, so_far, add-one k) (appen
 pub joined_all : (list : ℕ → List ℕ) (k n : ℕ) (start now : List ℕ) → k ≤ n → n ≤ k → now ≡ start ++ joined list k → now ≡ start ++ joined list n
 joined_all list k n start now most least so_far = let same : k ≡ n = omega (arith, most, least) in subst (λ (m : ℕ). now ≡ start ++ joined list m) same so_far
 
--- what follows from an answer that is `Ok`
-pub at_ok : {A E P Q : Type 0} (r : Result A E) → OnOk r P → (P → Q) → OnOk r Q
-at_ok (Ok x) p f = f p
-at_ok (Err e) p f = tt
-
-pub three_on : (start a b c : List ℕ) → ((start ++ a) ++ b) ++ c ≡ start ++ (a ++ (b ++ c))
-three_on start a b c = rw (append_assoc (start ++ a) b c, append_assoc start a (b ++ c)) refl
-
-pub five_on : (start a b c d e : List ℕ) → ((((start ++ a) ++ b) ++ c) ++ d) ++ e ≡ start ++ (a ++ (b ++ (c ++ (d ++ e))))
+-- five pieces behind a start
+five_on : (start a b c d e : List ℕ) → ((((start ++ a) ++ b) ++ c) ++ d) ++ e ≡ start ++ (a ++ (b ++ (c ++ (d ++ e))))
 five_on start a b c d e = rw (append_assoc (((start ++ a) ++ b) ++ c) d e, append_assoc ((start ++ a) ++ b) c (d ++ e), append_assoc (start ++ a) b (c ++ (d ++ e)), append_assoc start a (b ++ (c ++ (d ++ e)))) refl
 
 -- six pieces one behind the other

@@ -4,10 +4,15 @@ ghost use Rattle.plcr_make.specs.Images as images;
 ghost use Rattle.plcr_make.specs.Images.{image_bytes};
 
 use crate::constants::{FIRST_IMAGE, IMAGE_BYTES, IMAGE_SIZE, VM_PROT_READ_EXECUTE};
-use crate::numbers::add_u32s;
-use crate::segments::{Segment, add_header, add_segment};
+use crate::numbers::push_u32s;
+use crate::segments::{Segment, push_header, push_segment};
+use arrayvec::ArrayVec;
+use plcr_io::add_bytes;
 use plcr_loader::{LC_UUID, MH_DYLIB, SEG_TEXT, segment_command_64, uuid_command};
 use std::alloc::AllocError;
+
+/// Room for the bytes of an image.
+const IMAGE_ROOM: usize = IMAGE_BYTES as usize;
 
 /// The address of an image.
 pub(crate) fn image_address(k: u32) -> u64
@@ -49,11 +54,20 @@ pub(crate) fn image_segment(start: u64, k: u32) -> Segment
 pub(crate) fn add_image(bytes: &mut Vec<u8>, k: u32) -> Result<(), AllocError>
     ensures { OnOk result (bytes.new.items ≡ bytes.old.items ++ image_bytes k) }
 {
+    let image = image_of(k);
+    bytes.extend_from_slice(image.as_slice())
+}
+
+/// The bytes of an image.
+fn image_of(k: u32) -> ArrayVec<u8, IMAGE_ROOM>
+    ensures { result.items ≡ image_bytes k }
+{
     let size = segment_command_64::LENGTH + uuid_command::LENGTH;
-    add_header(bytes, MH_DYLIB, 2, size as u32)?;
-    add_segment(bytes, &text_segment(k))?;
-    add_u32s(bytes, &[LC_UUID, uuid_command::LENGTH as u32])?;
-    bytes.extend_from_slice(&[0; 12])?;
-    bytes.extend_from_slice(&k.to_be_bytes())?;
-    Ok(())
+    let mut image = ArrayVec::new();
+    push_header(&mut image, MH_DYLIB, 2, size as u32);
+    push_segment(&mut image, &text_segment(k));
+    push_u32s(&mut image, &[LC_UUID, uuid_command::LENGTH as u32]);
+    add_bytes(&mut image, &[0; 12]);
+    add_bytes(&mut image, &k.to_be_bytes());
+    image
 }

@@ -9,11 +9,15 @@ use crate::constants::{
     THREADS, VM_PROT_READ_WRITE,
 };
 use crate::images::image_address;
-use crate::numbers::{add_u32s, add_u64s};
+use crate::numbers::{push_u32s, push_u64s};
 use crate::segments::Segment;
+use arrayvec::ArrayVec;
 use plcr_loader::LC_THREAD;
 use plcr_regs::{x86_THREAD_STATE64, x86_THREAD_STATE64_COUNT};
 use std::alloc::AllocError;
+
+/// Room for the command of a thread.
+const COMMAND_ROOM: usize = THREAD_COMMAND_SIZE as usize;
 
 /// The address of a thread's stack.
 fn stack_address(t: u32) -> u64
@@ -45,11 +49,13 @@ pub(crate) fn add_thread(bytes: &mut Vec<u8>, images: u32, t: u32) -> Result<(),
         x86_THREAD_STATE64,
         x86_THREAD_STATE64_COUNT,
     ];
-    add_u32s(bytes, &head)?;
     let stack = stack_address(t);
     let code = code_address(images, t, 0);
-    add_u64s(bytes, &[0, 0, 0, 0, 0, 0, stack, stack])?;
-    add_u64s(bytes, &[0, 0, 0, 0, 0, 0, 0, 0, code, 0, 0, 0, 0])
+    let mut command: ArrayVec<u8, COMMAND_ROOM> = ArrayVec::new();
+    push_u32s(&mut command, &head);
+    push_u64s(&mut command, &[0, 0, 0, 0, 0, 0, stack, stack]);
+    push_u64s(&mut command, &[0, 0, 0, 0, 0, 0, 0, 0, code, 0, 0, 0, 0]);
+    bytes.extend_from_slice(command.as_slice())
 }
 
 /// The word that a frame has first.

@@ -14,6 +14,7 @@ use plcr_imagelist::{Change, ImageList, LoadRefused, Progress, UnloadRefused, Wr
 use plcr_script::{Outcome, Process};
 
 /// Loads an image, unless that is refused: all steps of it.
+#[inline(always)]
 pub(crate) fn load<P: Process>(
     process: &P,
     list: &ImageList,
@@ -38,6 +39,7 @@ pub(crate) fn load<P: Process>(
 }
 
 /// Unloads the first image with the header, unless that is refused: all steps of it.
+#[inline(always)]
 pub(crate) fn unload(list: &ImageList, writing: Writing, header: u64) -> (Writing, Outcome<'static>)
     requires list { (writer_of writing).table ≡ list.now }
     ensures turns { WriterTurns list.now writing (λ nodes passes. unload_turn made_whole header) result.0 result.1 }
@@ -53,6 +55,7 @@ pub(crate) fn unload(list: &ImageList, writing: Writing, header: u64) -> (Writin
 }
 
 /// Begins a load, unless that is refused.
+#[inline(always)]
 pub(crate) fn begin_load<P: Process>(
     process: &P,
     list: &ImageList,
@@ -77,6 +80,7 @@ pub(crate) fn begin_load<P: Process>(
 }
 
 /// Begins an unload, unless that is refused.
+#[inline(always)]
 pub(crate) fn begin_unload(
     list: &ImageList,
     writing: Writing,
@@ -96,6 +100,7 @@ pub(crate) fn begin_unload(
 }
 
 /// At most so many steps of the open change.
+#[inline(always)]
 pub(crate) fn step(list: &ImageList, writing: Writing, most: u32) -> (Writing, Outcome<'static>)
     requires list { (writer_of writing).table ≡ list.now }
     ensures turns { WriterTurns list.now writing (λ nodes passes. where_open (step_turn most)) result.0 result.1 }
@@ -118,6 +123,7 @@ pub(crate) fn step(list: &ImageList, writing: Writing, most: u32) -> (Writing, O
 }
 
 /// The rest of the open change's steps.
+#[inline(always)]
 pub(crate) fn end(list: &ImageList, writing: Writing) -> (Writing, Outcome<'static>)
     requires list { (writer_of writing).table ≡ list.now }
     ensures turns { WriterTurns list.now writing (λ nodes passes. where_open stepped_through) result.0 result.1 }
@@ -135,6 +141,7 @@ pub(crate) fn end(list: &ImageList, writing: Writing) -> (Writing, Outcome<'stat
 }
 
 /// At most so many steps.
+#[inline(always)]
 fn step_on(list: &ImageList, change: Change, most: u32) -> Progress
     requires list { change.writer.table ≡ list.now }
     ensures stepped { IsSteppedOn change most result }
@@ -152,6 +159,7 @@ fn step_on(list: &ImageList, change: Change, most: u32) -> Progress
 }
 
 /// All steps that are left.
+#[inline(always)]
 pub(crate) fn finish(list: &ImageList, change: Change) -> Writer
     requires list { change.writer.table ≡ list.now }
     ensures stepped { IsSteppedThrough change result }
@@ -168,6 +176,7 @@ pub(crate) fn finish(list: &ImageList, change: Change) -> Writer
 }
 
 /// A change that was begun.
+#[inline(always)]
 fn begun(change: Change) -> (Writing, Outcome<'static>)
     ensures change { result.0 ≡ Writing.Changing change }
     ensures outcome { result.1 ≡ Outcome.Begun (steps_of change.doing) }

@@ -35,6 +35,7 @@ pub enum Stop {
 }
 
 /// Takes the step of a statement.
+#[inline(always)]
 pub(crate) fn take_step<P: Process, D: Desk, L: Sink>(
     process: &P,
     context: &Context,
@@ -93,6 +94,7 @@ pub(crate) fn take_step<P: Process, D: Desk, L: Sink>(
 }
 
 /// Takes the step of a statement of the writer, but for its line.
+#[inline(always)]
 fn change_list<P: Process>(
     process: &P,
     statement: &Statement,
