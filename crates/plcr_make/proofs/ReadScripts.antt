@@ -4,6 +4,7 @@ use Rattle.std.specs.Prelude.{codes, decimal, ◌==◌, if◌then◌else◌}
 use Rattle.std.proofs.lemmas.List.{append-nil}
 use Rattle.std.proofs.lemmas.List.Elements.{filter_map-append}
 use Rattle.std.proofs.lemmas.Bool.{lt-ltb}
+use Rattle.std.specs.Fmt.{digits}
 use Rattle.plcr_base.specs.Chains.{◌>>=◌}
 use Rattle.plcr_machine.specs.declared.limits.TheConstants.{MOST_NODES}
 use Rattle.plcr_script.specs.declared.modes.Mode.TheVariants.{Single}
@@ -19,10 +20,10 @@ use Rattle.plcr_script.specs.Sayings.{Sizes, States, says_nothing, saying_in, sa
 use Rattle.plcr_script.specs.Reading.{DraftValue, draft_value, no_lines, file_of, files_of, is_named, is_out_of_place, with_line, with_lines, script_in}
 use Rattle.plcr_script.proofs.Naming.{files_more}
 use Rattle.plcr_script.proofs.Steps.{placed, goes_on, ends}
-use Rattle.plcr_make.specs.declared.constants.TheConstants.{MADE_REPORT, MOST_IMAGES, UNLOAD_STRIDE}
+use Rattle.plcr_make.specs.declared.constants.TheConstants.{MOST_IMAGES, UNLOAD_STRIDE}
 use Rattle.plcr_make.specs.Numbers.{joined}
 use Rattle.plcr_make.specs.Images.{image_address}
-use Rattle.plcr_make.specs.Scripts.{hexadecimal, sizes_line, load_line, unload_line, unload_lines, report_line, script_of}
+use Rattle.plcr_make.specs.Scripts.{hexadecimal, sizes_line, load_line, unload_line, unload_lines, report_name, report_line, script_of}
 use Rattle.plcr_make.specs.MadeScripts.{image_name, loads, unloads, made_script, MadeScriptsAreRead}
 use Rattle.plcr_make.proofs.Texts.{IsFree, free-append, free_by, line_first, first_of, one_part, hex_read, hex_free, decimal_free}
 
@@ -167,23 +168,23 @@ no_files : (images : ℕ) → files_of (loads images ++ unloads images images) �
 no_files images = filter_map-append (λ x. file_of x.statement) (loads images) (unloads images images) ∙ ap (λ (fs : List (List ℕ)). fs ++ files_of (unloads images images)) (loads_files images) ∙ unloads_files images images
 
 -- so the script writes one file
-pub made_script_files : (images : ℕ) → files_of (made_script images).statements ≡ MADE_REPORT ∷ []
+pub made_script_files : (images : ℕ) → files_of (made_script images).statements ≡ report_name ∷ []
 made_script_files images =
-    let last : NumberedStatement = record { line = images + 2 + length (unloads images images); statement = Report 0 MADE_REPORT } in
-    ap files_of (sym (append_assoc (loads images) (unloads images images) (last ∷ []))) ∙ files_more (loads images ++ unloads images images) last ∙ ap (λ (fs : List (List ℕ)). fs ++ MADE_REPORT ∷ []) (no_files images)
+    let last : NumberedStatement = record { line = images + 2 + length (unloads images images); statement = Report 0 report_name } in
+    ap files_of (sym (append_assoc (loads images) (unloads images images) (last ∷ []))) ∙ files_more (loads images ++ unloads images images) last ∙ ap (λ (fs : List (List ℕ)). fs ++ report_name ∷ []) (no_files images)
 
 -- the report
 abbrev report_text : List ℕ
-report_text = codes "report 0 " ++ MADE_REPORT
+report_text = codes "report 0 " ++ report_name
 
-report_said : saying_in 1 report_text ≡ Ok (States (Report 0 MADE_REPORT))
+report_said : saying_in 1 report_text ≡ Ok (States (Report 0 report_name))
 unfolding saying_of statement_in report_in first_word
 report_said = refl
 
 report_free : IsFree 10 report_text
 report_free = free_by 10 report_text refl
 
-report_placed : (images : ℕ) → is_out_of_place (so_far (loads images ++ unloads images images)) (States (Report 0 MADE_REPORT)) ≡ false
+report_placed : (images : ℕ) → is_out_of_place (so_far (loads images ++ unloads images images)) (States (Report 0 report_name)) ≡ false
 unfolding is_named
 report_placed images = rw (no_files images) refl
 
@@ -192,20 +193,21 @@ abbrev sizes_text : List ℕ
 sizes_text = codes "table " ++ (decimal MOST_NODES ++ codes " 1")
 
 sizes_said : saying_in 16 sizes_text ≡ Ok (Sizes MOST_NODES 1)
-unfolding saying_of table_in first_word
+unfolding saying_of table_in first_word digits
 sizes_said = refl
 
 sizes_free : IsFree 10 sizes_text
+unfolding digits
 sizes_free = free_by 10 sizes_text refl
 
 -- the whole script
 pub made_script_read : MadeScriptsAreRead
-unfolding script_in script_of
+unfolding script_in script_of digits joined
 made_script_read images few =
     let report : List ℕ = report_line in
     let statements = loads images ++ unloads images images in
     let n = images + 2 + length (unloads images images) in
-    let said : Statement = Report 0 MADE_REPORT in
+    let said : Statement = Report 0 report_name in
     let one : NumberedStatement = record { line = n; statement = said } in
     let first : with_lines (no_lines Single []) 1 (lines (sizes_line ++ (joined load_line images ++ (joined unload_lines images ++ report)))) ≡ with_lines (so_far []) 2 (lines (joined load_line images ++ (joined unload_lines images ++ report))) =
     goes_on (no_lines Single []) (so_far []) 1 (sizes_text ++ 10 ∷ (joined load_line images ++ (joined unload_lines images ++ report))) sizes_text (joined load_line images ++ (joined unload_lines images ++ report))

@@ -7,9 +7,9 @@ use Rattle.plcr_script.specs.declared.statements.NumberedStatement.{NumberedStat
 use Rattle.plcr_script.specs.Values.{default_values}
 use Rattle.plcr_script.specs.Scripts.{ScriptValue, script_value}
 use Rattle.plcr_script.specs.Reading.{script_in}
-use Rattle.plcr_make.specs.declared.constants.TheConstants.{MADE_REPORT, MOST_IMAGES, UNLOAD_STRIDE}
+use Rattle.plcr_make.specs.declared.constants.TheConstants.{MOST_IMAGES, UNLOAD_STRIDE}
 use Rattle.plcr_make.specs.Images.{image_address}
-use Rattle.plcr_make.specs.Scripts.{script_of}
+use Rattle.plcr_make.specs.Scripts.{report_name, script_of}
 
 -- the name of an image
 abbrev pub image_name : ℕ → List ℕ
@@ -30,7 +30,7 @@ unloads images (suc k) =
 -- the script: the loads, the unloads and one report, on a list of the most nodes with one pass
 abbrev pub made_script : ℕ → ScriptValue
 made_script images = script_value
-    (loads images ++ (unloads images images ++ record { line = images + 2 + length (unloads images images); statement = Report 0 MADE_REPORT } ∷ []))
+    (loads images ++ (unloads images images ++ record { line = images + 2 + length (unloads images images); statement = Report 0 report_name } ∷ []))
     MOST_NODES 1 default_values
 
 -- the bytes that are made are read as this script

@@ -25,9 +25,13 @@ unload_line k = codes "unload " ++ (hexadecimal (image_address k) ++ codes "\n")
 abbrev pub unload_lines : ℕ → List ℕ
 unload_lines k = if k % UNLOAD_STRIDE == 0 then unload_line k else []
 
+-- the name of the report's file
+abbrev pub report_name : List ℕ
+report_name = MADE_REPORT.now
+
 -- the line of the report
 abbrev pub report_line : List ℕ
-report_line = codes "report 0 " ++ (MADE_REPORT ++ codes "\n")
+report_line = codes "report 0 " ++ (report_name ++ codes "\n")
 
 -- the script for so many images: the sizes, the loads, the unloads and one report
 unfoldable pub script_of : ℕ → List ℕ
