@@ -109,8 +109,9 @@ impl Gate for InTurn {
     }
 }
 
-/// Runs scripts on a core of eight images, with three outputs. The calls of these numbers fail on the desk, puts of
-/// those numbers on each output, and puts of the last numbers on the sink of the lines.
+/// Runs scripts on a core of eight images, with three outputs. The calls of these numbers fail on
+/// the desk, puts of those numbers on each output, and puts of the last numbers on the sink of the
+/// lines.
 pub(crate) fn run<R: Threads + Wait + Sync, G: Gate>(
     rt: &R,
     alloc: Global,
