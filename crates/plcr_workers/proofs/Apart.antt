@@ -1,5 +1,5 @@
 -- Each statement of a script that was read stands on a line of its own: the numbers of the lines rise.
-use Rattle.std.proofs.Common.{◌≡◌, ℕ, zero, suc, ◌+◌, ◌≤◌, Bool, true, false, cond, List, [], ◌∷◌, ◌++◌, length, slice_get, Option, Some, None, Result, Ok, Err, sym, ap, subst, ◌∙◌, arith}
+use Rattle.std.proofs.Common.{◌≡◌, ℕ, zero, suc, ◌+◌, ◌≤◌, Bool, true, false, cond, List, [], ◌∷◌, ◌++◌, length, slice_get, Option, Some, None, Result, Ok, Err, sym, ap, subst, ◌∙◌, add-one, arith}
 use Rattle.std.specs.Prelude.{All, filter_map, option_map, unwrap_or}
 use Rattle.std.specs.List.{cons_option}
 use Rattle.std.specs.Result.{result_ok}
@@ -20,6 +20,7 @@ use Rattle.plcr_command.specs.declared.jobs.Modes.{Modes}
 use Rattle.plcr_command.specs.Jobs.{IsJob, RefusedScript, numbered, scripts_from}
 use Rattle.plcr_workers.specs.Asking.{statement_on}
 use Rattle.plcr_workers.specs.inner.Own.{HaveOwnLines}
+use Rattle.plcr_workers.specs.inner.Traces.{Rise}
 
 -- statements on lines that rise, from one on
 abbrev Rises : ℕ → List NumberedStatement → Type 0
@@ -79,10 +80,21 @@ script_apart mode before bytes script is at s there =
     let rises = subst (λ (l : List NumberedStatement). Rises 1 l) (sym said.statements) (lines_rise (passes_of mode script.passes) 1 (lines bytes)) in
     (on_own 1 script.statements at s rises there).stands
 
+-- the same in the words of the definitions
+rise_of : (n : ℕ) (statements : List NumberedStatement) → Rises n statements → Rise n statements
+rise_of n [] h = tt
+rise_of n (s ∷ statements) h = (h.0, rise_of (suc s.line) statements (subst (λ k. Rises k statements) (add-one s.line) h.1))
+
+pub script_rises : (mode : Mode) (before : List ScriptValue) (bytes : List ℕ) (script : ScriptValue) → script_in mode before bytes ≡ Ok script → Rise 0 script.statements
+script_rises mode before bytes script is =
+    let said = script_said mode before bytes script is in
+    let rises = subst (λ (l : List NumberedStatement). Rises 1 l) (sym said.statements) (lines_rise (passes_of mode script.passes) 1 (lines bytes)) in
+    rise_of 0 script.statements (rises_from 0 1 script.statements (omega arith) rises)
+
 abbrev IsApart : ScriptValue → Type 0
 IsApart script = HaveOwnLines script.statements
 
-numbered_ok : (number : ℕ) (r : Result ScriptValue Line) (script : ScriptValue) → numbered number r ≡ Ok script → r ≡ Ok script
+pub numbered_ok : (number : ℕ) (r : Result ScriptValue Line) (script : ScriptValue) → numbered number r ≡ Ok script → r ≡ Ok script
 numbered_ok number (Ok s) script is = ap ok_again is
   where
     ok_again : Result ScriptValue RefusedScript → Result ScriptValue Line

@@ -1,6 +1,6 @@
 -- Workers in the order of their scripts.
 use Rattle.std.proofs.Common.{◌≡◌, ℕ, zero, suc, ◌+◌, ◌-◌, ◌<◌, List, [], ◌∷◌, ◌++◌, length, map, reverse, get_or, Some, refl, sym, ap, ◌∙◌, subst, append_assoc, append-nil, length-append, arith}
-use Rattle.std.specs.Prelude.{Vec}
+use Rattle.std.specs.Prelude.{All, Vec}
 use Rattle.std.specs.declared.alloc.Global.{Global}
 use Rattle.std.proofs.lemmas.List.{get_or_append_left, get_or-reverse, length-reverse, reverse-append, reverse-reverse, map-append}
 use Rattle.atomic_table.specs.Seated.{TableId}
@@ -36,6 +36,11 @@ each_front P xs ys each k d less = subst (P k) (get_or_append_left xs ys d k les
 
 pub each_last : {A : Type 0} (P : ℕ → A → Type 0) (xs : List A) (x : A) → ((k : ℕ) (d : A) → k < length (xs ++ x ∷ []) → P k (get_or (xs ++ x ∷ []) k d)) → P (length xs) x
 each_last P xs x each = subst (P (length xs)) (at_end xs x x) (each (length xs) x (let n = length-append xs (x ∷ []) in omega arith))
+
+pub all_reversed : {A : Type 0} (P : A → Type 0) (xs : List A) → All P xs → All P (reverse xs)
+all_reversed P xs all k d less =
+    let long = length-reverse xs in
+    subst P (sym (get_or-reverse xs k d (omega (arith, less, long)))) (all (length xs - 1 - k) d (omega (arith, less, long)))
 
 -- passes the other way round
 pub turned_round : (count : ℕ) (list : TableId) (images : List WalkerState) → length images ≡ count → AreInOrder list images → AreFromTheLast count list (reverse images)

@@ -38,7 +38,7 @@ element [] n less = absurd (omega (arith, less))
 element (x ∷ xs) zero less = (x, refl, refl)
 element (x ∷ xs) (suc n) less = element xs n (omega (arith, less))
 
-some_same : {A : Type 0} {a b : A} → Some a ≡ Some b → a ≡ b
+pub some_same : {A : Type 0} {a b : A} → Some a ≡ Some b → a ≡ b
 some_same {A} {a} {b} e = ap (λ (o : Option A). unwrap_or o a) e
 
 known_line : (process : Meanings) (scripts : List ScriptValue) (script : ScriptValue) (names : List (List ℕ)) (line : ChangeLine) → slice_get scripts line.script ≡ Some script → IsOwnLine process script.statements names line → IsKnownLine process scripts names line

@@ -16,7 +16,7 @@ use Rattle.plcr_workers.specs.inner.Drafts.{HaveTaken}
 use Rattle.plcr_workers.specs.inner.Reports.{HasReport, HaveReports, IsEmptyOutput, IsToldReport, IsSeenBy}
 use Rattle.plcr_workers.proofs.Reported.{report_lawful}
 
-told_bytes : (was now : Option (List ℕ)) (bytes : List ℕ) → IfTold was (λ b. b ≡ []) → now ≡ append_known was bytes → IfTold now (λ b. b ≡ bytes)
+pub told_bytes : (was now : Option (List ℕ)) (bytes : List ℕ) → IfTold was (λ b. b ≡ []) → now ≡ append_known was bytes → IfTold now (λ b. b ≡ bytes)
 told_bytes None now bytes empty gains = subst (λ (o : Option (List ℕ)). IfTold o (λ b. b ≡ bytes)) (sym gains) tt
 told_bytes (Some b) now bytes empty gains = subst (λ (o : Option (List ℕ)). IfTold o (λ x. x ≡ bytes)) (sym gains) (ap (λ (l : List ℕ). l ++ bytes) empty)
 

@@ -18,6 +18,10 @@ pub mod Stayed
 pub mod Traced
 pub mod Running
 pub mod Tracing
+pub mod Whole
+pub mod Gone
+pub mod Wholly
+pub mod Runnable
 pub mod Settled
 pub mod Made
 pub mod Printing

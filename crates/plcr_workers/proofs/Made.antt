@@ -7,7 +7,7 @@ use Rattle.std.proofs.lemmas.List.Concat.{flat_map-append}
 use Rattle.std.proofs.lemmas.List.Elements.{All-nil, All-cons, All-head, All-tail, All-append, All-weaker, filter_map-append}
 use Rattle.std.proofs.lemmas.Option.{slice_get_within, get_or_from_slice_get, slice_get-get_or}
 use Rattle.plcr_base.specs.Causes.{Rose}
-use Rattle.plcr_base.specs.Told.{Gains, add}
+use Rattle.plcr_base.specs.Told.{Gains, IfTold, add}
 use Rattle.plcr_base.proofs.Gained.{gains_none, gains_twice}
 use Rattle.plcr_base.proofs.Risen.{rose_second}
 use Rattle.plcr_io.specs.Desk.{Told}
@@ -22,7 +22,7 @@ use Rattle.plcr_workers.specs.declared.drafts.Draft.{Draft}
 use Rattle.plcr_workers.specs.declared.worker.Worker.{Worker}
 use Rattle.plcr_workers.specs.Log.{file_of, file_in}
 use Rattle.plcr_workers.specs.inner.Hired.{AreNew, IsNew, writes_one}
-use Rattle.plcr_workers.specs.inner.Outputs.{HasOpenFor, IsDraftOf, name_at, draft_names, names_in, AreMade, HasMade, IsUnmade, IsSameWorker, AreSameWorkers, AllMade, NotAllMade, outputs_of}
+use Rattle.plcr_workers.specs.inner.Outputs.{AreEmpty, HaveEmpty, HasOpenFor, IsDraftOf, name_at, draft_names, names_in, AreMade, HasMade, IsUnmade, IsSameWorker, AreSameWorkers, AllMade, NotAllMade, outputs_of}
 use Rattle.plcr_workers.proofs.Opened.{after_make, still_open}
 use Rattle.plcr_workers.proofs.Settled.{nothing_none, nothing_twice}
 
@@ -387,6 +387,9 @@ pub new_empty : {K : Type 0} (scripts : List ScriptValue) (workers : List (Worke
 new_empty scripts workers new k other less =
     let w = get_or workers k other in
     no_items w.drafts.items (sym w.drafts.ok.0 ∙ (new k other less).none)
+
+pub new_have_empty : {K : Type 0} (written : K → Option (List ℕ)) (scripts : List ScriptValue) (workers : List (Worker K)) → AreNew scripts workers → HaveEmpty written workers
+new_have_empty {K = K} written scripts workers new k other less = subst (AreEmpty written) (sym (new_empty scripts workers new k other less)) (All-nil (λ (d : Draft K). IfTold (written d.out) (λ bytes. bytes ≡ [])))
 
 pub still_new : {K : Type 0} (faults : K → ℕ) (scripts : List ScriptValue) (count : ℕ) (olds news : List (Worker K)) (old now : Told) → AreNew scripts olds → count < length olds → MakingAll faults scripts count olds news old now → (other : Worker K) → IsNew scripts count (get_or news count other)
 still_new {K = K} faults scripts count olds news old now new within m other = subst (λ (w : Worker K). IsNew scripts count w) (sym (m.later count other (omega arith) within)) (new count other within)

@@ -7,7 +7,8 @@ use Rattle.plcr_machine.specs.declared.entry.Entry.{Entry}
 use Rattle.plcr_machine.specs.Lists.{Grows}
 use Rattle.plcr_machine.proofs.Cases.{eqb_same}
 use Rattle.plcr_nodes.specs.Entries.{among, WentOn}
-use Rattle.plcr_nodes.proofs.Seeing.{grows_again}
+use Rattle.plcr_machine.specs.Parts.{own_entries}
+use Rattle.plcr_nodes.proofs.Seeing.{grows_again, own_of}
 use Rattle.plcr_imagelist.specs.States.{WriterState, IsAtRest}
 use Rattle.plcr_imagelist.specs.Holds.{WalkerState}
 use Rattle.plcr_imagelist.specs.Opening.{IsOpenedList}
@@ -15,7 +16,7 @@ use Rattle.plcr_imagelist.specs.Tellings.{IsMet}
 use Rattle.plcr_imagelist.proofs.Changed.{met_adds, adds_more}
 use Rattle.plcr_imagelist.proofs.Looking.{went_again}
 use Rattle.plcr_imagelist.proofs.Opened.{walkers_numbered}
-use Rattle.plcr_workers.specs.inner.Hired.{AreInOrder}
+use Rattle.plcr_workers.specs.inner.Hired.{AreInOrder, AreUntouched}
 use Rattle.plcr_workers.specs.inner.Stages.{HasMetThese}
 
 pub met_none : (writer : WriterState) → HasMetThese [] writer writer
@@ -26,6 +27,8 @@ met_none writer = record {
   changes = refl;
   joined = All-nil (λ (i : WalkerState). among i.number writer.joined ≡ true);
   known = All-nil (λ (i : WalkerState). WentOn i.names writer.names);
+  seen = All-nil (λ (i : WalkerState). Grows i.history writer.history);
+  own = All-nil (λ (i : WalkerState). own_entries i.number writer.history ≡ own_entries i.number i.history);
 }
 
 among_first : (n x : ℕ) (xs : List ℕ) → x ≡ n → among n (x ∷ xs) ≡ true
@@ -48,6 +51,11 @@ met_one passes pass start old new rest m met =
           (All-weaker (λ (i : WalkerState). among i.number old.joined ≡ true) Joined (λ i before. ap (among i.number) joined ∙ or_right (eqb pass.number i.number) (among i.number old.joined) before) passes m.joined);
       known = All-cons Knows pass passes (subst (λ (ns : List (List ℕ)). WentOn pass.names ns) (sym names) met.named)
           (All-weaker (λ (i : WalkerState). WentOn i.names old.names) Knows (λ i before. subst (λ (ns : List (List ℕ)). WentOn i.names ns) (sym names) (went_again i.names old.names met.names before met.sees.named)) passes m.known);
+      seen = All-cons (λ (i : WalkerState). Grows i.history new.history) pass passes (subst (λ (h : List Entry). Grows pass.history h) (sym history) met.met.grows)
+          (All-weaker (λ (i : WalkerState). Grows i.history old.history) (λ (i : WalkerState). Grows i.history new.history) (λ i before. subst (λ (h : List Entry). Grows i.history h) (sym history) (grows_again i.history old.history met.past before met.sees.added.grows)) passes m.seen);
+      own = All-cons (λ (i : WalkerState). own_entries i.number new.history ≡ own_entries i.number i.history) pass passes (ap (own_entries pass.number) history ∙ own_of pass.number pass.history met.past met.met)
+          (All-weaker (λ (i : WalkerState). (among i.number old.joined ≡ true) × (own_entries i.number old.history ≡ own_entries i.number i.history)) (λ (i : WalkerState). own_entries i.number new.history ≡ own_entries i.number i.history)
+          (λ i before. ap (own_entries i.number) history ∙ met.sees.added.own i.number before.0 ∙ before.1) passes (λ k d less. (m.joined k d less, m.own k d less)));
     }
 
 -- ---- the passes of a list that was just opened
@@ -60,3 +68,9 @@ opened_in_order table nodes passes writer images o place other less =
     let count = opened_count table nodes passes writer images o in
     let is = ap (λ (l : List WalkerState). get_or l place other) o.numbered ∙ (walkers_numbered table nodes passes passes).1 place other (omega (arith, less, count)) in
     (ap (λ (w : WalkerState). w.table) is, ap (λ (w : WalkerState). w.number) is)
+
+pub opened_untouched : (table : TableId) (nodes passes : ℕ) (writer : WriterState) (images : List WalkerState) → IsOpenedList nodes passes table writer images → AreUntouched images
+opened_untouched table nodes passes writer images o place other less =
+    let count = opened_count table nodes passes writer images o in
+    let is = ap (λ (l : List WalkerState). get_or l place other) o.numbered ∙ (walkers_numbered table nodes passes passes).1 place other (omega (arith, less, count)) in
+    ap (λ (w : WalkerState). w.history) is

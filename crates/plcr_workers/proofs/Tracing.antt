@@ -1,5 +1,6 @@
 -- What a worker's statements did, kept as one statement more is taken.
 use Rattle.std.proofs.Common.{◌≡◌, ℕ, suc, ◌+◌, ◌<◌, ◌≤◌, List, [], ◌∷◌, ◌++◌, length, take, get_or, slice_get, slice_index_or, Option, Some, None, refl, sym, ap, ◌∙◌, subst, length-append, append_assoc, append-nil, arith}
+use Rattle.std.specs.List.{cons_option}
 use Rattle.std.specs.Prelude.{IfSome}
 use Rattle.std.specs.Io.KnownBytes.{append_known}
 use Rattle.std.proofs.lemmas.List.{take_more, length-take, get_or_append_left}
@@ -10,7 +11,7 @@ use Rattle.plcr_imagelist.specs.Holds.{WalkerState}
 use Rattle.plcr_script.specs.declared.statements.Statement.{Statement}
 use Rattle.plcr_script.specs.declared.statements.Statement.TheVariants as stated
 use Rattle.plcr_script.specs.declared.statements.NumberedStatement.{NumberedStatement}
-use Rattle.plcr_script.specs.Reading.{file_of}
+use Rattle.plcr_script.specs.Reading.{file_of, files_of}
 use Rattle.plcr_turns.specs.declared.view.View.{View}
 use Rattle.plcr_workers.specs.declared.acting.Took.{Took}
 use Rattle.plcr_workers.specs.declared.acting.Took.TheVariants.{Silent, Said, Unwritten}
@@ -186,3 +187,20 @@ traced_on {K} written report faults tells script statements at line next more st
 
 pub nothing_traced : {K : Type 0} (written : K → Option (List ℕ)) (report : List Listed → List ℕ) (script : ℕ) (p : Place) (v : View) (lines : List PassLine) (drafts : List (Draft K)) → lines ≡ [] → HasTraced written report script [] p v p v lines 0 drafts drafts
 nothing_traced written report script p v lines drafts none = record { wrote = []; ran = (refl, refl, none, refl); count = refl; gained = λ k bytes other less. absurd (omega (arith, less)) }
+
+-- how many reports statements wrote in all: as many as they have files
+pub ran_count : (report : List Listed → List ℕ) (script at : ℕ) (statements : List NumberedStatement) (p : Place) (v : View) (lines : List PassLine) (wrote : List (List ℕ)) (q : Place) (w : View) → Ran report script at statements p v lines wrote q w → length wrote ≡ length (files_of statements)
+ran_count report script at [] p v lines wrote q w ran = ap length ran.3
+ran_count report script at (s ∷ statements) p v lines wrote q w ran = of (file_of s.statement) refl (ran_count report script (suc at) statements ran.place ran.sees ran.more ran.later q w ran.rest)
+  where
+    of : (file : Option (List ℕ)) → file_of s.statement ≡ file → length ran.later ≡ length (files_of statements) → length wrote ≡ length (files_of (s ∷ statements))
+    of None is rest =
+        let none = ap length (none_written report s.statement p ran.place ran.took ran.reports is ran.does) in
+        let parts = ap length ran.wrote_are ∙ length-append ran.reports ran.later in
+        let files : length (files_of (s ∷ statements)) ≡ length (files_of statements) = ap (λ (f : Option (List ℕ)). length (cons_option f (files_of statements))) is in
+        omega (arith, none, parts, files, rest)
+    of (Some file) is rest =
+        let one = one_written report s.statement file p ran.place ran.took ran.reports ran.well is ran.does in
+        let parts = ap length ran.wrote_are ∙ length-append ran.reports ran.later in
+        let files : length (files_of (s ∷ statements)) ≡ suc (length (files_of statements)) = ap (λ (f : Option (List ℕ)). length (cons_option f (files_of statements))) is in
+        omega (arith, one, parts, files, rest)

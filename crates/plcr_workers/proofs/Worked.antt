@@ -104,7 +104,7 @@ outputs_taken {K = K} faults scripts (o ∷ olds) (n ∷ news) taken all =
 
 -- ---- workers that never ran
 
-none_all : {A : Type 0} (P : A → Type 0) (xs : List A) → length xs ≡ 0 → All P xs
+pub none_all : {A : Type 0} (P : A → Type 0) (xs : List A) → length xs ≡ 0 → All P xs
 none_all P [] none = All-nil P
 none_all P (x ∷ xs) none = absurd (omega (arith, none))
 

@@ -26,6 +26,7 @@ use Rattle.plcr_workers.specs.Asking.{accepted_changes, change_lines}
 use Rattle.plcr_workers.specs.Outcomes.{JournalRuns}
 use Rattle.plcr_workers.specs.declared.command.TheConstants.{SIDE_BY_SIDE}
 use Rattle.plcr_workers.specs.Log.{threads_log}
+use Rattle.plcr_workers.specs.Threads.{ScriptsRun}
 
 -- all was done: each file that the scripts write was made and kept, in the order of script and line, none was given up, and a log was printed
 pub record AllKept (job : Job) (old new : Seen) : Type 0 where
@@ -120,3 +121,21 @@ pub record RanTogether (past : Option WriterState) (status : ℕ) (job : Job) (o
 abbrev pub ThreadsTell : List ℕ → List (List ℕ) → Seen → Seen → Option WriterState → ℕ → Type 0
 ThreadsTell core scripts old new past status =
     (status ≡ 0) ⊎ (status ≡ 5) → HasRead (IsJob SIDE_BY_SIDE) (job_files core scripts) (RanTogether past status) old new
+
+-- what the scripts of a job came to that ran whole, where this is what was told: one history, which the writer has seen; a journal that has each load and unload line of each script once, and whose accepted lines are the changes of the history; and for each script its other lines and its files, which are those of a run of its statements: its stays with their windows, the images that they met, and what their reports say. All files were kept, and the log of all this is what was printed
+pub record RanWhole (past : Option WriterState) (job : Job) (old new : Seen) : Type 0 where
+  pub writer : WriterState
+  pub is : past ≡ Some writer
+  pub journal : List ChangeLine
+  pub others : List (List PassLine)
+  pub files : List (List ℕ × List ℕ)
+  pub tells : IsJournalOf (meanings_in job.core job.scripts) job.scripts journal writer
+  pub applied : AllApplied job.scripts journal
+  pub runs : ScriptsRun (meanings_in job.core job.scripts) writer journal 0 job.scripts others files
+  pub names : kept_names files ≡ written_by job.scripts
+  pub kept : Gains old.desk.kept new.desk.kept files
+  pub lines : new.lines ≡ append_known old.lines (threads_log job.scripts journal others)
+
+-- where `threads CORE SCRIPT...` did all, its scripts ran so
+abbrev pub ThreadsRan : List ℕ → List (List ℕ) → Seen → Seen → Option WriterState → ℕ → Type 0
+ThreadsRan core scripts old new past status = status ≡ 0 → HasRead (IsJob SIDE_BY_SIDE) (job_files core scripts) (RanWhole past) old new

@@ -8,7 +8,7 @@ ghost use Rattle.plcr_script.specs.Reading.{file_of, files_of};
 ghost use Rattle.plcr_turns.specs.Views.{HasAll};
 ghost use Rattle.plcr_workers.specs.Asking.{asked_in, change_lines};
 ghost use Rattle.plcr_workers.specs.inner.Drafts.{HasOutputs, HasTaken, HaveTaken};
-ghost use Rattle.plcr_workers.specs.inner.Hired.{IsHired, IsReadyToRun, IsGone, IsWholeOf, AreNew, AreNumbered, AreInOrder, AreFromTheLast, totals_in, asks_one, writes_one, lines_left, passes_left, views_of};
+ghost use Rattle.plcr_workers.specs.inner.Hired.{IsHired, IsReadyToRun, IsGone, IsWholeOf, AreNew, AreNumbered, AreInOrder, AreFromTheLast, totals_in, asks_one, writes_one, lines_left, passes_left, views_of, AreUntouched};
 ghost use Rattle.plcr_workers.specs.inner.Own.{KnowsOwnOf};
 ghost use Rattle.plcr_workers.specs.inner.Outputs.{in_order, outputs_of};
 ghost use Rattle.plcr_workers.specs.inner.Reports.{HasReports, HaveReports};
@@ -108,6 +108,7 @@ pub(crate) fn hire<K: Sink + Drop>(
     requires handed { HasHanded 0 list.now (totals_in scripts.now) (view chief.old) }
     requires few { length scripts.now ≤ MOST_SCRIPTS }
     requires images { AreInOrder list.now images.items }
+    requires untouched { AreUntouched images.items }
     requires count { length images.items ≡ length scripts.now }
     ensures queue { OnOk result (IsSamePass chief.old chief.new) }
     ensures chief { OnOk result (HasGathered (length scripts.now) list.now [] (view chief.new)) }
@@ -140,6 +141,7 @@ fn from_the_last(list: &ImageList, images: Vec<Pass>) -> Vec<Pass>
     requires { AreInOrder list.now images.items }
     ensures order { AreFromTheLast (length images.items) list.now result.items }
     ensures count { length result.items ≡ length images.items }
+    ensures items { result.items ≡ reverse images.items }
 {
     let _ = list;
     turned_round(images)

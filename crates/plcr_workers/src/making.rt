@@ -5,7 +5,7 @@ ghost use Rattle.plcr_script.specs.Lawful.{IsLawful};
 ghost use Rattle.plcr_script.specs.Reading.{files_of, written_by};
 ghost use Rattle.plcr_script.specs.Sayings.{is_file_name};
 ghost use Rattle.plcr_workers.specs.inner.Hired.{AreNew};
-ghost use Rattle.plcr_workers.specs.inner.Outputs.{AllMade, AreMade, AreSameWorkers, HasMade, IsSameWorker, IsUnmade, NotAllMade, name_at, StandsAt, IsDraftOf, AreDone, HasKeptAll, HasKeptUpTo, HasDropped, HasOpenFor, in_order};
+ghost use Rattle.plcr_workers.specs.inner.Outputs.{AllMade, AreEmpty, AreMade, HaveEmpty, AreSameWorkers, HasMade, IsSameWorker, IsUnmade, NotAllMade, name_at, StandsAt, IsDraftOf, AreDone, HasKeptAll, HasKeptUpTo, HasDropped, HasOpenFor, in_order};
 
 use crate::drafts::{Draft, Progress};
 use crate::worker::Worker;
@@ -36,6 +36,7 @@ pub(crate) fn make_all<D: Desk>(
     requires new { AreNew scripts.now workers.old }
     ensures ok { OnOk result (AllMade D.Out.faults scripts.now workers.new (D.told desk.old) (D.told desk.new)) }
     ensures err { IfErr result (λ unwritten. NotAllMade scripts.now workers.new unwritten.script unwritten.at (D.told desk.old) (D.told desk.new)) }
+    ensures empty { HaveEmpty D.Out.written workers.new }
     ensures same { AreSameWorkers workers.old workers.new }
 {
     for script in 0..scripts.len() {
@@ -59,6 +60,7 @@ fn make_for<D: Desk>(
     requires room { length (files_of script.now.statements) ≤ vec_capacity worker.old.drafts }
     ensures ok { OnOk result (AreMade D.Out.faults number script.now.statements (length script.now.statements) worker.new.drafts.items × HasMade (files_of script.now.statements) (D.told desk.old) (D.told desk.new)) }
     ensures err { IfErr result (λ at. IsUnmade D.Out.faults number script.now.statements at worker.new.drafts.items (D.told desk.old) (D.told desk.new)) }
+    ensures empty { AreEmpty D.Out.written worker.new.drafts.items }
     ensures same { IsSameWorker worker.old worker.new }
 {
     make_drafts(script, number, desk, &mut worker.drafts)
@@ -80,6 +82,7 @@ fn make_drafts<D: Desk>(
     requires room { length (files_of script.now.statements) ≤ vec_capacity drafts.old }
     ensures ok { OnOk result (AreMade D.Out.faults number script.now.statements (length script.now.statements) drafts.new.items × HasMade (files_of script.now.statements) (D.told desk.old) (D.told desk.new)) }
     ensures err { IfErr result (λ at. IsUnmade D.Out.faults number script.now.statements at drafts.new.items (D.told desk.old) (D.told desk.new)) }
+    ensures empty { AreEmpty D.Out.written drafts.new.items }
 {
     for at in 0..script.len() {
         if let Statement::Report { pass: _, file } = script.statement(at) {

@@ -6,7 +6,7 @@ ghost use Rattle.plcr_imagelist.specs.States.{IsAtRest};
 ghost use Rattle.plcr_script.specs.Lawful.{IsLawful};
 ghost use Rattle.plcr_turns.specs.Gathering.{HasHanded};
 ghost use Rattle.plcr_turns.specs.Turns.{is_new};
-ghost use Rattle.plcr_workers.specs.inner.Hired.{AreInOrder, totals_in};
+ghost use Rattle.plcr_workers.specs.inner.Hired.{AreInOrder, AreUntouched, totals_in};
 ghost use Rattle.plcr_workers.specs.inner.Stages.{HasMetThese, IsStage};
 
 use crate::crew::{Left, hire, room_for, totals_of};
@@ -63,6 +63,7 @@ fn open_list(
     ensures list { IfOk result (λ r. r.1.table ≡ r.0) }
     ensures new { IfOk result (λ r. is_new r.1) }
     ensures images { IfOk result (λ r. AreInOrder r.0 r.2.items) }
+    ensures untouched { IfOk result (λ r. AreUntouched r.2.items) }
     ensures count { IfOk result (λ r. vec_len r.2 ≡ length scripts.now) }
 {
     let nodes = scripts[0].nodes();

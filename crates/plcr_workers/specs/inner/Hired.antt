@@ -48,6 +48,12 @@ pub record IsNew {K : Type 0} (scripts : List ScriptValue) (place : ℕ) (w : Wo
   pub number : w.script ≡ place
   pub none : vec_len w.drafts ≡ 0
   pub room : (script : ScriptValue) → slice_get scripts place ≡ Some script → length (files_of script.statements) ≤ vec_capacity w.drafts
+  pub journal : (view w.turns).journal ≡ []
+  pub untouched : (image : WalkerState) → w.image ≡ Some image → image.history ≡ []
+
+-- passes that have seen nothing yet
+abbrev pub AreUntouched : List WalkerState → Type 0
+AreUntouched images = All (λ (i : WalkerState). i.history ≡ []) images
 
 -- workers as they were hired for the scripts, in order
 abbrev pub AreNew : {K : Type 0} → List ScriptValue → List (Worker K) → Type 0

@@ -41,6 +41,14 @@ pub record IsWaiting {K : Type 0} (written : K → Option (List ℕ)) (faults : 
   pub empty : IfTold (written draft.out) (λ bytes. bytes ≡ [])
   pub faultless : faults draft.out ≡ 0
 
+-- outputs into which nothing was written, where that is told
+abbrev pub AreEmpty : {K : Type 0} → (K → Option (List ℕ)) → List (Draft K) → Type 0
+AreEmpty {K = K} written drafts = All (λ (d : Draft K). IfTold (written d.out) (λ bytes. bytes ≡ [])) drafts
+
+-- those of workers
+abbrev pub HaveEmpty : {K : Type 0} → (K → Option (List ℕ)) → List (Worker K) → Type 0
+HaveEmpty {K = K} written workers = All (λ (w : Worker K). AreEmpty written w.drafts.items) workers
+
 -- of outputs the first that was not written whole, if there is one, has faults
 abbrev pub AreDone : {K : Type 0} → (K → ℕ) → List (Draft K) → Type 0
 AreDone faults [] = Unit {0}

@@ -6,11 +6,13 @@ use Rattle.plcr_base.specs.Causes.{Rose}
 use Rattle.plcr_base.specs.Told.{AppendsProperFront}
 use Rattle.crossbeam_queue.specs.Passes.{view, IsPassOf, ruled_capacity}
 use Rattle.plcr_machine.specs.Lists.{Grows}
+use Rattle.plcr_machine.specs.Parts.{own_entries}
 use Rattle.plcr_nodes.specs.Entries.{WentOn, among}
 use Rattle.plcr_imagelist.specs.States.{WriterState}
 use Rattle.plcr_imagelist.specs.Holds.{WalkerState}
 use Rattle.plcr_imagelist.specs.Listing.{AddsChanges}
 use Rattle.plcr_io.specs.Desk.{Told}
+use Rattle.plcr_script.specs.Meanings.{Meanings}
 use Rattle.plcr_script.specs.Scripts.{ScriptValue}
 use Rattle.plcr_script.specs.Reading.{written_by}
 use Rattle.plcr_core.specs.declared.read.Core.{Core}
@@ -20,10 +22,12 @@ use Rattle.plcr_command.specs.declared.endings.Ending.TheVariants.{Done, Stopped
 use Rattle.plcr_command.specs.declared.refusals.Refusal.TheVariants.{OutOfMemory}
 use Rattle.plcr_command.specs.Seen.{Seen}
 use Rattle.plcr_command.specs.Jobs.{IsJob, job_files}
-use Rattle.plcr_command.specs.Endings.{HasRead}
+use Rattle.plcr_command.specs.Endings.{HasRead, kept_names}
 use Rattle.plcr_turns.specs.declared.lines.ChangeLine.{ChangeLine}
 use Rattle.plcr_workers.specs.declared.command.TheConstants.{SIDE_BY_SIDE}
 use Rattle.plcr_workers.specs.Log.{threads_log}
+use Rattle.plcr_workers.specs.Threads.{ScriptsRun}
+use Rattle.plcr_workers.specs.inner.Traces.{IsActed, IsRunnable}
 use Rattle.plcr_turns.specs.Gathering.{HasGathered}
 use Rattle.plcr_workers.specs.declared.opening.Stage.{Stage}
 use Rattle.plcr_workers.specs.declared.drafts.Draft.{Draft}
@@ -32,8 +36,8 @@ use Rattle.plcr_workers.specs.declared.lines.PassLine.{PassLine}
 use Rattle.plcr_workers.specs.declared.making.Unwritten.{Unwritten}
 use Rattle.plcr_workers.specs.declared.worker.Worker.{Worker}
 use Rattle.plcr_workers.specs.inner.Hired.{IsHired, IsWholeOf, AreNew}
-use Rattle.plcr_workers.specs.inner.Outputs.{AreDone, HasDropped, HasKeptAll, HasKeptUpTo, HasMade, IsDraftOf, draft_names, outputs_of}
-use Rattle.plcr_workers.specs.Command.{AllApplied, AllKept, StoppedBy, IsJournalOf, IsWriterOf, LeftByScripts, RanTogether, meanings_in}
+use Rattle.plcr_workers.specs.inner.Outputs.{AreFiles, AreDone, HasDropped, HasKeptAll, HasKeptUpTo, HasMade, IsDraftOf, draft_names, outputs_of}
+use Rattle.plcr_workers.specs.Command.{AllApplied, AllKept, StoppedBy, IsJournalOf, IsWriterOf, LeftByScripts, RanTogether, meanings_in, RanWhole}
 
 -- the writer has met these passes, and made nothing meanwhile
 pub record HasMetThese (passes : List WalkerState) (old new : WriterState) : Type 0 where
@@ -43,6 +47,8 @@ pub record HasMetThese (passes : List WalkerState) (old new : WriterState) : Typ
   pub changes : AddsChanges old [] new
   pub joined : All (λ (i : WalkerState). among i.number new.joined ≡ true) passes
   pub known : All (λ (i : WalkerState). WentOn i.names new.names) passes
+  pub seen : All (λ (i : WalkerState). Grows i.history new.history) passes
+  pub own : All (λ (i : WalkerState). own_entries i.number new.history ≡ own_entries i.number i.history) passes
 
 -- the list, the queue and the workers are ready, with all room for what the workers leave
 pub record IsStage {K : Type 0} (scripts : List ScriptValue) (stage : Stage K) : Type 0 where
@@ -85,6 +91,19 @@ Settles written scripts drafts (Ok made) old new (Err unwritten) = HasKeptUpTo w
 Settles written scripts drafts (Err unmade) old new (Ok done) = ⊥
 Settles written scripts drafts (Err unmade) old new (Err unwritten) = (unwritten ≡ unmade) × HasDropped old new
 
+-- scripts ran whole over what the writer has seen, with these other lines, and these outputs have their files
+pub record HaveRun {K : Type 0} (written : K → Option (List ℕ)) (process : Meanings) (scripts : List ScriptValue) (w : WriterState) (journal : List ChangeLine) (drafts : List (Draft K)) (others : List (List PassLine)) : Type 0 where
+  pub files : List (List ℕ × List ℕ)
+  pub are : AreFiles written scripts drafts files
+  pub names : kept_names files ≡ written_by scripts
+  pub runs : ScriptsRun process w journal 0 scripts others files
+
+-- where such workers took all statements and wrote all outputs whole, they did
+abbrev pub RunWhole : {K : Type 0} → (K → Option (List ℕ)) → Meanings → List ScriptValue → List (Worker K) → WriterState → List ChangeLine → List (List PassLine) → Type 0
+RunWhole {K = K} written process scripts workers w journal others =
+    All IsRunnable scripts → All (λ (x : Worker K). IsActed written process.report scripts x) workers → draft_names scripts (outputs_of workers) ≡ written_by scripts → All (λ (d : Draft K). d.progress ≡ Written) (outputs_of workers)
+    → HaveRun written process scripts w journal (outputs_of workers) others
+
 -- how the printing of a log ends
 abbrev pub LogEnds : Option (List ℕ) → Option (List ℕ) → List ℕ → ℕ → ℕ → Ending → Type 0
 LogEnds old new text before after Done = new ≡ append_known old text
@@ -122,3 +141,16 @@ TellsBy core scripts old new past Done = HasRead (IsJob SIDE_BY_SIDE) (job_files
 TellsBy core scripts old new past Stopped = HasRead (IsJob SIDE_BY_SIDE) (job_files core scripts) (RanTogether past 5) old new
 TellsBy core scripts old new past (Refused refusal) = Unit {0}
 TellsBy core scripts old new past Misused = Unit {0}
+
+-- what a run whose scripts workers can run comes to, where all was done
+abbrev pub WholeBy : Job → Seen → Seen → Option WriterState → Ending → Type 0
+WholeBy job old new past Done = All IsRunnable job.scripts → RanWhole past job old new
+WholeBy job old new past Stopped = Unit {0}
+WholeBy job old new past (Refused refusal) = Unit {0}
+WholeBy job old new past Misused = Unit {0}
+
+abbrev pub WholeIn : List ℕ → List (List ℕ) → Seen → Seen → Option WriterState → Ending → Type 0
+WholeIn core scripts old new past Done = HasRead (IsJob SIDE_BY_SIDE) (job_files core scripts) (RanWhole past) old new
+WholeIn core scripts old new past Stopped = Unit {0}
+WholeIn core scripts old new past (Refused refusal) = Unit {0}
+WholeIn core scripts old new past Misused = Unit {0}

@@ -2,6 +2,7 @@
 use Rattle.std.specs.Prelude.{◌≡◌, ℕ, suc, ◌<◌, ◌≤◌, Bool, true, false, List, [], ◌∷◌, ◌++◌, Option, Some, None, slice_get, slice_index_or, length, All}
 use Rattle.std.specs.Io.KnownBytes.{append_known}
 use Rattle.crossbeam_queue.specs.Passes.{view}
+use Rattle.plcr_base.specs.Told.{IfTold}
 use Rattle.plcr_machine.specs.declared.entry.Entry.{Entry}
 use Rattle.plcr_machine.specs.Lists.{changes}
 use Rattle.plcr_macho.specs.Images.{Listed}
@@ -116,6 +117,34 @@ pub record ActsWholeOf {K : Type 0} (written : K → Option (List ℕ)) (report 
 abbrev pub HaveActed : {K : Type 0} → (K → Option (List ℕ)) → (List Listed → List ℕ) → List ScriptValue → List (Worker K) → List (Worker K) → Type 0
 HaveActed {K = K} written report scripts old new = (k : ℕ) (other : Worker K) → k < length old → ActsWholeOf written report scripts (slice_index_or old k other) (slice_index_or new k other)
 
+-- outputs have these bytes, where that is told
+abbrev pub HaveBytes : {K : Type 0} → (K → Option (List ℕ)) → List (Draft K) → List (List ℕ) → Type 0
+HaveBytes written [] [] = Unit {0}
+HaveBytes written [] (bytes ∷ wrote) = ⊥
+HaveBytes written (draft ∷ drafts) [] = ⊥
+HaveBytes written (draft ∷ drafts) (bytes ∷ wrote) = IfTold (written draft.out) (λ b. b ≡ bytes) × HaveBytes written drafts wrote
+
+-- a worker has taken all statements of its script, with a pass that had seen nothing before, and its outputs have the reports
+pub record HasGone {K : Type 0} (written : K → Option (List ℕ)) (report : List Listed → List ℕ) (statements : List NumberedStatement) (w : Worker K) : Type 0 where
+  pub first : WalkerState
+  pub number : first.number ≡ w.script
+  pub none : first.history ≡ []
+  pub start : View
+  pub empty : start.journal ≡ []
+  pub last : WalkerState
+  pub is : w.image ≡ Some last
+  pub place : Place
+  pub out : ComesOut place last
+  pub wrote : List (List ℕ)
+  pub ran : Ran report w.script 0 statements (Out first) start w.lines.items wrote place (view w.turns)
+  pub bytes : HaveBytes written w.drafts.items wrote
+
+-- the script of its number, where all its outputs were written whole
+pub record IsActed {K : Type 0} (written : K → Option (List ℕ)) (report : List Listed → List ℕ) (scripts : List ScriptValue) (w : Worker K) : Type 0 where
+  pub script : ScriptValue
+  pub stands : slice_get scripts w.script ≡ Some script
+  pub gone : All (λ (d : Draft K). d.progress ≡ Written) w.drafts.items → HasGone written report script.statements w
+
 -- statements on lines that rise, from one on
 abbrev pub Rise : ℕ → List NumberedStatement → Type 0
 Rise n [] = Unit {0}
@@ -141,3 +170,7 @@ stands_in inside other = inside
 abbrev pub MayRun : Bool → List NumberedStatement → Type 0
 MayRun inside [] = Unit {0}
 MayRun inside (s ∷ statements) = MayStand inside s.statement × MayRun (stands_in inside s.statement) statements
+
+-- a script that a worker can run whole
+abbrev pub IsRunnable : ScriptValue → Type 0
+IsRunnable script = Rise 0 script.statements × MayRun false script.statements

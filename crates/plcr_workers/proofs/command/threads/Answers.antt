@@ -3,7 +3,7 @@ use Rattle.std.specs.Prelude.{string_bytes}
 use Rattle.plcr_command.specs.Jobs.{texts}
 use Rattle.plcr_command.specs.Seen.{seen}
 use Rattle.plcr_workers.specs.Command.{Threads}
-use Rattle.plcr_workers.specs.inner.Stages.{LeavesBy, TellsBy}
+use Rattle.plcr_workers.specs.inner.Stages.{LeavesBy, TellsBy, WholeIn}
 use Rattle.plcr_workers.proofs.Commanded.{wants_first}
 use Rattle.plcr_workers.proofs.command.threads.Goals as goal
 
@@ -31,3 +31,8 @@ returns-in-Err-clause-did g c = wants_first c.args.core.now (map string_bytes c.
 
 pub returns-in-Err-clause-goes : goal.returns-in-Err-clause-goes
 returns-in-Err-clause-goes g c = record { files = refl; take_faults = omega arith; out_faults = omega arith; line_faults = omega arith }
+
+pub returns-in-Ok-clause-ran : goal.returns-in-Ok-clause-ran
+returns-in-Ok-clause-ran g c =
+    subst (λ (names : List (List ℕ)). WholeIn c.args.core.now names (seen (g.D.Desk.told c.args.desk.now) (g.L.Sink.written c.args.lines.now) (g.L.Sink.faults c.args.lines.now))
+    (seen (g.D.Desk.told c.threads_named.new.desk) (g.L.Sink.written c.threads_named.new.lines) (g.L.Sink.faults c.threads_named.new.lines)) c.threads_named.new.past c.threads_named.result) (ap texts c.as_slice-lent.ensures.value ∙ c.in-Ok.ensures.names) c.threads_named.ensures.ran

@@ -7,12 +7,12 @@ use Rattle.plcr_script.specs.Reading.{files_of}
 use Rattle.plcr_turns.specs.declared.view.View.{View}
 use Rattle.plcr_turns.specs.Gathering.{HasHanded}
 use Rattle.plcr_turns.specs.Views.{left_view}
-use Rattle.plcr_turns.proofs.Fronts.{all_more, all_none}
+use Rattle.plcr_turns.proofs.Fronts.{all_front, all_last, all_more, all_none}
 use Rattle.plcr_turns.proofs.Gathered.{hands_next}
 use Rattle.plcr_workers.specs.Asking.{change_lines}
-use Rattle.plcr_workers.specs.inner.Hired.{SoFar, IsHired, AreNew, IsNew, AreFromTheLast, totals_in}
+use Rattle.plcr_workers.specs.inner.Hired.{SoFar, IsHired, AreNew, IsNew, AreFromTheLast, totals_in, AreUntouched}
 use Rattle.plcr_workers.proofs.Hires.{fresh_so_far, some_value}
-use Rattle.plcr_workers.proofs.Crews.{each_front, each_last, each_more}
+use Rattle.plcr_workers.proofs.Crews.{each_front, each_last, each_more, all_reversed}
 use Rattle.plcr_workers.proofs.Joined.{element}
 use Rattle.plcr_workers.proofs.Reported.{get_or_any}
 use Rattle.plcr_workers.proofs.crew.hire.Goals as goal
@@ -40,6 +40,7 @@ loop-script-init g c = record {
   handed = c.requires.handed;
   images_are = subst (λ n. AreFromTheLast n c.args.list.now c.from_the_last-images.result.items) c.requires.count c.from_the_last-images.ensures.order;
   many = (let n = c.from_the_last-images.ensures.count in let m = c.requires.count in omega (arith, n, m));
+  untouched = subst AreUntouched (sym c.from_the_last-images.ensures.items) (all_reversed (λ (i : WalkerState). i.history ≡ []) c.args.images.items c.requires.untouched);
   hired = subst (All (λ w. IsHired c.args.queue.now.table.shared.table_id c.args.list.now c.args.scripts.now w)) (sym c.in_ok-workers.ensures.items) (all_none (λ w. IsHired c.args.queue.now.table.shared.table_id c.args.list.now c.args.scripts.now w));
   new = subst (AreNew c.args.scripts.now) (sym c.in_ok-workers.ensures.items) (λ place other less. absurd (omega (arith, less)));
   count = c.in_ok-workers.ensures.len;
@@ -57,6 +58,7 @@ loop-script-preserved g c =
     let script = element c.args.scripts.now n less in
     let images = subst (AreFromTheLast (length c.args.scripts.now) c.args.list.now) c.in-Some.ensures.items c.loop-script.invariant.images_are in
     let image = each_last (λ k (i : WalkerState). (i.table ≡ c.args.list.now) × (i.number + k + 1 ≡ length c.args.scripts.now)) c.pop.new.self.items c.in-Some.image images in
+    let untouched = subst AreUntouched c.in-Some.ensures.items c.loop-script.invariant.untouched in
     let long = ap length c.in-Some.ensures.items ∙ length-append c.pop.new.self.items (c.in-Some.image ∷ []) in
     let left = c.loop-script.invariant.many in
     let number : c.in-Some.image.number ≡ n = (let e = image.1 in omega (arith, e, long, left)) in
@@ -71,6 +73,7 @@ loop-script-preserved g c =
           (subst (λ m. HasHanded m c.args.list.now (totals_in c.args.scripts.now) (left_view (view c.loop-script.chief))) (sym (add-one n)) next.1);
       images_are = each_front (λ k (i : WalkerState). (i.table ≡ c.args.list.now) × (i.number + k + 1 ≡ length c.args.scripts.now)) c.pop.new.self.items (c.in-Some.image ∷ []) images;
       many = omega (arith, long, left);
+      untouched = all_front (λ (i : WalkerState). i.history ≡ []) c.pop.new.self.items (c.in-Some.image ∷ []) untouched;
       hired = subst (All (λ w. IsHired c.args.queue.now.table.shared.table_id c.args.list.now c.args.scripts.now w)) (sym c.push_reserved.ensures.items)
           (all_more (λ w. IsHired c.args.queue.now.table.shared.table_id c.args.list.now c.args.scripts.now w) c.loop-script.workers.items _ c.loop-script.invariant.hired (record {
             script = script.0;
@@ -96,6 +99,8 @@ loop-script-preserved g c =
                 let same = ap (λ (x : ScriptValue). length (files_of x.statements)) (some_value (sym at ∙ ap (slice_get c.args.scripts.now) new_count ∙ script.2)) in
                 let l = files_long c.args.scripts.now n c.index-scripts-script.result script.0 c.index-scripts-script.is script.1 less in
                 let m = c.reports_of.ensures in omega (arith, r, l, m, same));
+            journal = ap (λ (v : View). v.journal) c.hand_out-turns.ensures.right ∙ next.2.2.journal;
+            untouched = λ i e. (ap (λ (x : WalkerState). x.history) (some_value (sym e)) ∙ all_last (λ (x : WalkerState). x.history ≡ []) c.pop.new.self.items c.in-Some.image untouched);
           }));
       count = (let m = c.push_reserved.ensures.len in omega (arith, m, counted));
       room = (let m = c.push_reserved.ensures.capacity in let r = c.loop-script.invariant.room in omega (arith, m, r));

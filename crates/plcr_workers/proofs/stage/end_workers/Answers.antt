@@ -4,7 +4,12 @@ use Rattle.plcr_imagelist.specs.States.{WriterState, IsAtRest}
 use Rattle.plcr_turns.specs.declared.lines.ChangeLine.{ChangeLine}
 use Rattle.plcr_workers.specs.Command.{IsJournalOf}
 use Rattle.plcr_workers.specs.inner.Hired.{views_of}
-use Rattle.plcr_workers.specs.inner.Stages.{AppliesAll, AreLinesOf, HasMetThese}
+use Rattle.std.specs.Prelude.{Vec}
+use Rattle.std.specs.declared.alloc.Global.{Global}
+use Rattle.plcr_workers.specs.declared.lines.PassLine.{PassLine}
+use Rattle.plcr_workers.specs.inner.Outputs.{outputs_of}
+use Rattle.plcr_workers.specs.inner.Stages.{AppliesAll, AreLinesOf, HasMetThese, HaveRun, items_of}
+use Rattle.plcr_workers.proofs.Whole.{scripts_ran}
 use Rattle.plcr_workers.proofs.Worked.{few_lines, journal_applies, journal_is, lines_are, same_table, writer_is}
 use Rattle.plcr_workers.proofs.stage.end_workers.Goals as goal
 
@@ -53,3 +58,26 @@ pub returns-clause-others : goal.returns-clause-others
 returns-clause-others g c =
     subst (AreLinesOf c.args.scripts.now) (sym c.gather-left.ensures.others)
     (lines_are c.args.queue.now.table.shared.table_id c.args.list.now c.args.scripts.now c.args.workers.items (sym c.args.workers.ok.0 ∙ c.requires.count) c.requires.numbers c.requires.gone)
+
+pub returns-clause-runs : goal.returns-clause-runs
+returns-clause-runs g c = λ process may acted names whole.
+    let scripts = c.args.scripts.now in
+    let workers = c.args.workers.items in
+    let left = c.gather-left.ensures in
+    let w = c.meet_all-writer.result in
+    let images = c.gather-left.result.images.items in
+    let count = sym c.args.workers.ok.0 ∙ c.requires.count in
+    let r = scripts_ran g.K.Sink.written process c.args.list.now scripts workers (view c.gather-left.new.chief) c.take_last.result images w count
+    (record {
+      gathered = left.chief;
+      working = left.working;
+      numbers = c.requires.numbers;
+      taken = c.take_last.ensures.taken;
+      turn = c.take_last.ensures.turn;
+      passes = left.passes;
+      met = subst (λ (x : WriterState). HasMetThese images x w) c.end-writer.ensures.writer c.meet_all-writer.ensures.met;
+      rest = c.meet_all-writer.ensures.rest;
+    })
+    may acted names whole in
+    subst (λ (j : List ChangeLine). HaveRun g.K.Sink.written process scripts w j (outputs_of workers) (items_of c.gather-left.result.others.items)) (sym c.end-writer.ensures.journal)
+    (subst (λ (l : List (Vec PassLine Global)). HaveRun g.K.Sink.written process scripts w c.take_last.result.journal (outputs_of workers) (items_of l)) (sym left.others) r)

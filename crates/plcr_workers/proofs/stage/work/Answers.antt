@@ -1,6 +1,8 @@
 use Rattle.std.proofs.Common.{All, subst, ◌∙◌}
 use Rattle.plcr_script.specs.Meanings.{Meanings}
 use Rattle.plcr_workers.specs.inner.Own.{KnowsOwnOf}
+use Rattle.plcr_workers.specs.inner.Traces.{IsActed}
+use Rattle.plcr_workers.proofs.Gone.{acted_all}
 use Rattle.plcr_workers.proofs.Made.{ok_of}
 use Rattle.plcr_workers.proofs.Worked.{hired_same, gone_all, know_all, numbered_same, numbered_taken, ready_all, has_worked, meanings_are, context_fits}
 use Rattle.plcr_workers.specs.Command.{meanings_in}
@@ -46,3 +48,15 @@ returns-clause-count g c = c.run_all.ensures.taken.count ∙ c.make_all.ensures.
 pub returns-clause-numbers : goal.returns-clause-numbers
 returns-clause-numbers g c =
     numbered_taken g.D.Out.Sink.faults c.make_all.new.workers c.run_all.new.workers (numbered_same c.args.scripts.now c.args.workers.now c.make_all.new.workers c.requires.new c.make_all.ensures.same) c.run_all.ensures.taken
+
+pub returns-clause-acted : goal.returns-clause-acted
+returns-clause-acted g c =
+    subst (λ (p : Meanings). All (λ w. IsActed g.D.Out.Sink.written p.report c.args.scripts.now w) c.run_all.new.workers)
+    (meanings_are c.args.core.now c.args.scripts.now c.index-scripts-0.result c.context-context.result c.requires.some c.index-scripts-0.is c.context-context.ensures.same)
+    (acted_all g.D.Out.Sink.written g.D.Out.Sink.faults _ c.args.queue.now.table.shared.table_id c.args.list.now c.args.scripts.now c.args.workers.now c.make_all.new.workers c.run_all.new.workers c.requires.new c.make_all.ensures.same c.make_all.ensures.empty
+    (ready_all g.D.Out.Sink.faults c.args.queue.now.table.shared.table_id c.args.list.now c.args.scripts.now c.make_all.new.workers (g.D.Desk.told c.args.desk.now) (g.D.Desk.told c.make_all.new.desk)
+    (ok_of c.in_default.is c.make_all.ensures.ok)
+    (numbered_same c.args.scripts.now c.args.workers.now c.make_all.new.workers c.requires.new c.make_all.ensures.same)
+    (hired_same c.args.queue.now.table.shared.table_id c.args.list.now c.args.scripts.now c.args.workers.now c.make_all.new.workers c.make_all.ensures.same c.requires.hired)
+    c.requires.apart)
+    c.run_all.ensures.taken c.run_all.ensures.acted)
