@@ -8,6 +8,7 @@ use Rattle.plcr_macho.specs.Images.{Listed}
 use Rattle.plcr_imagelist.specs.Holds.{WalkerState}
 use Rattle.plcr_script.specs.Reading.{files_of}
 use Rattle.plcr_script.specs.Scripts.{ScriptValue}
+use Rattle.plcr_workers.specs.declared.drafts.Progress.TheVariants.{Waiting}
 use Rattle.plcr_workers.specs.declared.drafts.Draft.{Draft}
 use Rattle.plcr_workers.specs.declared.places.Place.TheVariants.{Out}
 use Rattle.plcr_workers.specs.declared.worker.Worker.{Worker}

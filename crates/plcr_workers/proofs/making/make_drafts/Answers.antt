@@ -14,7 +14,7 @@ use Rattle.plcr_workers.proofs.making.make_drafts.Goals as goal
 pub loop-at-init : goal.loop-at-init
 loop-at-init g c =
     let none : length c.args.drafts.now.items ≡ 0 = sym c.args.drafts.now.ok.0 ∙ c.requires.none in
-    (making_none g.D.Out.Sink.faults c.args.number c.args.script.now.statements c.args.drafts.now.items (g.D.Desk.told c.args.desk.now) none, refl, none_all (λ (d : Draft g.row.D-Out.Denot). IfTold (g.D.Out.Sink.written d.out) (λ bytes. bytes ≡ [])) c.args.drafts.now.items none)
+    (making_none g.D.Out.Sink.faults c.args.number c.args.script.now.statements c.args.drafts.now.items (g.D.Desk.told c.args.desk.now) none, refl, none_all (λ (d : Draft g.row.D-Out.Denot). (d.progress ≡ Waiting) × IfTold (g.D.Out.Sink.written d.out) (λ bytes. bytes ≡ [])) c.args.drafts.now.items none)
 
 pub returns-in-Err-clause-err : goal.returns-in-Err-clause-err
 returns-in-Err-clause-err g c =
