@@ -1,6 +1,6 @@
 -- What a core of bytes holds has the width of its type: the states of its threads, and the bytes of its memory.
-use Rattle.std.proofs.Common.{◌≡◌, ℕ, zero, suc, ◌+◌, ◌*◌, ◌^◌, ◌<◌, ◌≤◌, Bool, true, false, cond, List, [], ◌∷◌, length, take, drop, filter_map, Option, Some, None, Result, Ok, leb, ltb, refl, sym, ap, subst, arith, lit<}
-use Rattle.std.specs.Prelude.{IfSome, option_map, ◌==◌, ◌&&◌, nat_lt, if◌then◌else◌}
+use Rattle.std.proofs.Common.{◌≡◌, ℕ, zero, suc, ◌+◌, ◌*◌, ◌^◌, ◌<◌, Bool, true, false, List, [], ◌∷◌, length, take, drop, filter_map, Option, Some, None, Ok, leb, ltb, sym, ap, subst, arith, lit<}
+use Rattle.std.specs.Prelude.{IfSome, option_map, ◌==◌, ◌&&◌, if◌then◌else◌}
 use Rattle.std.specs.List.{AllByRecursion, cons_option, range_with_len}
 use Rattle.std.specs.Option.{option_and_then}
 use Rattle.plcr_base.specs.Bytes.{IsBytes}
@@ -9,7 +9,7 @@ use Rattle.plcr_memory.specs.Regions.{Contents}
 use Rattle.plcr_loader.specs.declared.load_command.TheConstants as load_command
 use Rattle.plcr_loader.specs.declared.thread_group.TheConstants.{LENGTH}
 use Rattle.plcr_loader.specs.declared.mach_header_64.TheConstants as mach_header_64
-use Rattle.plcr_loader.specs.Commands.{Command, Test, AreLaid, IsLaid, is_thread}
+use Rattle.plcr_loader.specs.Commands.{Command, Test, AreLaid, is_thread}
 use Rattle.plcr_loader.specs.Fields.{number}
 use Rattle.plcr_loader.specs.Sources.{file_bytes}
 use Rattle.plcr_regs.specs.declared.arch.Arch.{Arch}

@@ -1,11 +1,11 @@
 -- What `threads` did, by its status, and what it answers where its files are told.
-use Rattle.std.proofs.Common.{inl, inr, ◌≡◌, ◌⊎◌, ℕ, List, Option, None, sym, ap, subst, ◌∙◌, arith}
+use Rattle.std.proofs.Common.{inl, inr, ◌≡◌, ℕ, List, Option, sym, subst, ◌∙◌, arith}
 use Rattle.plcr_imagelist.specs.States.{WriterState}
 use Rattle.plcr_command.specs.declared.endings.Ending.{Ending}
 use Rattle.plcr_command.specs.declared.endings.Ending.TheVariants.{Done, Stopped, Refused, Misused}
 use Rattle.plcr_command.specs.declared.refusals.Refusal.TheVariants.{CannotRead, TooLong, CoreRefused, ScriptRefused, ReportRefused, OutOfMemory}
 use Rattle.plcr_command.specs.Seen.{Seen}
-use Rattle.plcr_command.specs.Files.{File, named}
+use Rattle.plcr_command.specs.Files.{named}
 use Rattle.plcr_command.specs.Taking.{IsUnreadable, IsTooLong}
 use Rattle.plcr_command.specs.Jobs.{IsJob, JobMisread, job_files}
 use Rattle.plcr_command.specs.Endings.{status_of}

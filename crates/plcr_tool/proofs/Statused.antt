@@ -1,6 +1,6 @@
 -- What the commands did, by the status.
-use Rattle.std.proofs.Common.{inl, inr, ◌≡◌, ◌⊎◌, ◌↔◌, ℕ, ◌<◌, List, [], ◌∷◌, ◌++◌, Option, None, length, refl, sym, ap, subst, ◌∙◌, arith, append-nil}
-use Rattle.plcr_base.specs.Told.{Prints, AppendsProperFront}
+use Rattle.std.proofs.Common.{inl, inr, ◌≡◌, ℕ, ◌<◌, List, [], ◌∷◌, ◌++◌, Option, length, refl, sym, subst, ◌∙◌, arith, append-nil}
+use Rattle.plcr_base.specs.Told.{Prints}
 use Rattle.plcr_base.proofs.Appended.{append_nothing}
 use Rattle.plcr_core.specs.declared.fault.CoreFault.{CoreFault}
 use Rattle.plcr_decode.specs.declared.faults.DecodeFault.{DecodeFault}
@@ -13,7 +13,7 @@ use Rattle.plcr_command.specs.declared.refusals.Refusal.{Refusal}
 use Rattle.plcr_command.specs.declared.refusals.Refusal.TheVariants.{CannotRead, TooLong, CoreRefused, ScriptRefused, ReportRefused, OutOfMemory}
 use Rattle.plcr_command.specs.Seen.{Seen}
 use Rattle.plcr_command.specs.Files.{File, named}
-use Rattle.plcr_command.specs.Taking.{IsUnreadable, IsTooLong, TookSome}
+use Rattle.plcr_command.specs.Taking.{IsUnreadable, IsTooLong}
 use Rattle.plcr_command.specs.Refusals as refusals
 use Rattle.plcr_command.specs.Refusals.{IsMisread}
 use Rattle.plcr_command.specs.Jobs.{JobMisread}
@@ -23,7 +23,7 @@ use Rattle.plcr_tool.specs.Report.{Reports, report_files}
 use Rattle.plcr_tool.specs.Show.{ReportMisread, Shows, shown_files}
 use Rattle.plcr_tool.specs.Past.{ReportLeaves}
 use Rattle.plcr_tool.specs.Top.{Form, Report, Show, Make, SideBySide, Usage, Does, form_of}
-use Rattle.plcr_tool.specs.Statuses.{Refuses, CannotTake, IsNone, WantsMemory, ReportIs, ShowIs, ReportsByStatus, ShownByStatus, MisusedWords}
+use Rattle.plcr_tool.specs.Statuses.{Refuses, IsNone, WantsMemory, ReportIs, ShowIs, ReportsByStatus, ShownByStatus, MisusedWords}
 
 -- no line was printed for want of memory
 unprinted : (old new : Option (List ℕ)) (before after : ℕ) → Prints old new [] before after → new ≡ old
