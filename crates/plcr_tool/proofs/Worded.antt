@@ -2,7 +2,7 @@
 use Rattle.std.proofs.Common.{◌≡◌, ℕ, List, Option, Some, None, sym, subst}
 use Rattle.plcr_imagelist.specs.States.{WriterState}
 use Rattle.plcr_command.specs.Seen.{Seen}
-use Rattle.plcr_workers.specs.Command.{ThreadsDoes, ThreadsLeave, ThreadsRan, ThreadsTell}
+use Rattle.plcr_workers.specs.Command.{ThreadsDoes, ThreadsLeave, ThreadsKept, ThreadsRan, ThreadsTell}
 use Rattle.plcr_tool.specs.Headline.{FormTellsTruly, TopTellsTruly}
 use Rattle.plcr_tool.specs.Past.{FormLeaves, TopLeaves}
 use Rattle.plcr_tool.specs.Top.{Form, FormDoes, SideBySide, TopDoes, form_or, other_form, threads_in}
@@ -21,8 +21,8 @@ module _ (words : List (List ℕ)) (old new : Seen) (status : ℕ) where
     pub other_leaves : threads_in words ≡ None → FormLeaves (other_form words) old new past status → TopLeaves words old new past status
     other_leaves is leaves = subst (λ (form : Option Form). FormLeaves (form_or form (other_form words)) old new past status) (sym is) leaves
 
-    pub side_tells : (core : List ℕ) (scripts : List (List ℕ)) → threads_in words ≡ Some (SideBySide core scripts) → ThreadsTell core scripts old new past status → ThreadsRan core scripts old new past status → TopTellsTruly words old new past status
-    side_tells core scripts is tells ran = subst (λ (form : Option Form). FormTellsTruly (form_or form (other_form words)) old new past status) (sym is) (tells, ran)
+    pub side_tells : (core : List ℕ) (scripts : List (List ℕ)) → threads_in words ≡ Some (SideBySide core scripts) → ThreadsTell core scripts old new past status → ThreadsRan core scripts old new past status → ThreadsKept core scripts old new past status → TopTellsTruly words old new past status
+    side_tells core scripts is tells ran kept = subst (λ (form : Option Form). FormTellsTruly (form_or form (other_form words)) old new past status) (sym is) (tells, ran, kept)
 
     pub other_tells : threads_in words ≡ None → FormTellsTruly (other_form words) old new past status → TopTellsTruly words old new past status
     other_tells is tells = subst (λ (form : Option Form). FormTellsTruly (form_or form (other_form words)) old new past status) (sym is) tells

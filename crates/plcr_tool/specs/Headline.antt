@@ -24,7 +24,7 @@ use Rattle.plcr_command.specs.Seen.{Seen}
 use Rattle.plcr_command.specs.Jobs.{IsJob}
 use Rattle.plcr_command.specs.Endings.{HasRead, kept_names}
 use Rattle.plcr_run.specs.Past.{HasMetAll}
-use Rattle.plcr_workers.specs.Command.{ThreadsRan, ThreadsTell}
+use Rattle.plcr_workers.specs.Command.{ThreadsKept, ThreadsRan, ThreadsTell}
 use Rattle.plcr_tool.specs.declared.report.TheConstants.{ALONE}
 use Rattle.plcr_tool.specs.Report.{report_files}
 use Rattle.plcr_tool.specs.Top.{Form, Report, Show, Make, SideBySide, Usage, form_of}
@@ -91,6 +91,7 @@ FormTellsTruly (Show report) old new past status = Unit {0}
 FormTellsTruly (Make images core script) old new past status = Unit {0}
 FormTellsTruly (SideBySide core scripts) old new past status =
     ThreadsTell core scripts old new past status × ThreadsRan core scripts old new past status
+    × ThreadsKept core scripts old new past status
 FormTellsTruly Usage old new past status = Unit {0}
 
 abbrev pub TopTellsTruly : List (List ℕ) → Seen → Seen → Option WriterState → ℕ → Type 0

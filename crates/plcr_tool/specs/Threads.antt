@@ -12,7 +12,7 @@ use Rattle.plcr_command.specs.Jobs.{IsJob, JobMisread, HasNoCore, HasNoScript, j
 use Rattle.plcr_command.specs.Complete.{CanBeTaken, ComesWhere, LongFilesAreRefused}
 use Rattle.plcr_command.specs.Endings.{HasRead}
 use Rattle.plcr_workers.specs.declared.command.TheConstants.{SIDE_BY_SIDE}
-use Rattle.plcr_workers.specs.Command.{AllKept, HasStopped, LeftByScripts, ThreadsDoes, ThreadsLeave, ThreadsRan, ThreadsTell}
+use Rattle.plcr_workers.specs.Command.{AllKept, HasStopped, LeftByScripts, ThreadsDoes, ThreadsLeave, ThreadsKept, ThreadsRan, ThreadsTell}
 use Rattle.plcr_tool.specs.Headline.{TopTellsTruly}
 use Rattle.plcr_tool.specs.Past.{TopLeaves}
 use Rattle.plcr_tool.specs.Statuses.{CannotTake, IsNone, WantsMemory}
@@ -99,3 +99,4 @@ WordsTellAsThreads =
     → (past : Option WriterState) → (status : ℕ) → form_of words ≡ SideBySide core scripts
     → TopTellsTruly words old new past status
     → ThreadsTell core scripts old new past status × ThreadsRan core scripts old new past status
+    × ThreadsKept core scripts old new past status

@@ -125,7 +125,7 @@ run_tells core scripts job past Stopped old mid new lines lines' faults faults' 
 run_tells core scripts job past (Refused refusal) old mid new lines lines' faults faults' read nothing same ran = tt
 run_tells core scripts job past Misused old mid new lines lines' faults faults' read nothing same ran = tt
 
-neither : {A : Type 0} (status other : ℕ) → status ≡ other → (other ≡ 0 → ⊥) → (other ≡ 5 → ⊥) → (status ≡ 0) ⊎ (status ≡ 5) → A
+pub neither : {A : Type 0} (status other : ℕ) → status ≡ other → (other ≡ 0 → ⊥) → (other ≡ 5 → ⊥) → (status ≡ 0) ⊎ (status ≡ 5) → A
 neither status other is zero five (inl e) = absurd (zero (sym is ∙ e))
 neither status other is zero five (inr e) = absurd (five (sym is ∙ e))
 

@@ -8,6 +8,7 @@ use Rattle.plcr_macho.specs.Images.{Listed}
 use Rattle.plcr_imagelist.specs.Holds.{WalkerState}
 use Rattle.plcr_script.specs.Reading.{files_of}
 use Rattle.plcr_script.specs.Scripts.{ScriptValue}
+use Rattle.plcr_workers.specs.declared.drafts.Progress.TheVariants.{Waiting}
 use Rattle.plcr_workers.specs.declared.drafts.Draft.{Draft}
 use Rattle.plcr_workers.specs.declared.places.Place.TheVariants.{Out}
 use Rattle.plcr_workers.specs.declared.worker.Worker.{Worker}
@@ -26,9 +27,9 @@ have_bytes written [] (d ∷ drafts) wrote many same gained empty = absurd (omeg
 have_bytes written (f ∷ firsts) [] wrote many same gained empty = absurd (omega (arith, same))
 have_bytes written (f ∷ firsts) (d ∷ drafts) [] many same gained empty = absurd (omega (arith, many))
 have_bytes {K} written (f ∷ firsts) (d ∷ drafts) (b ∷ wrote) many same gained empty = (
-  told_bytes (written f.out) (written d.out) b (empty 0 f (omega arith)) (gained 0 b d (omega arith)),
+  told_bytes (written f.out) (written d.out) b (empty 0 f (omega arith)).1 (gained 0 b d (omega arith)),
   have_bytes written firsts drafts wrote (omega (arith, many)) (omega (arith, same)) (λ k bytes other less. gained (suc k) bytes other (omega (arith, less)))
-      (All-tail (λ (x : Draft K). IfTold (written x.out) (λ bytes. bytes ≡ [])) f firsts empty),
+      (All-tail (λ (x : Draft K). (x.progress ≡ Waiting) × IfTold (written x.out) (λ bytes. bytes ≡ [])) f firsts empty),
 )
 
 acted_one : {K : Type 0} (written : K → Option (List ℕ)) (faults : K → ℕ) (report : List Listed → List ℕ) (queue list : TableId) (scripts : List ScriptValue) (old new : Worker K) → (view old.turns).journal ≡ [] → ((image : WalkerState) → old.image ≡ Some image → image.history ≡ [])

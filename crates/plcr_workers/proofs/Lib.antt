@@ -30,3 +30,4 @@ pub mod Staged
 pub mod Commanded
 pub mod Apart
 pub mod Worked
+pub mod Told

@@ -19,6 +19,7 @@ use Rattle.plcr_script.specs.Reading.{files_of, written_by}
 use Rattle.plcr_script.specs.Reading as reading
 use Rattle.plcr_command.specs.Saving.{TookNothing}
 use Rattle.plcr_workers.specs.declared.drafts.Draft.{Draft}
+use Rattle.plcr_workers.specs.declared.drafts.Progress.TheVariants.{Waiting}
 use Rattle.plcr_workers.specs.declared.worker.Worker.{Worker}
 use Rattle.plcr_workers.specs.Log.{file_of, file_in}
 use Rattle.plcr_workers.specs.inner.Hired.{AreNew, IsNew, writes_one}
@@ -389,7 +390,7 @@ new_empty scripts workers new k other less =
     no_items w.drafts.items (sym w.drafts.ok.0 ∙ (new k other less).none)
 
 pub new_have_empty : {K : Type 0} (written : K → Option (List ℕ)) (scripts : List ScriptValue) (workers : List (Worker K)) → AreNew scripts workers → HaveEmpty written workers
-new_have_empty {K = K} written scripts workers new k other less = subst (AreEmpty written) (sym (new_empty scripts workers new k other less)) (All-nil (λ (d : Draft K). IfTold (written d.out) (λ bytes. bytes ≡ [])))
+new_have_empty {K = K} written scripts workers new k other less = subst (AreEmpty written) (sym (new_empty scripts workers new k other less)) (All-nil (λ (d : Draft K). (d.progress ≡ Waiting) × IfTold (written d.out) (λ bytes. bytes ≡ [])))
 
 pub still_new : {K : Type 0} (faults : K → ℕ) (scripts : List ScriptValue) (count : ℕ) (olds news : List (Worker K)) (old now : Told) → AreNew scripts olds → count < length olds → MakingAll faults scripts count olds news old now → (other : Worker K) → IsNew scripts count (get_or news count other)
 still_new {K = K} faults scripts count olds news old now new within m other = subst (λ (w : Worker K). IsNew scripts count w) (sym (m.later count other (omega arith) within)) (new count other within)

@@ -36,7 +36,7 @@ use Rattle.plcr_workers.proofs.Settled.{nothing_twice, rose_first}
 use Rattle.plcr_workers.proofs.Worked.{all_behind}
 
 -- the same list, where it is told
-gains_same : {A : Type 0} (old new : Option (List A)) → new ≡ old → Gains old new []
+pub gains_same : {A : Type 0} (old new : Option (List A)) → new ≡ old → Gains old new []
 gains_same old new same = subst (λ n. Gains old n []) (sym same) (gains_none old)
 
 module _ {K : Type 0} (written : K → Option (List ℕ)) (scripts : List ScriptValue) where
@@ -64,13 +64,13 @@ module _ {K : Type 0} (written : K → Option (List ℕ)) (scripts : List Script
 
 module _ {K : Type 0} (written : K → Option (List ℕ)) (faults : K → ℕ) (job : Job) (workers : List (Worker K)) (drafts : List (Draft K)) (same : drafts ≡ outputs_of workers)
     (old mid new : Told) (lines lines' : Option (List ℕ)) (counts counts' : ℕ) where
-  names_are : HasWorked faults job.scripts workers old mid → draft_names job.scripts drafts ≡ written_by job.scripts
+  pub names_are : HasWorked faults job.scripts workers old mid → draft_names job.scripts drafts ≡ written_by job.scripts
   names_are w = ap (λ (l : List (Draft K)). draft_names job.scripts l) same ∙ w.names
 
   made_all : HasWorked faults job.scripts workers old mid → new.made ≡ mid.made → Gains old.made new.made (written_by job.scripts)
   made_all w stay = subst (λ (m : Option (List (List ℕ))). Gains old.made m (written_by job.scripts)) (sym stay) w.made.made
 
-  kept_some : (files : List (List ℕ × List ℕ)) → HasWorked faults job.scripts workers old mid → Gains mid.kept new.kept files → Gains old.kept new.kept files
+  pub kept_some : (files : List (List ℕ × List ℕ)) → HasWorked faults job.scripts workers old mid → Gains mid.kept new.kept files → Gains old.kept new.kept files
   kept_some files w gains = subst (λ (k : Option (List (List ℕ × List ℕ))). Gains k new.kept files) w.made.kept gains
 
   pub all_kept : (journal : List ChangeLine) (others : List (List PassLine)) → HasWorked faults job.scripts workers old mid → HasKeptAll written job.scripts drafts mid new → lines' ≡ append_known lines (threads_log job.scripts journal others)

@@ -25,6 +25,7 @@ use Rattle.plcr_workers.specs.declared.lines.PassLine.{PassLine}
 use Rattle.plcr_workers.specs.Asking.{accepted_changes, change_lines}
 use Rattle.plcr_workers.specs.Outcomes.{JournalRuns}
 use Rattle.plcr_workers.specs.declared.command.TheConstants.{SIDE_BY_SIDE}
+use Rattle.plcr_workers.specs.Stopped.{IsLawfulReport}
 use Rattle.plcr_workers.specs.Log.{threads_log}
 use Rattle.plcr_workers.specs.Threads.{ScriptsRun}
 
@@ -121,6 +122,24 @@ pub record RanTogether (past : Option WriterState) (status : ℕ) (job : Job) (o
 abbrev pub ThreadsTell : List ℕ → List (List ℕ) → Seen → Seen → Option WriterState → ℕ → Type 0
 ThreadsTell core scripts old new past status =
     (status ≡ 0) ⊎ (status ≡ 5) → HasRead (IsJob SIDE_BY_SIDE) (job_files core scripts) (RanTogether past status) old new
+
+-- the files that were kept are the first that the scripts write, in the order of script and line, and each is a report of the images of a walk that is lawful between two lists of the history
+pub record KeptReports (job : Job) (w : WriterState) (old new : Seen) : Type 0 where
+  pub files : List (List ℕ × List ℕ)
+  pub rest : List (List ℕ)
+  pub names : written_by job.scripts ≡ kept_names files ++ rest
+  pub gained : Gains old.desk.kept new.desk.kept files
+  pub reports : All (λ (file : List ℕ × List ℕ). IsLawfulReport (meanings_in job.core job.scripts) w file.1) files
+
+-- the run of a job's scripts left a writer, and what was kept are lawful reports of what this has seen
+pub record RanReports (past : Option WriterState) (job : Job) (old new : Seen) : Type 0 where
+  pub writer : WriterState
+  pub is : past ≡ Some writer
+  pub kept : KeptReports job writer old new
+
+-- where `threads CORE SCRIPT...` came to its run, also where it stopped, each file that it kept is a lawful report
+abbrev pub ThreadsKept : List ℕ → List (List ℕ) → Seen → Seen → Option WriterState → ℕ → Type 0
+ThreadsKept core scripts old new past status = (status ≡ 0) ⊎ (status ≡ 5) → HasRead (IsJob SIDE_BY_SIDE) (job_files core scripts) (RanReports past) old new
 
 -- what the scripts of a job came to that ran whole, where this is what was told: one history, which the writer has seen; a journal that has each load and unload line of each script once, and whose accepted lines are the changes of the history; and for each script its other lines and its files, which are those of a run of its statements: its stays with their windows, the images that they met, and what their reports say. All files were kept, and the log of all this is what was printed
 pub record RanWhole (past : Option WriterState) (job : Job) (old new : Seen) : Type 0 where

@@ -4,9 +4,9 @@ ghost use Rattle.plcr_command.specs.Endings.{Goes, GoesOn};
 ghost use Rattle.plcr_command.specs.Jobs.{IsLawfulJob, texts};
 ghost use Rattle.plcr_command.specs.Seen.{seen};
 ghost use Rattle.plcr_script.specs.Scripts.{ScriptValue};
-ghost use Rattle.plcr_workers.specs.Command.{Threads, ThreadsDoes, ThreadsLeave, ThreadsTell, ThreadsRan};
+ghost use Rattle.plcr_workers.specs.Command.{Threads, ThreadsKept, ThreadsDoes, ThreadsLeave, ThreadsTell, ThreadsRan};
 ghost use Rattle.plcr_workers.specs.inner.Own.{HaveOwnLines};
-ghost use Rattle.plcr_workers.specs.inner.Stages.{LeavesBy, RunEnds, TellsBy, WholeBy, WholeIn};
+ghost use Rattle.plcr_workers.specs.inner.Stages.{KeptBy, KeptIn, LeavesBy, RunEnds, TellsBy, WholeBy, WholeIn};
 
 use crate::gate::Gate;
 use crate::opening::open;
@@ -52,6 +52,9 @@ where
     ensures journal { ThreadsTell core.now (map string_bytes scripts.now)
         (seen (D.told desk.old) (L.written lines.old) (L.faults lines.old))
         (seen (D.told desk.new) (L.written lines.new) (L.faults lines.new)) past.new result }
+    ensures kept { ThreadsKept core.now (map string_bytes scripts.now)
+        (seen (D.told desk.old) (L.written lines.old) (L.faults lines.old))
+        (seen (D.told desk.new) (L.written lines.new) (L.faults lines.new)) past.new result }
     ensures ran { ThreadsRan core.now (map string_bytes scripts.now)
         (seen (D.told desk.old) (L.written lines.old) (L.faults lines.old))
         (seen (D.told desk.new) (L.written lines.new) (L.faults lines.new)) past.new result }
@@ -82,6 +85,9 @@ where
         (seen (D.told desk.old) (L.written lines.old) (L.faults lines.old))
         (seen (D.told desk.new) (L.written lines.new) (L.faults lines.new)) past.new result }
     ensures tells { TellsBy core.now (map string_bytes scripts.now)
+        (seen (D.told desk.old) (L.written lines.old) (L.faults lines.old))
+        (seen (D.told desk.new) (L.written lines.new) (L.faults lines.new)) past.new result }
+    ensures kept { KeptIn core.now (map string_bytes scripts.now)
         (seen (D.told desk.old) (L.written lines.old) (L.faults lines.old))
         (seen (D.told desk.new) (L.written lines.new) (L.faults lines.new)) past.new result }
     ensures ran { WholeIn core.now (map string_bytes scripts.now)
@@ -139,6 +145,9 @@ where
     ensures tells { TellsBy core.now (texts scripts.now)
         (seen (D.told desk.old) (L.written lines.old) (L.faults lines.old))
         (seen (D.told desk.new) (L.written lines.new) (L.faults lines.new)) past.new result }
+    ensures kept { KeptIn core.now (texts scripts.now)
+        (seen (D.told desk.old) (L.written lines.old) (L.faults lines.old))
+        (seen (D.told desk.new) (L.written lines.new) (L.faults lines.new)) past.new result }
     ensures ran { WholeIn core.now (texts scripts.now)
         (seen (D.told desk.old) (L.written lines.old) (L.faults lines.old))
         (seen (D.told desk.new) (L.written lines.new) (L.faults lines.new)) past.new result }
@@ -172,6 +181,9 @@ where
     requires apart { All (λ (script : ScriptValue). HaveOwnLines script.statements) job.scripts }
     requires empty { past.old ≡ None }
     ensures ends { RunEnds job
+        (seen (D.told desk.old) (L.written lines.old) (L.faults lines.old))
+        (seen (D.told desk.new) (L.written lines.new) (L.faults lines.new)) past.new result }
+    ensures kept { KeptBy job
         (seen (D.told desk.old) (L.written lines.old) (L.faults lines.old))
         (seen (D.told desk.new) (L.written lines.new) (L.faults lines.new)) past.new result }
     ensures ran { WholeBy job

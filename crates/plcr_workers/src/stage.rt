@@ -18,7 +18,7 @@ ghost use Rattle.plcr_workers.specs.Log.{scripts_text, threads_log};
 ghost use Rattle.plcr_workers.specs.inner.Hired.{AreNew, AreNumbered, IsGone, IsHired};
 ghost use Rattle.plcr_workers.specs.inner.Outputs.{AreDone, HasOpenFor, IsDraftOf, NotAllMade, StandsAt, in_order, name_at, outputs_of};
 ghost use Rattle.plcr_workers.specs.inner.Own.{HaveOwnLines, KnowsOwnOf};
-ghost use Rattle.plcr_workers.specs.inner.Stages.{AppliesAll, AreLinesOf, HasWorked, IsStage, LogEnds, RunEnds, RunWhole, Settles, WholeBy, items_of, job_of};
+ghost use Rattle.plcr_workers.specs.inner.Stages.{AppliesAll, AreLinesOf, HasReported, KeptBy, ToldReports, HasWorked, IsStage, LogEnds, RunEnds, RunWhole, Settles, WholeBy, items_of, job_of};
 ghost use Rattle.plcr_workers.specs.inner.Traces.{IsActed};
 
 use crate::crew::{Left, gather, run_all};
@@ -67,6 +67,9 @@ where
     requires apart { All (λ (script : ScriptValue). HaveOwnLines script.statements) scripts.now }
     requires stage { IsStage scripts.now stage }
     ensures ends { RunEnds (job_of core.now scripts.now)
+        (seen (D.told desk.old) (L.written lines.old) (L.faults lines.old))
+        (seen (D.told desk.new) (L.written lines.new) (L.faults lines.new)) past.new result }
+    ensures kept { KeptBy (job_of core.now scripts.now)
         (seen (D.told desk.old) (L.written lines.old) (L.faults lines.old))
         (seen (D.told desk.new) (L.written lines.new) (L.faults lines.new)) past.new result }
     ensures ran { WholeBy (job_of core.now scripts.now)
@@ -142,6 +145,7 @@ where
     requires hired { All (λ w. IsHired queue.now.table.shared.table_id list.now scripts.now w) workers.old }
     ensures ok { OnOk result (HasWorked D.Out.faults scripts.now workers.new (D.told desk.old) (D.told desk.new)) }
     ensures err { IfErr result (λ unwritten. NotAllMade scripts.now workers.new unwritten.script unwritten.at (D.told desk.old) (D.told desk.new)) }
+    ensures reports { OnOk result (HasReported D.Out.written D.Out.faults (meanings_in core.now scripts.now) workers.new) }
     ensures acted { OnOk result (All (λ w. IsActed D.Out.written (meanings_in core.now scripts.now).report scripts.now w) workers.new) }
     ensures own { All (λ w. KnowsOwnOf (meanings_in core.now scripts.now) scripts.now w) workers.new }
     ensures count { length workers.new ≡ length scripts.now }
@@ -179,6 +183,7 @@ fn end_workers<R: Wait, K: Sink + Drop>(
     requires none { (vec_len room.images ≡ 0) × (vec_len room.drafts ≡ 0) × (vec_len room.others ≡ 0) }
     ensures writer { IsWriterOf scripts.now (Some result.writer) }
     ensures tells { (process : Meanings) → All (λ w. KnowsOwnOf process scripts.now w) workers.items → IsJournalOf process scripts.now result.journal.items result.writer × AppliesAll scripts.now workers.items result.journal.items }
+    ensures reported { (process : Meanings) → HasReported K.written K.faults process workers.items → ToldReports K.written process result.writer workers.items }
     ensures runs { (process : Meanings) → RunWhole K.written process scripts.now workers.items result.writer result.journal.items (items_of result.others.items) }
     ensures journal { All (λ (l : JournalLine). l.script < length scripts.now) result.journal.items }
     ensures drafts { in_order result.drafts.items ≡ outputs_of workers.items }

@@ -41,9 +41,9 @@ pub record IsWaiting {K : Type 0} (written : K → Option (List ℕ)) (faults : 
   pub empty : IfTold (written draft.out) (λ bytes. bytes ≡ [])
   pub faultless : faults draft.out ≡ 0
 
--- outputs into which nothing was written, where that is told
+-- outputs that wait, into which nothing was written, where that is told
 abbrev pub AreEmpty : {K : Type 0} → (K → Option (List ℕ)) → List (Draft K) → Type 0
-AreEmpty {K = K} written drafts = All (λ (d : Draft K). IfTold (written d.out) (λ bytes. bytes ≡ [])) drafts
+AreEmpty {K = K} written drafts = All (λ (d : Draft K). (d.progress ≡ Waiting) × IfTold (written d.out) (λ bytes. bytes ≡ [])) drafts
 
 -- those of workers
 abbrev pub HaveEmpty : {K : Type 0} → (K → Option (List ℕ)) → List (Worker K) → Type 0

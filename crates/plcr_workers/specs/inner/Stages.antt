@@ -35,9 +35,11 @@ use Rattle.plcr_workers.specs.declared.drafts.Progress.TheVariants.{Written}
 use Rattle.plcr_workers.specs.declared.lines.PassLine.{PassLine}
 use Rattle.plcr_workers.specs.declared.making.Unwritten.{Unwritten}
 use Rattle.plcr_workers.specs.declared.worker.Worker.{Worker}
+use Rattle.plcr_workers.specs.inner.Drafts.{HaveTaken}
+use Rattle.plcr_workers.specs.inner.Reports.{HaveReports, IsToldReport}
 use Rattle.plcr_workers.specs.inner.Hired.{IsHired, IsWholeOf, AreNew}
-use Rattle.plcr_workers.specs.inner.Outputs.{AreFiles, AreDone, HasDropped, HasKeptAll, HasKeptUpTo, HasMade, IsDraftOf, draft_names, outputs_of}
-use Rattle.plcr_workers.specs.Command.{AllApplied, AllKept, StoppedBy, IsJournalOf, IsWriterOf, LeftByScripts, RanTogether, meanings_in, RanWhole}
+use Rattle.plcr_workers.specs.inner.Outputs.{AreFiles, AreDone, HaveEmpty, HasDropped, HasKeptAll, HasKeptUpTo, HasMade, IsDraftOf, draft_names, outputs_of}
+use Rattle.plcr_workers.specs.Command.{AllApplied, AllKept, StoppedBy, IsJournalOf, IsWriterOf, LeftByScripts, RanTogether, meanings_in, RanReports, RanWhole}
 
 -- the writer has met these passes, and made nothing meanwhile
 pub record HasMetThese (passes : List WalkerState) (old new : WriterState) : Type 0 where
@@ -69,6 +71,17 @@ pub record HasWorked {K : Type 0} (faults : K → ℕ) (scripts : List ScriptVal
   pub are : All (IsDraftOf scripts) (outputs_of workers)
   pub done : AreDone faults (outputs_of workers)
   pub wholes : All (λ (w : Worker K). IsWholeOf scripts w) workers
+
+-- workers that ran with outputs into which nothing was written, and what they wrote
+pub record HasReported {K : Type 0} (written : K → Option (List ℕ)) (faults : K → ℕ) (process : Meanings) (workers : List (Worker K)) : Type 0 where
+  pub first : List (Worker K)
+  pub reports : HaveReports written process.report first workers
+  pub taken : HaveTaken faults first workers
+  pub empty : HaveEmpty written first
+
+-- each output that they have written whole is a lawful report in what the writer has seen
+abbrev pub ToldReports : {K : Type 0} → (K → Option (List ℕ)) → Meanings → WriterState → List (Worker K) → Type 0
+ToldReports {K = K} written process w workers = All (λ (d : Draft K). d.progress ≡ Written → IsToldReport written process w d) (outputs_of workers)
 
 -- where such workers have written all outputs whole, all lines were applied
 abbrev pub AppliesAll : {K : Type 0} → List ScriptValue → List (Worker K) → List ChangeLine → Type 0
@@ -141,6 +154,19 @@ TellsBy core scripts old new past Done = HasRead (IsJob SIDE_BY_SIDE) (job_files
 TellsBy core scripts old new past Stopped = HasRead (IsJob SIDE_BY_SIDE) (job_files core scripts) (RanTogether past 5) old new
 TellsBy core scripts old new past (Refused refusal) = Unit {0}
 TellsBy core scripts old new past Misused = Unit {0}
+
+-- what the files are that a run kept
+abbrev pub KeptBy : Job → Seen → Seen → Option WriterState → Ending → Type 0
+KeptBy job old new past Done = RanReports past job old new
+KeptBy job old new past Stopped = RanReports past job old new
+KeptBy job old new past (Refused refusal) = Unit {0}
+KeptBy job old new past Misused = Unit {0}
+
+abbrev pub KeptIn : List ℕ → List (List ℕ) → Seen → Seen → Option WriterState → Ending → Type 0
+KeptIn core scripts old new past Done = HasRead (IsJob SIDE_BY_SIDE) (job_files core scripts) (RanReports past) old new
+KeptIn core scripts old new past Stopped = HasRead (IsJob SIDE_BY_SIDE) (job_files core scripts) (RanReports past) old new
+KeptIn core scripts old new past (Refused refusal) = Unit {0}
+KeptIn core scripts old new past Misused = Unit {0}
 
 -- what a run whose scripts workers can run comes to, where all was done
 abbrev pub WholeBy : Job → Seen → Seen → Option WriterState → Ending → Type 0

@@ -27,7 +27,7 @@ returns-in-None-clause-past g c =
 pub returns-in-Some-clause-headline : goal.returns-in-Some-clause-headline
 returns-in-Some-clause-headline g c =
     side_tells (map string_bytes c.args.words.now) (seen (g.D.Desk.told c.args.desk.now) (g.L.Sink.written c.args.lines.now) (g.L.Sink.faults c.args.lines.now))
-    (seen (g.D.Desk.told c.threads_command.new.desk) (g.L.Sink.written c.threads_command.new.lines) (g.L.Sink.faults c.threads_command.new.lines)) c.threads_command.result c.threads_command.new.past _ _ c.in-Some.ensures.form c.threads_command.ensures.journal c.threads_command.ensures.ran
+    (seen (g.D.Desk.told c.threads_command.new.desk) (g.L.Sink.written c.threads_command.new.lines) (g.L.Sink.faults c.threads_command.new.lines)) c.threads_command.result c.threads_command.new.past _ _ c.in-Some.ensures.form c.threads_command.ensures.journal c.threads_command.ensures.ran c.threads_command.ensures.kept
 
 pub returns-in-None-clause-headline : goal.returns-in-None-clause-headline
 returns-in-None-clause-headline g c =

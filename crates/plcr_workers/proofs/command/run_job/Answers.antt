@@ -4,6 +4,7 @@ use Rattle.plcr_script.specs.Scripts.{ScriptValue}
 use Rattle.plcr_command.specs.Seen.{seen}
 use Rattle.plcr_workers.specs.inner.Own.{HaveOwnLines}
 use Rattle.plcr_workers.specs.inner.Stages.{RunEnds, WholeBy, job_of}
+use Rattle.plcr_workers.specs.inner.Stages.{KeptBy}
 use Rattle.plcr_workers.proofs.command.run_job.Goals as goal
 
 pub open-requires-clause-some : goal.open-requires-clause-some
@@ -37,3 +38,8 @@ pub returns-in-Ok-clause-ran : goal.returns-in-Ok-clause-ran
 returns-in-Ok-clause-ran g c =
     subst (λ (scripts : List ScriptValue). WholeBy (job_of c.args.job.core scripts) (seen (g.D.Desk.told c.args.desk.now) (g.L.Sink.written c.args.lines.now) (g.L.Sink.faults c.args.lines.now))
     (seen (g.D.Desk.told c.run_stage.new.desk) (g.L.Sink.written c.run_stage.new.lines) (g.L.Sink.faults c.run_stage.new.lines)) c.run_stage.new.past c.run_stage.result) c.as_slice-scripts.ensures c.run_stage.ensures.ran
+
+pub returns-in-Ok-clause-kept : goal.returns-in-Ok-clause-kept
+returns-in-Ok-clause-kept g c =
+    subst (λ (scripts : List ScriptValue). KeptBy (job_of c.args.job.core scripts) (seen (g.D.Desk.told c.args.desk.now) (g.L.Sink.written c.args.lines.now) (g.L.Sink.faults c.args.lines.now))
+    (seen (g.D.Desk.told c.run_stage.new.desk) (g.L.Sink.written c.run_stage.new.lines) (g.L.Sink.faults c.run_stage.new.lines)) c.run_stage.new.past c.run_stage.result) c.as_slice-scripts.ensures c.run_stage.ensures.kept

@@ -5,6 +5,7 @@ use Rattle.plcr_command.specs.Seen.{seen}
 use Rattle.plcr_workers.specs.Command.{Threads}
 use Rattle.plcr_workers.specs.inner.Stages.{LeavesBy, TellsBy, WholeIn}
 use Rattle.plcr_workers.proofs.Commanded.{wants_first}
+use Rattle.plcr_workers.specs.inner.Stages.{KeptIn}
 use Rattle.plcr_workers.proofs.command.threads.Goals as goal
 
 pub threads_named-requires-clause-scripts : goal.threads_named-requires-clause-scripts
@@ -36,3 +37,8 @@ pub returns-in-Ok-clause-ran : goal.returns-in-Ok-clause-ran
 returns-in-Ok-clause-ran g c =
     subst (λ (names : List (List ℕ)). WholeIn c.args.core.now names (seen (g.D.Desk.told c.args.desk.now) (g.L.Sink.written c.args.lines.now) (g.L.Sink.faults c.args.lines.now))
     (seen (g.D.Desk.told c.threads_named.new.desk) (g.L.Sink.written c.threads_named.new.lines) (g.L.Sink.faults c.threads_named.new.lines)) c.threads_named.new.past c.threads_named.result) (ap texts c.as_slice-lent.ensures.value ∙ c.in-Ok.ensures.names) c.threads_named.ensures.ran
+
+pub returns-in-Ok-clause-kept : goal.returns-in-Ok-clause-kept
+returns-in-Ok-clause-kept g c =
+    subst (λ (names : List (List ℕ)). KeptIn c.args.core.now names (seen (g.D.Desk.told c.args.desk.now) (g.L.Sink.written c.args.lines.now) (g.L.Sink.faults c.args.lines.now))
+    (seen (g.D.Desk.told c.threads_named.new.desk) (g.L.Sink.written c.threads_named.new.lines) (g.L.Sink.faults c.threads_named.new.lines)) c.threads_named.new.past c.threads_named.result) (ap texts c.as_slice-lent.ensures.value ∙ c.in-Ok.ensures.names) c.threads_named.ensures.kept

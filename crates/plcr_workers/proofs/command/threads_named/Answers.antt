@@ -6,6 +6,7 @@ use Rattle.plcr_workers.proofs.Apart.{job_apart}
 use Rattle.plcr_workers.proofs.Runnable.{job_runnable}
 use Rattle.plcr_workers.proofs.Wholly.{run_whole}
 use Rattle.plcr_workers.proofs.Commanded.{run_left, run_tells, threads_run}
+use Rattle.plcr_workers.proofs.Told.{run_keeps}
 use Rattle.plcr_workers.proofs.command.threads_named.Goals as goal
 
 pub run_job-requires-clause-scripts : goal.run_job-requires-clause-scripts
@@ -41,3 +42,8 @@ pub returns-in-Ok-clause-ran : goal.returns-in-Ok-clause-ran
 returns-in-Ok-clause-ran g c =
     run_whole c.args.core.now (texts c.args.scripts.now) c.in-Ok.job c.run_job.new.past c.run_job.result (g.D.Desk.told c.args.desk.now) (g.D.Desk.told c.read_job.new.desk) (g.D.Desk.told c.run_job.new.desk) (g.L.Sink.written c.args.lines.now) (g.L.Sink.written c.run_job.new.lines) (g.L.Sink.faults c.args.lines.now) (g.L.Sink.faults c.run_job.new.lines)
     c.in-Ok.ensures.read c.read_job.ensures.nothing c.run_job.ensures.goes_on.desk.taken (job_runnable c.in-Ok.ensures.read.contents c.in-Ok.job c.in-Ok.ensures.read.read) c.run_job.ensures.ran
+
+pub returns-in-Ok-clause-kept : goal.returns-in-Ok-clause-kept
+returns-in-Ok-clause-kept g c =
+    run_keeps c.args.core.now (texts c.args.scripts.now) c.in-Ok.job c.run_job.new.past c.run_job.result (g.D.Desk.told c.args.desk.now) (g.D.Desk.told c.read_job.new.desk) (g.D.Desk.told c.run_job.new.desk) (g.L.Sink.written c.args.lines.now) (g.L.Sink.written c.run_job.new.lines) (g.L.Sink.faults c.args.lines.now) (g.L.Sink.faults c.run_job.new.lines)
+    c.in-Ok.ensures.read c.read_job.ensures.nothing c.run_job.ensures.goes_on.desk.taken c.run_job.ensures.kept

@@ -5,6 +5,7 @@ use Rattle.plcr_turns.proofs.Fronts.{all_more}
 use Rattle.plcr_workers.specs.Log.{file_in}
 use Rattle.plcr_workers.specs.inner.Outputs.{AreEmpty}
 use Rattle.plcr_workers.specs.declared.drafts.Draft.{Draft}
+use Rattle.plcr_workers.specs.declared.drafts.Progress.TheVariants.{Waiting}
 use Rattle.plcr_workers.proofs.Worked.{none_all}
 use Rattle.plcr_workers.proofs.Made.{MakingEach, stands_at, not_report, making_none, making_same, making_one, making_cut, making_room, made_one}
 use Rattle.plcr_workers.proofs.making.make_drafts.Goals.{in-Report+in-Ok, in_default}
@@ -13,7 +14,7 @@ use Rattle.plcr_workers.proofs.making.make_drafts.Goals as goal
 pub loop-at-init : goal.loop-at-init
 loop-at-init g c =
     let none : length c.args.drafts.now.items ≡ 0 = sym c.args.drafts.now.ok.0 ∙ c.requires.none in
-    (making_none g.D.Out.Sink.faults c.args.number c.args.script.now.statements c.args.drafts.now.items (g.D.Desk.told c.args.desk.now) none, refl, none_all (λ (d : Draft g.row.D-Out.Denot). IfTold (g.D.Out.Sink.written d.out) (λ bytes. bytes ≡ [])) c.args.drafts.now.items none)
+    (making_none g.D.Out.Sink.faults c.args.number c.args.script.now.statements c.args.drafts.now.items (g.D.Desk.told c.args.desk.now) none, refl, none_all (λ (d : Draft g.row.D-Out.Denot). (d.progress ≡ Waiting) × IfTold (g.D.Out.Sink.written d.out) (λ bytes. bytes ≡ [])) c.args.drafts.now.items none)
 
 pub returns-in-Err-clause-err : goal.returns-in-Err-clause-err
 returns-in-Err-clause-err g c =
@@ -41,7 +42,7 @@ loop-at-preserved g c = elim c.match-statement.branch [
             (made_one w.in-Report.file (g.D.Desk.told c.loop-at.desk) (g.D.Desk.told w.make.new.self) (e.listed ∙ ap (add (g.D.Desk.told c.loop-at.desk).made) (w.file_name.ensures ∙ w.as_slice.ensures)) e.kept e.dropped (record { files = e.files; taken = e.taken; take_faults = e.take_faults; out_faults = e.later }))
             c.loop-at.invariant.0),
         w.push_reserved.ensures.capacity ∙ c.loop-at.invariant.1,
-        subst (AreEmpty g.D.Out.Sink.written) (sym w.push_reserved.ensures.items) (all_more (λ (d : Draft g.row.D-Out.Denot). IfTold (g.D.Out.Sink.written d.out) (λ bytes. bytes ≡ [])) c.loop-at.drafts.items _ c.loop-at.invariant.2 e.empty),
+        subst (AreEmpty g.D.Out.Sink.written) (sym w.push_reserved.ensures.items) (all_more (λ (d : Draft g.row.D-Out.Denot). (d.progress ≡ Waiting) × IfTold (g.D.Out.Sink.written d.out) (λ bytes. bytes ≡ [])) c.loop-at.drafts.items _ c.loop-at.invariant.2 (refl, e.empty)),
       )
   | in_default w ↦
       rw (w.desk-is, w.drafts-is) (

@@ -11,6 +11,7 @@ use Rattle.plcr_workers.specs.inner.Outputs.{outputs_of}
 use Rattle.plcr_workers.specs.inner.Stages.{AppliesAll, AreLinesOf, HasMetThese, HaveRun, items_of}
 use Rattle.plcr_workers.proofs.Whole.{scripts_ran}
 use Rattle.plcr_workers.proofs.Worked.{few_lines, journal_applies, journal_is, lines_are, same_table, writer_is}
+use Rattle.plcr_workers.proofs.Told.{told_by}
 use Rattle.plcr_workers.proofs.stage.end_workers.Goals as goal
 
 pub take_last-requires-clause-chief : goal.take_last-requires-clause-chief
@@ -81,3 +82,8 @@ returns-clause-runs g c = λ process may acted names whole.
     may acted names whole in
     subst (λ (j : List ChangeLine). HaveRun g.K.Sink.written process scripts w j (outputs_of workers) (items_of c.gather-left.result.others.items)) (sym c.end-writer.ensures.journal)
     (subst (λ (l : List (Vec PassLine Global)). HaveRun g.K.Sink.written process scripts w c.take_last.result.journal (outputs_of workers) (items_of l)) (sym left.others) r)
+
+pub returns-clause-reported : goal.returns-clause-reported
+returns-clause-reported g c = λ process h.
+    told_by g.K.Sink.written g.K.Sink.faults process c.args.queue.now.table.shared.table_id c.args.list.now c.args.scripts.now c.args.workers.items c.gather-left.result.images.items c.end-writer.result.0 c.meet_all-writer.result
+    c.requires.gone c.gather-left.ensures.passes c.meet_all-writer.ensures.met c.meet_all-writer.ensures.rest h

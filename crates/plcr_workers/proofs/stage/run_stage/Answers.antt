@@ -9,6 +9,8 @@ use Rattle.plcr_workers.specs.inner.Stages.{AreLinesOf, LogEnds, items_of, job_o
 use Rattle.plcr_workers.proofs.Opened.{opens_none}
 use Rattle.plcr_workers.proofs.Staged.{lent_whole, run_cut, run_goes, run_kept, run_stands, worked_by, worked_ok, worked_open}
 use Rattle.plcr_workers.proofs.Wholly.{whole_kept}
+use Rattle.plcr_workers.proofs.Made.{ok_of}
+use Rattle.plcr_workers.proofs.Told.{kept_any, run_reports}
 use Rattle.plcr_workers.proofs.stage.run_stage.Goals as goal
 
 pub work-made-requires-clause-new : goal.work-made-requires-clause-new
@@ -119,3 +121,20 @@ returns-in-Ok-clause-ran g c =
     c.work-made.ensures.acted c.in-Ok.is c.settle.ensures.settles
     (subst (λ (text : List ℕ). LogEnds (g.L.Sink.written c.args.lines.now) (g.L.Sink.written c.print_log.new.lines) text (g.L.Sink.faults c.args.lines.now) (g.L.Sink.faults c.print_log.new.lines) c.print_log.result)
     (λ i. threads_log c.args.scripts.now (c.as_slice-applied.ensures.value i) (items_of (c.as_slice-rest.ensures.value i))) c.print_log.ensures.ends)
+
+pub returns-in-Ok-clause-kept : goal.returns-in-Ok-clause-kept
+returns-in-Ok-clause-kept g c =
+    kept_any _ _ _ _ c.print_log.result
+    (run_reports g.D.Out.Sink.written g.D.Out.Sink.faults (job_of c.args.core.now c.args.scripts.now) c.work-made.new.workers _ (lent_whole c.args.stage.workers.len c.work-made.new.workers c.args.stage.workers.items (c.work-made.ensures.count ∙ sym c.requires.stage.count ∙ c.args.stage.workers.ok.0) (sym c.args.stage.workers.ok.0))
+    (in_order c.end_workers-ran.result.drafts.items) c.end_workers-ran.ensures.drafts (g.D.Desk.told c.args.desk.now) (g.D.Desk.told c.work-made.new.desk) (g.D.Desk.told c.settle.new.desk) (g.L.Sink.written c.args.lines.now) (g.L.Sink.written c.print_log.new.lines) (g.L.Sink.faults c.args.lines.now) (g.L.Sink.faults c.print_log.new.lines)
+    c.work-made.result c.end_workers-ran.result.writer
+    (worked_by g.D.Out.Sink.faults c.args.scripts.now c.work-made.new.workers (g.D.Desk.told c.args.desk.now) (g.D.Desk.told c.work-made.new.desk) c.work-made.result c.work-made.ensures.ok c.work-made.ensures.err)
+    c.end_workers-ran.ensures.reported (λ is. ok_of is c.work-made.ensures.reports) c.settle.result c.settle.ensures.settles)
+
+pub returns-clause-kept : goal.returns-clause-kept
+returns-clause-kept g c =
+    run_reports g.D.Out.Sink.written g.D.Out.Sink.faults (job_of c.args.core.now c.args.scripts.now) c.work-made.new.workers _ (lent_whole c.args.stage.workers.len c.work-made.new.workers c.args.stage.workers.items (c.work-made.ensures.count ∙ sym c.requires.stage.count ∙ c.args.stage.workers.ok.0) (sym c.args.stage.workers.ok.0))
+    (in_order c.end_workers-ran.result.drafts.items) c.end_workers-ran.ensures.drafts (g.D.Desk.told c.args.desk.now) (g.D.Desk.told c.work-made.new.desk) (g.D.Desk.told c.settle.new.desk) (g.L.Sink.written c.args.lines.now) (g.L.Sink.written c.print_failed.new.lines) (g.L.Sink.faults c.args.lines.now) (g.L.Sink.faults c.print_failed.new.lines)
+    c.work-made.result c.end_workers-ran.result.writer
+    (worked_by g.D.Out.Sink.faults c.args.scripts.now c.work-made.new.workers (g.D.Desk.told c.args.desk.now) (g.D.Desk.told c.work-made.new.desk) c.work-made.result c.work-made.ensures.ok c.work-made.ensures.err)
+    c.end_workers-ran.ensures.reported (λ is. ok_of is c.work-made.ensures.reports) c.settle.result c.settle.ensures.settles

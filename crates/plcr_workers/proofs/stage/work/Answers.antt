@@ -6,6 +6,7 @@ use Rattle.plcr_workers.proofs.Gone.{acted_all}
 use Rattle.plcr_workers.proofs.Made.{ok_of}
 use Rattle.plcr_workers.proofs.Worked.{hired_same, gone_all, know_all, numbered_same, numbered_taken, ready_all, has_worked, meanings_are, context_fits}
 use Rattle.plcr_workers.specs.Command.{meanings_in}
+use Rattle.plcr_workers.specs.inner.Reports.{HaveReports}
 use Rattle.plcr_workers.proofs.stage.work.Goals as goal
 
 pub returns-in-Err-clause-own : goal.returns-in-Err-clause-own
@@ -60,3 +61,12 @@ returns-clause-acted g c =
     (hired_same c.args.queue.now.table.shared.table_id c.args.list.now c.args.scripts.now c.args.workers.now c.make_all.new.workers c.make_all.ensures.same c.requires.hired)
     c.requires.apart)
     c.run_all.ensures.taken c.run_all.ensures.acted)
+
+pub returns-clause-reports : goal.returns-clause-reports
+returns-clause-reports g c = record {
+  first = c.make_all.new.workers;
+  reports = subst (λ (p : Meanings). HaveReports g.D.Out.Sink.written p.report c.make_all.new.workers c.run_all.new.workers)
+      (meanings_are c.args.core.now c.args.scripts.now c.index-scripts-0.result c.context-context.result c.requires.some c.index-scripts-0.is c.context-context.ensures.same) c.run_all.ensures.reports;
+  taken = c.run_all.ensures.taken;
+  empty = c.make_all.ensures.empty;
+}
