@@ -33,6 +33,10 @@ RUNS = [
 ]
 
 
+# scripts that run side by side, their log, and the images of the one report that no other script has a part in
+SIDES = ("eight_images.core", ["side_one.script", "side_two.script"], "side_by_side.log", {"one.plcrash": "A B"})
+
+
 def example(name, mode="r"):
     with open(os.path.join(EXAMPLES, name), mode) as file:
         return file.read()
@@ -53,6 +57,11 @@ def with_lengths(folder, log):
     """The log with each `*` in the place of a report's length as the length that its file has."""
     return re.sub(r"report (\S+) \*", lambda found: "report %s %d" % (
         found.group(1), os.path.getsize(os.path.join(folder, found.group(1)))), log)
+
+
+def fits(log, pattern):
+    """Whether a log is as this one, which has `*` for each word that depends on how the threads ran."""
+    return re.fullmatch(re.escape(pattern).replace(r"\*", r"\d+"), log) is not None
 
 
 def images(folder, report):
@@ -106,4 +115,15 @@ for core, script, log, reports in RUNS:
             for thread, frames in wanted.items():
                 same("thread %d of signal.core has the frames" % thread, found[thread], frames)
             print("signal.core: %d threads with %d frames, as they were" % (len(wanted), sum(map(len, wanted.values()))))
+core, scripts, log, reports = SIDES
+with tempfile.TemporaryDirectory() as folder:
+    for name in (core, *scripts):
+        os.symlink(os.path.abspath(os.path.join(EXAMPLES, name)), os.path.join(folder, name))
+    printed = said(folder, "threads", core, *scripts)
+    if not fits(printed, example(log)):
+        sys.exit("%s: %r, and not %r" % (log, printed, example(log)))
+    for report, names in reports.items():
+        same(report + " has the images", images(folder, report), names)
+    found = images(folder, "two.plcrash").split()
+    same("two.plcrash has images in the order of their loads", found in ([], ["A"], ["A", "B"]), True)
 print("the examples print and keep what they are to")

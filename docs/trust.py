@@ -17,6 +17,7 @@ PROMISES = [
     ("`report`", "plcr_tool", "report", "report_command"),
     ("`show`", "plcr_tool", "show", "show_command"),
     ("`make`", "plcr_maker", "command", "make_command"),
+    ("`threads`", "plcr_workers", "command", "threads_command"),
     ("a capture", "plcr_encode", "report", "capture"),
     ("reading a report file", "plcr_decode", "reader", "decode"),
     ("a load of the image list", "plcr_imagelist", "writer", "Writer::load"),

@@ -3,6 +3,8 @@ use Rattle.std.specs.Prelude.{◌≡◌, ◌<◌, ℕ, zero, suc, ◌-◌, ◌==
 use Rattle.plcr_wire.specs.Message.{Value, wire_type, value_bytes}
 use Rattle.plcr_base.specs.Chains.{◌>>=◌}
 use Rattle.plcr_wire.specs.Reading.{field_at}
+use Rattle.plcr_wire.specs.Wires.{wire_number}
+use Rattle.plcr_wire.specs.declared.wires.Wire.TheVariants as wires
 use Rattle.plcr_wire.specs.declared.fields.WireFault.{WireFault}
 use Rattle.plcr_wire.specs.declared.fields.WireFault.TheVariants as wire
 use Rattle.plcr_report.specs.Schema.{rule}
@@ -24,9 +26,9 @@ lifted (Err e) = Err (of_wire e)
 
 -- the wire type of what a field holds
 abbrev pub wire_of : Holds → ℕ
-wire_of holds.Number = 0
-wire_of holds.Text = 2
-wire_of (holds.Message kind) = 2
+wire_of holds.Number = wire_number wires.Number
+wire_of holds.Text = wire_number wires.Bytes
+wire_of (holds.Message kind) = wire_number wires.Bytes
 
 -- the value has the wire type of its field; one of an unknown field has any
 abbrev pub fits : Option Holds → Value → Bool

@@ -7,7 +7,7 @@ use Rattle.std.proofs.lemmas.List.Concat.{flat_map-append}
 use Rattle.std.proofs.lemmas.List.Elements.{All-nil, All-append, All-head, All-tail}
 use Rattle.plcr_memory.specs.Regions.{Contents}
 use Rattle.plcr_wire.specs.Pen.{Pen, Wrote}
-use Rattle.plcr_wire.specs.Message.{field_spelling, message_field, spelling}
+use Rattle.plcr_wire.specs.Message.{field_spelling, spelling}
 use Rattle.plcr_regs.specs.declared.arch.Arch.{Arch}
 use Rattle.plcr_regs.specs.declared.registers.Registers.{Registers}
 use Rattle.plcr_regs.specs.States.{IsWhole}
@@ -23,7 +23,7 @@ use Rattle.plcr_encode.specs.Values.{thread_with}
 use Rattle.plcr_encode.specs.inner.FrameRows.{IsPlaced, frame_in, row_of, symbol_by}
 use Rattle.plcr_encode.specs.inner.Groups.{AreRowsOf, count_of, numbered_thread, walked}
 use Rattle.plcr_encode.specs.inner.Lookups.{answered}
-use Rattle.plcr_encode.specs.inner.Rows.{message_fields}
+use Rattle.plcr_encode.specs.inner.Rows.{message_field, message_fields}
 use Rattle.plcr_encode.proofs.Placed.{rows_hold, rows_placed}
 use Rattle.plcr_encode.proofs.Rows.{WroteUpTo, sized_more, spelling-append, up_to_end, up_to_more}
 use Rattle.plcr_encode.proofs.Told.{few_frames}

@@ -1,13 +1,13 @@
 -- The fields of a whole report, part by part.
 use Rattle.std.proofs.Common.{◌≡◌, ℕ, ◌+◌, List, ◌++◌, length, refl, append-nil, length-append, arith}
-use Rattle.plcr_wire.specs.Message.{field_spelling, message_field, spelling}
+use Rattle.plcr_wire.specs.Message.{field_spelling, spelling}
 use Rattle.plcr_memory.specs.Regions.{Contents}
 use Rattle.plcr_regs.specs.declared.registers.Registers.{Registers}
 use Rattle.plcr_macho.specs.Images.{Listed}
 use Rattle.plcr_report.specs.Messages.{system_message, application_message, thread_message, image_message, signal_message, process_message, info_message, report_message}
 use Rattle.plcr_encode.specs.declared.context.Context.{Context}
 use Rattle.plcr_encode.specs.Images.{images_of}
-use Rattle.plcr_encode.specs.inner.Rows.{message_fields}
+use Rattle.plcr_encode.specs.inner.Rows.{message_field, message_fields}
 use Rattle.plcr_encode.specs.Values.{system_of, application_of, signal_of, process_of, info_of, threads_of, report_of, process_report}
 use Rattle.plcr_encode.proofs.Rows.{fields-each, spelling-append}
 

@@ -2,10 +2,10 @@
 use Rattle.std.proofs.Common.{◌≡◌, ℕ, suc, ◌+◌, ◌-◌, ◌<◌, List, [], ◌∷◌, ◌++◌, length, map, drop, get_or, refl, ap, sym, subst, ◌∙◌, append_assoc, append-nil, length-append, drop-cons, add-one, arith, if◌then◌else◌}
 use Rattle.std.specs.List.{range_with_len, enumerate_from}
 use Rattle.plcr_wire.specs.Pen.{Pen, Wrote}
-use Rattle.plcr_wire.specs.Message.{Field, spelling, field_spelling, number_field, message_field}
+use Rattle.plcr_wire.specs.Message.{Field, spelling, field_spelling, number_field}
 use Rattle.plcr_report.specs.declared.messages.Thread.{Thread}
 use Rattle.plcr_report.specs.Messages.{each, frame_message, register_message, thread_message}
-use Rattle.plcr_encode.specs.inner.Rows.{message_fields}
+use Rattle.plcr_encode.specs.inner.Rows.{message_field, message_fields}
 use native.Mathlib.Numerals.{unary_clauses}
 use Rattle.plcr_wire.proofs.Writing.{wrote_none, wrote_twice}
 

@@ -1,8 +1,9 @@
 //! Messages and their fields: what is written to ink, and how long it is.
 ghost use Rattle.std.specs.Prelude.{◌≡◌, ℕ, ◌+◌, ◌*◌, ◌^◌, ◌<◌, ◌≤◌, List, length, if◌then◌else◌};
-ghost use Rattle.plcr_wire.specs.Message.{Field, spelling, field_spelling, number_field, bytes_field, message_field};
+ghost use Rattle.plcr_wire.specs.Message.{Field, spelling, field_spelling, number_field, bytes_field};
 ghost use Rattle.plcr_wire.specs.Pen.{Wrote};
 ghost use Rattle.plcr_encode.specs.declared.limits.TheConstants.{FIELD_BYTES};
+ghost use Rattle.plcr_encode.specs.inner.Rows.{message_field};
 
 use plcr_wire::{Ink, Wire, tag_len, varint_len};
 

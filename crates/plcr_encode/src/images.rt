@@ -1,13 +1,13 @@
 //! The images of a report.
 ghost use Rattle.std.specs.Prelude.{◌≡◌, ◌+◌, ◌<◌, ◌≤◌, All, length};
 ghost use Rattle.plcr_wire.specs.Pen.{Wrote};
-ghost use Rattle.plcr_wire.specs.Message.{spelling, field_spelling, message_field};
+ghost use Rattle.plcr_wire.specs.Message.{spelling, field_spelling};
 ghost use Rattle.plcr_macho.specs.Images.{listed_at};
 ghost use Rattle.plcr_report.specs.Messages.{image_message};
 ghost use Rattle.plcr_encode.specs.Conditions.{IsNamable, AreNamable};
 ghost use Rattle.plcr_encode.specs.declared.limits.TheConstants.{FIELD_BYTES, IMAGE_BYTES, IMAGES_BYTES};
 ghost use Rattle.plcr_encode.specs.Images.{image_of, images_of};
-ghost use Rattle.plcr_encode.specs.inner.Rows.{message_fields};
+ghost use Rattle.plcr_encode.specs.inner.Rows.{message_field, message_fields};
 
 use crate::fields::{
     Message, message_len, number_len, put_message, put_number, put_text, text_len,

@@ -6,6 +6,7 @@ pub of_loader : OfLoader
 of_loader = record {
   mh_magic_64 = refl;
   mh_core = refl;
+  mh_dylib = refl;
   lc_symtab = refl;
   lc_thread = refl;
   lc_unixthread = refl;
@@ -19,6 +20,7 @@ pub of_machine : OfMachine
 of_machine = record {
   cpu_type_x86_64 = refl;
   cpu_type_arm64 = refl;
+  cpu_subtype_x86_64_all = refl;
 }
 
 pub of_nlist : OfNlist

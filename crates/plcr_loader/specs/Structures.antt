@@ -15,10 +15,11 @@ use Rattle.plcr_loader.specs.declared.uuid_command.TheConstants as uuid_command
 abbrev pub Stands : Field → ℕ → ℕ → Type 0
 Stands field at size = (field.at ≡ at) × (field.size ≡ size)
 
--- the magic and the filetype of a header, the load commands and the names of segments (<mach-o/loader.h>), each name with zeros up to 16 bytes
+-- the magic and the filetypes of a header, the load commands and the names of segments (<mach-o/loader.h>), each name with zeros up to 16 bytes
 pub record OfLoader : Type 0 where
   pub mh_magic_64 : constants.MH_MAGIC_64 ≡ 0xfeedfacf
   pub mh_core : constants.MH_CORE ≡ 0x4
+  pub mh_dylib : constants.MH_DYLIB ≡ 0x6
   pub lc_symtab : constants.LC_SYMTAB ≡ 0x2
   pub lc_thread : constants.LC_THREAD ≡ 0x4
   pub lc_unixthread : constants.LC_UNIXTHREAD ≡ 0x5
@@ -27,10 +28,11 @@ pub record OfLoader : Type 0 where
   pub seg_text : constants.SEG_TEXT ≡ codes "__TEXT" ++ replicate 10 0
   pub seg_linkedit : constants.SEG_LINKEDIT ≡ codes "__LINKEDIT" ++ replicate 6 0
 
--- the processors (<mach/machine.h>): CPU_ARCH_ABI64 with CPU_TYPE_X86, and with CPU_TYPE_ARM
+-- the processors (<mach/machine.h>): CPU_ARCH_ABI64 with CPU_TYPE_X86, and with CPU_TYPE_ARM; and the subtype of all x86-64
 pub record OfMachine : Type 0 where
   pub cpu_type_x86_64 : constants.CPU_TYPE_X86_64 ≡ 0x01000007
   pub cpu_type_arm64 : constants.CPU_TYPE_ARM64 ≡ 0x0100000c
+  pub cpu_subtype_x86_64_all : constants.CPU_SUBTYPE_X86_64_ALL ≡ 3
 
 -- the masks of a symbol's n_type, and the type of one that is defined in a section (<mach-o/nlist.h>)
 pub record OfNlist : Type 0 where

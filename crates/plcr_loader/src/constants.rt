@@ -6,10 +6,16 @@ pub const MH_MAGIC_64: u32 = 0xfeed_facf;
 /// The filetype of a core.
 pub const MH_CORE: u32 = 4;
 
+/// And of a library that is linked when a program starts.
+pub const MH_DYLIB: u32 = 6;
+
 /// Processors.
 pub const CPU_TYPE_X86_64: u32 = 0x0100_0007;
 
 pub const CPU_TYPE_ARM64: u32 = 0x0100_000c;
+
+/// Every processor of x86-64.
+pub const CPU_SUBTYPE_X86_64_ALL: u32 = 3;
 
 /// Load commands.
 pub const LC_SYMTAB: u32 = 0x2;

@@ -1,6 +1,6 @@
 //! The constants and structures of Apple's loader.h, nlist.h and machine.h that the crates of the
-//! workspace read, and the list of load commands that Mach-O core files and images share, over any
-//! source of bytes.
+//! workspace read or write, and the list of load commands that Mach-O core files and images share,
+//! over any source of bytes.
 #![tactic(auto)]
 
 mod constants;
@@ -20,8 +20,9 @@ mod trouble;
 pub mod uuid_command;
 
 pub use constants::{
-    CPU_TYPE_ARM64, CPU_TYPE_X86_64, LC_SEGMENT_64, LC_SYMTAB, LC_THREAD, LC_UNIXTHREAD, LC_UUID,
-    MH_CORE, MH_MAGIC_64, N_SECT, N_STAB, N_TYPE, SEG_LINKEDIT, SEG_TEXT,
+    CPU_SUBTYPE_X86_64_ALL, CPU_TYPE_ARM64, CPU_TYPE_X86_64, LC_SEGMENT_64, LC_SYMTAB, LC_THREAD,
+    LC_UNIXTHREAD, LC_UUID, MH_CORE, MH_DYLIB, MH_MAGIC_64, N_SECT, N_STAB, N_TYPE, SEG_LINKEDIT,
+    SEG_TEXT,
 };
 pub use field::Field;
 pub use file::FileBytes;

@@ -4,7 +4,9 @@ use Rattle.std.specs.Prelude.{codes, decimal, ◌==◌, if◌then◌else◌}
 use Rattle.std.proofs.lemmas.List.{append-nil}
 use Rattle.std.proofs.lemmas.List.Elements.{filter_map-append}
 use Rattle.std.proofs.lemmas.Bool.{lt-ltb}
+use Rattle.std.specs.Fmt.{digits}
 use Rattle.plcr_base.specs.Chains.{◌>>=◌}
+use Rattle.plcr_machine.specs.declared.limits.TheConstants.{MOST_NODES}
 use Rattle.plcr_script.specs.declared.modes.Mode.TheVariants.{Single}
 use Rattle.plcr_script.specs.declared.statements.Statement.{Statement}
 use Rattle.plcr_script.specs.declared.statements.Statement.TheVariants.{Load, Unload, Report}
@@ -21,7 +23,7 @@ use Rattle.plcr_script.proofs.Steps.{placed, goes_on, ends}
 use Rattle.plcr_make.specs.declared.constants.TheConstants.{MOST_IMAGES, UNLOAD_STRIDE}
 use Rattle.plcr_make.specs.Numbers.{joined}
 use Rattle.plcr_make.specs.Images.{image_address}
-use Rattle.plcr_make.specs.Scripts.{hexadecimal, load_line, unload_line, unload_lines, script_of}
+use Rattle.plcr_make.specs.Scripts.{hexadecimal, sizes_line, load_line, unload_line, unload_lines, report_name, report_line, script_of}
 use Rattle.plcr_make.specs.MadeScripts.{image_name, loads, unloads, made_script, MadeScriptsAreRead}
 use Rattle.plcr_make.proofs.Texts.{IsFree, free-append, free_by, line_first, first_of, one_part, hex_read, hex_free, decimal_free}
 
@@ -93,7 +95,7 @@ unload_line_is k more = ap (λ (xs : List ℕ). codes "unload" ++ 32 ∷ xs) (ap
 
 -- the script so far
 abbrev so_far : List NumberedStatement → DraftValue
-so_far statements = draft_value Single [] (script_value statements 4096 1 default_values) true
+so_far statements = draft_value Single [] (script_value statements MOST_NODES 1 default_values) true
 
 -- one statement more, on a line of its own
 one_line : (statements : List NumberedStatement) (n : ℕ) (text more : List ℕ) (statement : Statement) → IsFree 10 text → says_nothing text ≡ false → saying_in 1 text ≡ Ok (States statement)
@@ -166,52 +168,57 @@ no_files : (images : ℕ) → files_of (loads images ++ unloads images images) �
 no_files images = filter_map-append (λ x. file_of x.statement) (loads images) (unloads images images) ∙ ap (λ (fs : List (List ℕ)). fs ++ files_of (unloads images images)) (loads_files images) ∙ unloads_files images images
 
 -- so the script writes one file
-pub made_script_files : (images : ℕ) → files_of (made_script images).statements ≡ codes "made.plcrash" ∷ []
+pub made_script_files : (images : ℕ) → files_of (made_script images).statements ≡ report_name ∷ []
 made_script_files images =
-    let last : NumberedStatement = record { line = images + 2 + length (unloads images images); statement = Report 0 (codes "made.plcrash") } in
-    ap files_of (sym (append_assoc (loads images) (unloads images images) (last ∷ []))) ∙ files_more (loads images ++ unloads images images) last ∙ ap (λ (fs : List (List ℕ)). fs ++ codes "made.plcrash" ∷ []) (no_files images)
+    let last : NumberedStatement = record { line = images + 2 + length (unloads images images); statement = Report 0 report_name } in
+    ap files_of (sym (append_assoc (loads images) (unloads images images) (last ∷ []))) ∙ files_more (loads images ++ unloads images images) last ∙ ap (λ (fs : List (List ℕ)). fs ++ report_name ∷ []) (no_files images)
 
 -- the report
 abbrev report_text : List ℕ
-report_text = codes "report 0 made.plcrash"
+report_text = codes "report 0 " ++ report_name
 
-report_said : saying_in 1 report_text ≡ Ok (States (Report 0 (codes "made.plcrash")))
+report_said : saying_in 1 report_text ≡ Ok (States (Report 0 report_name))
 unfolding saying_of statement_in report_in first_word
 report_said = refl
 
 report_free : IsFree 10 report_text
 report_free = free_by 10 report_text refl
 
-report_placed : (images : ℕ) → is_out_of_place (so_far (loads images ++ unloads images images)) (States (Report 0 (codes "made.plcrash"))) ≡ false
+report_placed : (images : ℕ) → is_out_of_place (so_far (loads images ++ unloads images images)) (States (Report 0 report_name)) ≡ false
 unfolding is_named
 report_placed images = rw (no_files images) refl
 
-sizes_said : saying_in 16 (codes "table 4096 1") ≡ Ok (Sizes 4096 1)
-unfolding saying_of table_in first_word
+-- the sizes
+abbrev sizes_text : List ℕ
+sizes_text = codes "table " ++ (decimal MOST_NODES ++ codes " 1")
+
+sizes_said : saying_in 16 sizes_text ≡ Ok (Sizes MOST_NODES 1)
+unfolding saying_of table_in first_word digits
 sizes_said = refl
 
-sizes_free : IsFree 10 (codes "table 4096 1")
-sizes_free = free_by 10 (codes "table 4096 1") refl
+sizes_free : IsFree 10 sizes_text
+unfolding digits
+sizes_free = free_by 10 sizes_text refl
 
 -- the whole script
 pub made_script_read : MadeScriptsAreRead
-unfolding script_in script_of
+unfolding script_in script_of digits joined
 made_script_read images few =
-    let report : List ℕ = codes "report 0 made.plcrash\n" in
+    let report : List ℕ = report_line in
     let statements = loads images ++ unloads images images in
     let n = images + 2 + length (unloads images images) in
-    let said : Statement = Report 0 (codes "made.plcrash") in
+    let said : Statement = Report 0 report_name in
     let one : NumberedStatement = record { line = n; statement = said } in
-    let first : with_lines (no_lines Single []) 1 (lines (codes "table 4096 1\n" ++ (joined load_line images ++ (joined unload_lines images ++ report)))) ≡ with_lines (so_far []) 2 (lines (joined load_line images ++ (joined unload_lines images ++ report))) =
-    goes_on (no_lines Single []) (so_far []) 1 (codes "table 4096 1" ++ 10 ∷ (joined load_line images ++ (joined unload_lines images ++ report))) (codes "table 4096 1") (joined load_line images ++ (joined unload_lines images ++ report))
-    (line_first (codes "table 4096 1") (joined load_line images ++ (joined unload_lines images ++ report)) sizes_free)
-    (placed (no_lines Single []) 1 (codes "table 4096 1") (Sizes 4096 1) refl sizes_said refl) in
+    let first : with_lines (no_lines Single []) 1 (lines (sizes_line ++ (joined load_line images ++ (joined unload_lines images ++ report)))) ≡ with_lines (so_far []) 2 (lines (joined load_line images ++ (joined unload_lines images ++ report))) =
+    goes_on (no_lines Single []) (so_far []) 1 (sizes_text ++ 10 ∷ (joined load_line images ++ (joined unload_lines images ++ report))) sizes_text (joined load_line images ++ (joined unload_lines images ++ report))
+    (line_first sizes_text (joined load_line images ++ (joined unload_lines images ++ report)) sizes_free)
+    (placed (no_lines Single []) 1 sizes_text (Sizes MOST_NODES 1) refl sizes_said refl) in
     let last : with_lines (so_far statements) n (lines (report_text ++ 10 ∷ [])) ≡ with_lines (so_far (statements ++ one ∷ [])) (n + 1) (lines []) =
     one_line statements n report_text [] said report_free refl report_said (placed (so_far statements) n report_text (States said) refl report_said (report_placed images)) in
-    let all : with_lines (no_lines Single []) 1 (lines (codes "table 4096 1\n" ++ (joined load_line images ++ (joined unload_lines images ++ report)))) ≡ Ok (so_far (statements ++ one ∷ [])) =
+    let all : with_lines (no_lines Single []) 1 (lines (sizes_line ++ (joined load_line images ++ (joined unload_lines images ++ report)))) ≡ Ok (so_far (statements ++ one ∷ [])) =
     first ∙ loads_read images (joined unload_lines images ++ report) few ∙ unloads_read images images report few ∙ last ∙ no_more (so_far (statements ++ one ∷ [])) (n + 1) in
     ap (λ (read : Result DraftValue Refusal). read >>= λ draft. Ok draft.script) all
-    ∙ ap (λ (xs : List NumberedStatement). Ok (script_value xs 4096 1 default_values)) (append_assoc (loads images) (unloads images images) (one ∷ []))
+    ∙ ap (λ (xs : List NumberedStatement). Ok (script_value xs MOST_NODES 1 default_values)) (append_assoc (loads images) (unloads images images) (one ∷ []))
   where
     no_more : (draft : DraftValue) (m : ℕ) → with_lines draft m (lines []) ≡ Ok draft
     no_more draft m = ends draft m [] refl

@@ -1,10 +1,10 @@
 -- The images that are made, numbered from 0.
 use Rattle.std.specs.Prelude.{ℕ, ◌+◌, ◌*◌, List, [], ◌∷◌, ◌++◌, replicate}
 use Rattle.std.specs.Int.{w32, to_be_bytes}
-use Rattle.plcr_loader.specs.declared.constants.TheConstants.{LC_UUID, SEG_TEXT}
+use Rattle.plcr_loader.specs.declared.constants.TheConstants.{LC_UUID, MH_DYLIB, SEG_TEXT}
 use Rattle.plcr_loader.specs.declared.segment_command_64.TheConstants as segment_command_64
 use Rattle.plcr_loader.specs.declared.uuid_command.TheConstants as uuid_command
-use Rattle.plcr_make.specs.declared.constants.TheConstants.{FIRST_IMAGE, IMAGE_SIZE, IMAGE_BYTES, MH_DYLIB, VM_PROT_READ_EXECUTE}
+use Rattle.plcr_make.specs.declared.constants.TheConstants.{FIRST_IMAGE, IMAGE_SIZE, IMAGE_BYTES, VM_PROT_READ_EXECUTE}
 use Rattle.plcr_make.specs.declared.segments.Segment.{Segment}
 use Rattle.plcr_make.specs.Numbers.{u32s}
 use Rattle.plcr_make.specs.Segments.{header, segment_command}

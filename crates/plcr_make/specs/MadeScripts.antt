@@ -1,5 +1,6 @@
 -- What the script that is made says.
 use Rattle.std.specs.Prelude.{◌≡◌, ℕ, zero, suc, ◌+◌, ◌%◌, ◌≤◌, List, [], ◌∷◌, ◌++◌, Ok, length, ◌==◌, if◌then◌else◌, codes, decimal}
+use Rattle.plcr_machine.specs.declared.limits.TheConstants.{MOST_NODES}
 use Rattle.plcr_script.specs.declared.modes.Mode.TheVariants.{Single}
 use Rattle.plcr_script.specs.declared.statements.Statement.TheVariants.{Load, Unload, Report}
 use Rattle.plcr_script.specs.declared.statements.NumberedStatement.{NumberedStatement}
@@ -8,7 +9,7 @@ use Rattle.plcr_script.specs.Scripts.{ScriptValue, script_value}
 use Rattle.plcr_script.specs.Reading.{script_in}
 use Rattle.plcr_make.specs.declared.constants.TheConstants.{MOST_IMAGES, UNLOAD_STRIDE}
 use Rattle.plcr_make.specs.Images.{image_address}
-use Rattle.plcr_make.specs.Scripts.{script_of}
+use Rattle.plcr_make.specs.Scripts.{report_name, script_of}
 
 -- the name of an image
 abbrev pub image_name : ℕ → List ℕ
@@ -29,8 +30,8 @@ unloads images (suc k) =
 -- the script: the loads, the unloads and one report, on a list of the most nodes with one pass
 abbrev pub made_script : ℕ → ScriptValue
 made_script images = script_value
-    (loads images ++ (unloads images images ++ record { line = images + 2 + length (unloads images images); statement = Report 0 (codes "made.plcrash") } ∷ []))
-    4096 1 default_values
+    (loads images ++ (unloads images images ++ record { line = images + 2 + length (unloads images images); statement = Report 0 report_name } ∷ []))
+    MOST_NODES 1 default_values
 
 -- the bytes that are made are read as this script
 abbrev pub MadeScriptsAreRead : Type 0

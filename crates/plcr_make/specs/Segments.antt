@@ -1,8 +1,7 @@
 -- Headers and segments of Mach-O files (loader.h).
 use Rattle.std.specs.Prelude.{ℕ, List, [], ◌∷◌, ◌++◌}
-use Rattle.plcr_loader.specs.declared.constants.TheConstants.{MH_MAGIC_64, CPU_TYPE_X86_64, LC_SEGMENT_64}
+use Rattle.plcr_loader.specs.declared.constants.TheConstants.{MH_MAGIC_64, CPU_TYPE_X86_64, CPU_SUBTYPE_X86_64_ALL, LC_SEGMENT_64}
 use Rattle.plcr_loader.specs.declared.segment_command_64.TheConstants as segment_command_64
-use Rattle.plcr_make.specs.declared.constants.TheConstants.{CPU_SUBTYPE_X86_64_ALL}
 use Rattle.plcr_make.specs.declared.segments.Segment.{Segment}
 use Rattle.plcr_make.specs.Numbers.{u32s, u64s}
 

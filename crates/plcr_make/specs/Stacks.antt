@@ -2,7 +2,8 @@
 use Rattle.std.specs.Prelude.{ℕ, ◌+◌, ◌*◌, ◌/◌, ◌%◌, List, [], ◌∷◌, ◌++◌, ◌==◌, nat_lt, if◌then◌else◌}
 use Rattle.std.specs.Int.{w64, to_le_bytes}
 use Rattle.plcr_loader.specs.declared.constants.TheConstants.{LC_THREAD}
-use Rattle.plcr_make.specs.declared.constants.TheConstants.{THREADS, CODE_OFFSET, FIRST_STACK, STACK_SIZE, FRAMES, FRAME_SIZE, THREAD_STRIDE, THREAD_COMMAND_SIZE, VM_PROT_READ_WRITE, x86_THREAD_STATE64, x86_THREAD_STATE64_COUNT}
+use Rattle.plcr_regs.specs.declared.flavors.TheConstants.{x86_THREAD_STATE64, x86_THREAD_STATE64_COUNT}
+use Rattle.plcr_make.specs.declared.constants.TheConstants.{THREADS, CODE_OFFSET, FIRST_STACK, STACK_SIZE, FRAMES, FRAME_SIZE, THREAD_STRIDE, THREAD_COMMAND_SIZE, VM_PROT_READ_WRITE}
 use Rattle.plcr_make.specs.declared.segments.Segment.{Segment}
 use Rattle.plcr_make.specs.Numbers.{u32s, u64s, joined}
 use Rattle.plcr_make.specs.Images.{image_address, no_name}

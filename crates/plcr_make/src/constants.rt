@@ -1,5 +1,8 @@
 //! The numbers of what is made.
 
+use plcr_loader::{load_command, thread_group};
+use plcr_regs::x86_THREAD_STATE64_COUNT;
+
 /// At most so many images are made.
 pub const MOST_IMAGES: u32 = 4000;
 
@@ -38,20 +41,12 @@ pub const THREAD_STRIDE: u32 = 37;
 /// Each image whose number this divides is unloaded.
 pub const UNLOAD_STRIDE: u32 = 7;
 
-/// The length of a thread command: its head, and the 21 registers of a state.
-pub const THREAD_COMMAND_SIZE: u32 = 184;
-
-/// The processor's kind and the filetype of images (machine.h, loader.h).
-pub const CPU_SUBTYPE_X86_64_ALL: u32 = 3;
-
-pub const MH_DYLIB: u32 = 6;
+/// The length of a thread command: its head, the head of its one group, and the words of a state.
+pub const THREAD_COMMAND_SIZE: u32 = (load_command::LENGTH
+    + thread_group::LENGTH
+    + thread_group::WORD * x86_THREAD_STATE64_COUNT as usize) as u32;
 
 /// What memory may be used for (mach/vm_prot.h): to read and write, and to read and execute.
 pub const VM_PROT_READ_WRITE: u32 = 3;
 
 pub const VM_PROT_READ_EXECUTE: u32 = 5;
-
-/// The flavor and the count of a state of x86-64's registers (mach/i386/thread_status.h).
-pub const x86_THREAD_STATE64: u32 = 4;
-
-pub const x86_THREAD_STATE64_COUNT: u32 = 42;

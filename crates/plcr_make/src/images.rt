@@ -3,12 +3,12 @@ ghost use Rattle.std.specs.Prelude.{◌≡◌, ◌<◌, ◌^◌, ◌++◌, OnOk}
 ghost use Rattle.plcr_make.specs.Images as images;
 ghost use Rattle.plcr_make.specs.Images.{image_bytes};
 
-use crate::constants::{FIRST_IMAGE, IMAGE_BYTES, IMAGE_SIZE, MH_DYLIB, VM_PROT_READ_EXECUTE};
+use crate::constants::{FIRST_IMAGE, IMAGE_BYTES, IMAGE_SIZE, VM_PROT_READ_EXECUTE};
 use crate::numbers::push_u32s;
 use crate::segments::{Segment, push_header, push_segment};
 use arrayvec::ArrayVec;
 use plcr_io::add_bytes;
-use plcr_loader::{LC_UUID, SEG_TEXT, segment_command_64, uuid_command};
+use plcr_loader::{LC_UUID, MH_DYLIB, SEG_TEXT, segment_command_64, uuid_command};
 use std::alloc::AllocError;
 
 /// Room for the bytes of an image.

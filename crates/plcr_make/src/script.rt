@@ -2,10 +2,11 @@
 ghost use Rattle.std.specs.Prelude.{◌≡◌, ◌≤◌, ◌++◌, codes, string_bytes, IfOk, OnOk};
 ghost use Rattle.plcr_make.specs.declared.constants.TheConstants.{MOST_IMAGES};
 ghost use Rattle.plcr_make.specs.Numbers.{joined};
-ghost use Rattle.plcr_make.specs.Scripts.{load_line, unload_lines, script_of};
+ghost use Rattle.plcr_make.specs.Scripts.{sizes_line, load_line, unload_lines, report_line, script_of};
 
-use crate::constants::UNLOAD_STRIDE;
+use crate::constants::{MADE_REPORT, UNLOAD_STRIDE};
 use crate::images::image_address;
+use plcr_machine::MOST_NODES;
 use std::alloc::{AllocError, Global};
 use std::fmt::Write;
 
@@ -16,11 +17,25 @@ pub fn script_bytes(alloc: Global, images: u32) -> Result<Vec<u8>, AllocError>
     ensures { IfOk result (λ bytes. bytes.items ≡ script_of images) }
 {
     let mut text = String::new(alloc);
-    text.push_str("table 4096 1\n")?;
+    add_sizes(&mut text)?;
     add_loads(&mut text, images)?;
     add_unloads(&mut text, images)?;
-    text.push_str("report 0 made.plcrash\n")?;
+    add_report(&mut text)?;
     Ok(text.into_bytes())
+}
+
+/// Adds the line of the sizes.
+fn add_sizes(text: &mut String) -> Result<(), AllocError>
+    ensures { OnOk result (string_bytes text.new ≡ string_bytes text.old ++ sizes_line) }
+{
+    write!(text, "table {MOST_NODES} 1\n")
+}
+
+/// Adds the line of the report.
+fn add_report(text: &mut String) -> Result<(), AllocError>
+    ensures { OnOk result (string_bytes text.new ≡ string_bytes text.old ++ report_line) }
+{
+    write!(text, "report 0 {MADE_REPORT}\n")
 }
 
 /// Adds the line of each load.

@@ -5,12 +5,12 @@ ghost use Rattle.plcr_loader.specs.declared.mach_header_64.TheConstants as mach_
 ghost use Rattle.plcr_loader.specs.declared.segment_command_64.TheConstants as segment_command_64;
 ghost use Rattle.plcr_make.specs.Segments.{header, segment_command};
 
-use crate::constants::CPU_SUBTYPE_X86_64_ALL;
 use crate::numbers::{push_u32s, push_u64s};
 use arrayvec::ArrayVec;
 use plcr_io::add_bytes;
 use plcr_loader::{
-    CPU_TYPE_X86_64, LC_SEGMENT_64, MH_MAGIC_64, mach_header_64, segment_command_64,
+    CPU_SUBTYPE_X86_64_ALL, CPU_TYPE_X86_64, LC_SEGMENT_64, MH_MAGIC_64, mach_header_64,
+    segment_command_64,
 };
 use std::alloc::AllocError;
 

@@ -6,13 +6,14 @@ ghost use Rattle.plcr_make.specs.declared.constants.TheConstants.{MOST_IMAGES, T
 
 use crate::constants::{
     CODE_OFFSET, FIRST_STACK, FRAME_SIZE, FRAMES, STACK_SIZE, THREAD_COMMAND_SIZE, THREAD_STRIDE,
-    THREADS, VM_PROT_READ_WRITE, x86_THREAD_STATE64, x86_THREAD_STATE64_COUNT,
+    THREADS, VM_PROT_READ_WRITE,
 };
 use crate::images::image_address;
 use crate::numbers::{push_u32s, push_u64s};
 use crate::segments::Segment;
 use arrayvec::ArrayVec;
 use plcr_loader::LC_THREAD;
+use plcr_regs::{x86_THREAD_STATE64, x86_THREAD_STATE64_COUNT};
 use std::alloc::AllocError;
 
 /// Room for the command of a thread.

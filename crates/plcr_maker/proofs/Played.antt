@@ -11,7 +11,7 @@ use Rattle.plcr_command.specs.Process.{meanings_of}
 use Rattle.plcr_command.specs.Seen.{seen}
 use Rattle.plcr_run.specs.Past.{LeavesWhole, RanWhole}
 use Rattle.plcr_maker.specs.declared.runs.Ran.{Ran}
-use Rattle.plcr_maker.specs.Make.{report_name}
+use Rattle.plcr_make.specs.Scripts.{report_name}
 use Rattle.plcr_maker.specs.inner.Making.{IsRun}
 
 -- or nothing

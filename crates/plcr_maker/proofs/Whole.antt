@@ -17,7 +17,8 @@ use Rattle.plcr_command.specs.Endings.{HasKept, status_of}
 use Rattle.plcr_make.specs.MadeScripts.{made_script}
 use Rattle.plcr_make.proofs.ReadScripts.{made_script_files}
 use Rattle.plcr_maker.specs.declared.making.Made.{Made}
-use Rattle.plcr_maker.specs.Make.{report_name, made_files, summary_of, StopsIn, HasMade, Makes, MadeLeft, MakeLeaves}
+use Rattle.plcr_make.specs.Scripts.{report_name}
+use Rattle.plcr_maker.specs.Make.{made_files, summary_of, StopsIn, HasMade, Makes, MadeLeft, MakeLeaves}
 use Rattle.plcr_maker.specs.inner.Making.{IsMade, files_of, line_of}
 use Rattle.plcr_maker.specs.inner.Handing.{HandsOut, LeavesBy}
 

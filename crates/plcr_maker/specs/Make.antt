@@ -1,6 +1,6 @@
 -- What `make N CORE SCRIPT` does, ending by ending, and what it leaves of the image list that it
 -- ran on.
-use Rattle.std.specs.Prelude.{◌≡◌, ◌≢◌, ◌⊎◌, ℕ, List, [], ◌∷◌, ◌++◌, Option, None, Ok, length, sum_by, codes}
+use Rattle.std.specs.Prelude.{◌≡◌, ◌≢◌, ◌⊎◌, ℕ, List, [], ◌∷◌, ◌++◌, Option, None, Ok, length, sum_by}
 use Rattle.plcr_report.specs.declared.messages.Report.{Report}
 use Rattle.plcr_report.specs.declared.messages.Thread.{Thread}
 use Rattle.plcr_core.specs.declared.read.Core.{Core}
@@ -18,13 +18,9 @@ use Rattle.plcr_command.specs.Saving.{TookNothing}
 use Rattle.plcr_command.specs.Endings.{Ended, HasKept, CannotWrite, CannotPrint}
 use Rattle.plcr_run.specs.Past.{LeavesWhole}
 use Rattle.plcr_make.specs.Cores.{core_of}
-use Rattle.plcr_make.specs.Scripts.{script_of}
+use Rattle.plcr_make.specs.Scripts.{report_name, script_of}
 use Rattle.plcr_make.specs.MadeScripts.{made_script}
 use Rattle.plcr_make.specs.Summary.{summary_line}
-
--- the name of the report's file
-abbrev pub report_name : List ℕ
-report_name = codes "made.plcrash"
 
 -- how many frames threads have
 abbrev pub frames_in : List Thread → ℕ

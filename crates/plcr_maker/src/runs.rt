@@ -3,7 +3,7 @@ ghost use Rattle.std.specs.Prelude.{◌≡◌, [], Some, IfSome};
 ghost use Rattle.plcr_core.specs.Cores.{AreThreads};
 ghost use Rattle.plcr_io.specs.MemDesk.{contents, file_now};
 ghost use Rattle.plcr_script.specs.Lawful.{IsLawful};
-ghost use Rattle.plcr_maker.specs.Make.{report_name};
+ghost use Rattle.plcr_make.specs.Scripts.{report_name};
 ghost use Rattle.plcr_maker.specs.inner.Making.{IsRun};
 
 use crate::ignored::Ignored;

@@ -13,6 +13,7 @@ mod registers;
 mod states;
 
 pub use arch::Arch;
+pub use flavors::{x86_THREAD_STATE64, x86_THREAD_STATE64_COUNT};
 pub use frame::{Frame, Step};
 pub use limits::MOST_REGISTERS;
 pub use names::{count, name};

@@ -1,15 +1,15 @@
 -- What a core of bytes holds has the width of its type: the states of its threads, and the bytes of its memory.
-use Rattle.std.proofs.Common.{◌≡◌, ℕ, zero, suc, ◌+◌, ◌*◌, ◌^◌, ◌<◌, ◌≤◌, Bool, true, false, cond, List, [], ◌∷◌, length, take, drop, filter_map, Option, Some, None, Result, Ok, leb, ltb, refl, sym, ap, subst, arith, lit<}
-use Rattle.std.specs.Prelude.{IfSome, option_map, ◌==◌, ◌&&◌, nat_lt, if◌then◌else◌}
+use Rattle.std.proofs.Common.{◌≡◌, ℕ, zero, suc, ◌+◌, ◌*◌, ◌^◌, ◌<◌, Bool, true, false, List, [], ◌∷◌, length, take, drop, filter_map, Option, Some, None, Ok, leb, ltb, sym, ap, subst, arith, lit<}
+use Rattle.std.specs.Prelude.{IfSome, option_map, ◌==◌, ◌&&◌, if◌then◌else◌}
 use Rattle.std.specs.List.{AllByRecursion, cons_option, range_with_len}
-use Rattle.std.specs.Option.{option_and_then, option_or}
+use Rattle.std.specs.Option.{option_and_then}
 use Rattle.plcr_base.specs.Bytes.{IsBytes}
 use Rattle.plcr_base.specs.Numbers.{u32_in, u64_in}
 use Rattle.plcr_memory.specs.Regions.{Contents}
 use Rattle.plcr_loader.specs.declared.load_command.TheConstants as load_command
 use Rattle.plcr_loader.specs.declared.thread_group.TheConstants.{LENGTH}
 use Rattle.plcr_loader.specs.declared.mach_header_64.TheConstants as mach_header_64
-use Rattle.plcr_loader.specs.Commands.{Command, Test, AreLaid, IsLaid, is_thread}
+use Rattle.plcr_loader.specs.Commands.{Command, Test, AreLaid, is_thread}
 use Rattle.plcr_loader.specs.Fields.{number}
 use Rattle.plcr_loader.specs.Sources.{file_bytes}
 use Rattle.plcr_regs.specs.declared.arch.Arch.{Arch}
@@ -24,6 +24,7 @@ use Rattle.plcr_core.specs.Groups.{Group, state_length, group_at_front, first_gr
 use Rattle.plcr_core.specs.Cores.{thread_of, core_trouble, parts_in}
 use Rattle.plcr_core.specs.Reading.{IsAnswer}
 use Rattle.plcr_core.proofs.LaidOut.{cores_lie}
+use Rattle.plcr_core.proofs.WholeThreads.{whole_or}
 use Rattle.plcr_tool.specs.Laws.{IsHandedState}
 use Rattle.plcr_tool.proofs.Stored.{dropped_bytes, four_small, eight_small}
 use Rattle.plcr_tool.proofs.Threaded.{all_mapped}
@@ -95,13 +96,9 @@ groups_fit (suc most) bytes all = of (ltb (length bytes) LENGTH) (ltb (length by
     of false false None h = tt
     of false false (Some groups) h = (taken_bytes (state_length bytes) (drop LENGTH bytes) (dropped_bytes LENGTH bytes all), h)
 
-either : (P : Registers → Type 0) (a b : Option Registers) → IfSome a P → IfSome b P → IfSome (option_or a b) P
-either P None b h k = k
-either P (Some x) b h k = h
-
 first_fits : (arch : Arch) (groups : List Group) → AllByRecursion IsGroup groups → IfSome (first_state arch groups) IsHandedState
 first_fits arch [] all = tt
-first_fits arch (group ∷ groups) all = either IsHandedState (state_in arch group.flavor group.state) (first_state arch groups) (state_fits arch group.flavor group.state all.0) (first_fits arch groups all.1)
+first_fits arch (group ∷ groups) all = whole_or IsHandedState (state_in arch group.flavor group.state) (first_state arch groups) (state_fits arch group.flavor group.state all.0) (first_fits arch groups all.1)
 
 found_fits : (arch : Arch) (found : Option (List Group)) → IfSome found (AllByRecursion IsGroup) → IfSome (option_and_then (first_state arch) found) IsHandedState
 found_fits arch None h = tt

@@ -1,6 +1,6 @@
 -- The images of a run: their headers have 64 bits, their names are within their limit, and a walk meets fewer than 2^32 of them.
-use Rattle.std.proofs.Common.{◌≡◌, ◌⊎◌, inl, inr, ⊎_elim, ℕ, zero, suc, ◌+◌, ◌^◌, ◌<◌, ◌≤◌, Bool, true, false, List, [], ◌∷◌, ◌++◌, Option, Some, None, Result, Ok, Err, leb, ltb, length, refl, sym, ap, ◌∙◌, subst, arith, lit<}
-use Rattle.std.specs.Prelude.{All, Contains, map, option_map, ok_or, if◌then◌else◌}
+use Rattle.std.proofs.Common.{◌≡◌, ⊎_elim, ℕ, suc, ◌+◌, ◌^◌, ◌<◌, ◌≤◌, Bool, true, false, List, [], ◌∷◌, Option, Some, None, Result, Ok, Err, leb, ltb, length, refl, sym, ap, subst, arith}
+use Rattle.std.specs.Prelude.{All, Contains, option_map, ok_or, if◌then◌else◌}
 use Rattle.std.proofs.lemmas.List.{length-map}
 use Rattle.std.proofs.lemmas.List.Elements.{All-nil, All-cons, All-head, All-tail, All-push, All-map, All-weaker, All-contains, All-contains_itself}
 use Rattle.std.proofs.lemmas.Bool.{leb-true, leb-false, ltb-false}
@@ -12,7 +12,7 @@ use Rattle.plcr_machine.specs.declared.change.Named.{Named}
 use Rattle.plcr_machine.specs.declared.change.Change.{Change}
 use Rattle.plcr_machine.specs.declared.change.Change.TheVariants.{Loads, Unloads}
 use Rattle.plcr_machine.specs.Walks.{RisesAbove, IsLawfulWalk}
-use Rattle.plcr_machine.specs.Changes.{load_of, without_first, list_of, first_changes, list_after_changes}
+use Rattle.plcr_machine.specs.Changes.{load_of, without_first, list_of, list_after_changes}
 use Rattle.plcr_machine.specs.Events.{Event, changes_in}
 use Rattle.plcr_machine.proofs.Cases.{by_cases, at_or_else, eqb_same}
 use Rattle.plcr_macho.specs.Images.{Listed}
@@ -26,7 +26,7 @@ use Rattle.plcr_script.specs.Lawful.{IsFitStatement}
 use Rattle.plcr_script.specs.Scripts.{ScriptValue}
 use Rattle.plcr_script.specs.Meanings.{Meanings}
 use Rattle.plcr_script.specs.RunChanges.{Plan, loads_in, first_with, where_so, first_refusal, load_plan, planned_load, unload_plan, found_unload, unless_refusal, planned_unload}
-use Rattle.plcr_script.specs.RunStates.{Opened, steps_left, steps, is_full, State, first_state, entered, entered_if_out, is_in, left, finished, ended}
+use Rattle.plcr_script.specs.RunStates.{Opened, steps_left, steps, is_full, State, first_state, entered, entered_if_out, is_in, left, finished}
 use Rattle.plcr_script.specs.RunTurns.{Turn, comes_to, stepped_on, stepped_through, step_turn, where_open, left_open, made_whole, unless_refused, unless_busy, full, with_opened, without_opened, with_node, load_turn, unload_turn, listed, turn_of}
 use Rattle.plcr_script.specs.Run.{state_after, end_after, changes_after}
 use Rattle.plcr_script.specs.RunLaws.{state_behind}

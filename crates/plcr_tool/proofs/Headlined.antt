@@ -1,7 +1,7 @@
 -- Each file that a run keeps tells truly.
-use Rattle.std.proofs.Common.{◌≡◌, ◌⊎◌, inl, inr, ℕ, ◌^◌, ◌<◌, List, [], ◌∷◌, ◌++◌, Option, Some, None, Ok, refl, sym, ap, subst, ◌∙◌, arith, append-nil}
-use Rattle.std.specs.Prelude.{All, flat_map}
-use Rattle.std.specs.List.{AllByRecursion, cons_option}
+use Rattle.std.proofs.Common.{◌≡◌, ◌⊎◌, inl, inr, ℕ, List, [], ◌∷◌, ◌++◌, Option, Some, None, refl, sym, ap, subst, ◌∙◌, arith, append-nil}
+use Rattle.std.specs.Prelude.{All}
+use Rattle.std.specs.List.{cons_option}
 use Rattle.std.proofs.lemmas.List.Elements.{All-nil, All-cons, All-head, All-tail, All-append, All-weaker}
 use Rattle.plcr_base.specs.Bytes.{IsBytes}
 use Rattle.plcr_base.specs.Causes.{Rose}
@@ -13,10 +13,7 @@ use Rattle.plcr_machine.specs.Walks.{IsLawfulWalk}
 use Rattle.plcr_machine.specs.Events.{Event, events_of, changes_in}
 use Rattle.plcr_machine.proofs.EventsMade.{events-changes}
 use Rattle.plcr_machine.proofs.Reach.{legal_kept}
-use Rattle.plcr_regs.specs.declared.registers.Registers.{Registers}
 use Rattle.plcr_core.specs.declared.read.Core.{Core}
-use Rattle.plcr_report.specs.Spelling.{spelling_of}
-use Rattle.plcr_encode.specs.Values.{process_report}
 use Rattle.plcr_decode.specs.Reads.{reads}
 use Rattle.plcr_imagelist.specs.States.{WriterState}
 use Rattle.plcr_script.specs.declared.statements.NumberedStatement.{NumberedStatement}
@@ -46,7 +43,7 @@ use Rattle.plcr_run.specs.Runs.{run_behind, IsStopped}
 use Rattle.plcr_run.specs.Past.{RanWhole, RanPart}
 use Rattle.plcr_tool.specs.declared.report.TheConstants.{ALONE}
 use Rattle.plcr_tool.specs.Report.{report_files}
-use Rattle.plcr_tool.specs.Laws.{IsHandedContext, IsHandedState, AreHandedStates}
+use Rattle.plcr_tool.specs.Laws.{IsHandedContext, AreHandedStates}
 use Rattle.plcr_tool.specs.Headline.{TellsTruly, SinkFailed, RanTruly, ReportsTellTruly}
 use Rattle.plcr_tool.specs.inner.Report.{RunEnds, TrulyBy}
 use Rattle.plcr_tool.proofs.Captured.{captured_again}

@@ -6,6 +6,8 @@ pub mod Fitting
 pub mod Headlined
 pub mod Shown
 pub mod Statused
+pub mod Running
 pub mod Stored
 pub mod Threaded
+pub mod Worded
 pub mod Written

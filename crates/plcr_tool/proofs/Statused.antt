@@ -1,18 +1,19 @@
 -- What the commands did, by the status.
-use Rattle.std.proofs.Common.{inl, inr, ◌≡◌, ◌⊎◌, ◌↔◌, ℕ, ◌<◌, List, [], ◌∷◌, ◌++◌, Option, None, length, refl, sym, ap, subst, ◌∙◌, arith, append-nil}
-use Rattle.plcr_base.specs.Told.{Prints, AppendsProperFront}
+use Rattle.std.proofs.Common.{inl, inr, ◌≡◌, ℕ, ◌<◌, List, [], ◌∷◌, ◌++◌, Option, length, refl, sym, subst, ◌∙◌, arith, append-nil}
+use Rattle.plcr_base.specs.Told.{Prints}
 use Rattle.plcr_base.proofs.Appended.{append_nothing}
 use Rattle.plcr_core.specs.declared.fault.CoreFault.{CoreFault}
 use Rattle.plcr_decode.specs.declared.faults.DecodeFault.{DecodeFault}
 use Rattle.plcr_imagelist.specs.States.{WriterState}
 use Rattle.plcr_command.specs.declared.files.FileWord.{FileWord}
+use Rattle.plcr_command.specs.declared.jobs.Modes.{Modes}
 use Rattle.plcr_command.specs.declared.endings.Ending.{Ending}
 use Rattle.plcr_command.specs.declared.endings.Ending.TheVariants.{Done, Stopped, Refused, Misused}
 use Rattle.plcr_command.specs.declared.refusals.Refusal.{Refusal}
 use Rattle.plcr_command.specs.declared.refusals.Refusal.TheVariants.{CannotRead, TooLong, CoreRefused, ScriptRefused, ReportRefused, OutOfMemory}
 use Rattle.plcr_command.specs.Seen.{Seen}
 use Rattle.plcr_command.specs.Files.{File, named}
-use Rattle.plcr_command.specs.Taking.{IsUnreadable, IsTooLong, TookSome}
+use Rattle.plcr_command.specs.Taking.{IsUnreadable, IsTooLong}
 use Rattle.plcr_command.specs.Refusals as refusals
 use Rattle.plcr_command.specs.Refusals.{IsMisread}
 use Rattle.plcr_command.specs.Jobs.{JobMisread}
@@ -21,8 +22,8 @@ use Rattle.plcr_tool.specs.declared.report.TheConstants.{ALONE}
 use Rattle.plcr_tool.specs.Report.{Reports, report_files}
 use Rattle.plcr_tool.specs.Show.{ReportMisread, Shows, shown_files}
 use Rattle.plcr_tool.specs.Past.{ReportLeaves}
-use Rattle.plcr_tool.specs.Top.{Form, Report, Show, Make, Usage, Does, form_of}
-use Rattle.plcr_tool.specs.Statuses.{Refuses, CannotTake, IsNone, WantsMemory, ReportIs, ShowIs, ReportsByStatus, ShownByStatus, MisusedWords}
+use Rattle.plcr_tool.specs.Top.{Form, Report, Show, Make, SideBySide, Usage, Does, form_of}
+use Rattle.plcr_tool.specs.Statuses.{Refuses, IsNone, WantsMemory, ReportIs, ShowIs, ReportsByStatus, ShownByStatus, MisusedWords}
 
 -- no line was printed for want of memory
 unprinted : (old new : Option (List ℕ)) (before after : ℕ) → Prints old new [] before after → new ≡ old
@@ -35,13 +36,13 @@ unprinted old new before after (inr cut) = none cut.0.front cut.0.rest cut.0.par
     none (x ∷ front) rest parts left = absurd cc
 
 module _ (Misread : List (List ℕ) → Refusal → Type 0) (files : List File) (old new : Seen) where
-  refuses : (refusal : Refusal) → IsRefused Misread files refusal old new → Refuses refusal old new
+  pub refuses : (refusal : Refusal) → IsRefused Misread files refusal old new → Refuses refusal old new
   refuses refusal r = record { nothing = r.nothing; printed = r.printed }
 
-  is_none : (refusal : Refusal) → (refusals.Refuses Misread files old.desk new.desk refusal → IsMisread Misread files refusal old.desk new.desk) → IsRefused Misread files refusal old new → IsNone Misread files refusal old new
+  pub is_none : (refusal : Refusal) → (refusals.Refuses Misread files old.desk new.desk refusal → IsMisread Misread files refusal old.desk new.desk) → IsRefused Misread files refusal old new → IsNone Misread files refusal old new
   is_none refusal only r = record { why = only r.cause; refuses = refuses refusal r }
 
-  wants : IsRefused Misread files OutOfMemory old new → WantsMemory files old new
+  pub wants : IsRefused Misread files OutOfMemory old new → WantsMemory files old new
   wants r = record {
     took = elim r.cause [
       | inl some ↦ some
@@ -52,28 +53,28 @@ module _ (Misread : List (List ℕ) → Refusal → Type 0) (files : List File) 
   }
 
 -- bytes aren't refused for what can't be wrong with them
-job_read : (contents : List (List ℕ)) (word : FileWord) → JobMisread ALONE contents (CannotRead word) → ⊥
-job_read [] word is = is
-job_read (core ∷ contents) word is = is
+pub job_read : (modes : Modes) (contents : List (List ℕ)) (word : FileWord) → JobMisread modes contents (CannotRead word) → ⊥
+job_read modes [] word is = is
+job_read modes (core ∷ contents) word is = is
 
-job_long : (contents : List (List ℕ)) (word : FileWord) → JobMisread ALONE contents (TooLong word) → ⊥
-job_long [] word is = is
-job_long (core ∷ contents) word is = is
+pub job_long : (modes : Modes) (contents : List (List ℕ)) (word : FileWord) → JobMisread modes contents (TooLong word) → ⊥
+job_long modes [] word is = is
+job_long modes (core ∷ contents) word is = is
 
-job_report : (contents : List (List ℕ)) (fault : DecodeFault) → JobMisread ALONE contents (ReportRefused fault) → ⊥
-job_report [] fault is = is
-job_report (core ∷ contents) fault is = is
+pub job_report : (modes : Modes) (contents : List (List ℕ)) (fault : DecodeFault) → JobMisread modes contents (ReportRefused fault) → ⊥
+job_report modes [] fault is = is
+job_report modes (core ∷ contents) fault is = is
 
 report_at : (core script : List ℕ) (old new : Seen) (past : Option WriterState) (status : ℕ) (ending : Ending) → status ≡ status_of ending → Reports core script old new ending → ReportLeaves core script old new past status → ReportIs core script old new past status
 report_at core script old new past status Done is did left = inl (is, (did, left.done is))
 report_at core script old new past status Stopped is did left = inr (inr (inr (inr (inl (is, (did, left.stopped is))))))
 report_at core script old new past status (Refused (CannotRead word)) is did left =
     let none = left.others (λ e. omega (arith, is, e)) (λ e. omega (arith, is, e)) in
-    let unreadable : IsUnreadable (report_files core script) (named word) old.desk new.desk = elim did.cause [ inl un ↦ un | inr m ↦ absurd (job_read m.contents word m.misread) ] in
+    let unreadable : IsUnreadable (report_files core script) (named word) old.desk new.desk = elim did.cause [ inl un ↦ un | inr m ↦ absurd (job_read ALONE m.contents word m.misread) ] in
     inr (inl (is, record { word = word; how = inl (unreadable, refuses (JobMisread ALONE) (report_files core script) old new (CannotRead word) did) }, none))
 report_at core script old new past status (Refused (TooLong word)) is did left =
     let none = left.others (λ e. omega (arith, is, e)) (λ e. omega (arith, is, e)) in
-    let long : IsTooLong (report_files core script) (named word) old.desk new.desk = elim did.cause [ inl un ↦ un | inr m ↦ absurd (job_long m.contents word m.misread) ] in
+    let long : IsTooLong (report_files core script) (named word) old.desk new.desk = elim did.cause [ inl un ↦ un | inr m ↦ absurd (job_long ALONE m.contents word m.misread) ] in
     inr (inl (is, record { word = word; how = inr (long, refuses (JobMisread ALONE) (report_files core script) old new (TooLong word) did) }, none))
 report_at core script old new past status (Refused (CoreRefused fault)) is did left =
     let none = left.others (λ e. omega (arith, is, e)) (λ e. omega (arith, is, e)) in
@@ -81,7 +82,7 @@ report_at core script old new past status (Refused (CoreRefused fault)) is did l
 report_at core script old new past status (Refused (ScriptRefused number line kind)) is did left =
     let none = left.others (λ e. omega (arith, is, e)) (λ e. omega (arith, is, e)) in
     inr (inr (inr (inl (is, (number, line, kind, is_none (JobMisread ALONE) (report_files core script) old new (ScriptRefused number line kind) (λ cause. elim cause [ inl un ↦ absurd un | inr m ↦ m ]) did), none))))
-report_at core script old new past status (Refused (ReportRefused fault)) is did left = let no : ⊥ = elim did.cause [ inl un ↦ un | inr m ↦ job_report m.contents fault m.misread ] in absurd no
+report_at core script old new past status (Refused (ReportRefused fault)) is did left = let no : ⊥ = elim did.cause [ inl un ↦ un | inr m ↦ job_report ALONE m.contents fault m.misread ] in absurd no
 report_at core script old new past status (Refused OutOfMemory) is did left =
     let none = left.others (λ e. omega (arith, is, e)) (λ e. omega (arith, is, e)) in
     inr (inr (inr (inr (inr (is, wants (JobMisread ALONE) (report_files core script) old new did, none)))))
@@ -146,6 +147,7 @@ only_usage : (form : Form) (old new : Seen) → Does form old new Misused → fo
 only_usage (Report core script) old new does = absurd does
 only_usage (Show report) old new does = absurd does
 only_usage (Make images core script) old new does = absurd does
+only_usage (SideBySide core scripts) old new does = absurd does
 only_usage Usage old new does = refl
 
 only_misused : (ending : Ending) (old new : Seen) → Does Usage old new ending → status_of ending ≡ 1

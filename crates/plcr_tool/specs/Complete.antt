@@ -10,9 +10,10 @@ use Rattle.plcr_command.specs.Jobs.{IsJob, HasNoCore, HasNoScript}
 use Rattle.plcr_command.specs.Complete.{CanBeTaken, ComesWhere, LongFilesAreRefused}
 use Rattle.plcr_tool.specs.declared.report.TheConstants.{ALONE}
 use Rattle.plcr_run.specs.Runs.{IsDone}
+use Rattle.plcr_maker.specs.Make.{MakeDoes}
 use Rattle.plcr_tool.specs.Report.{Ran, ReportDoes, report_files}
 use Rattle.plcr_tool.specs.Show.{HasNoReport, IsPrinted, IsReport, ShowDoes, shown_files}
-use Rattle.plcr_tool.specs.Top.{Report, Show, TopDoes, form_of}
+use Rattle.plcr_tool.specs.Top.{Report, Show, Make, TopDoes, form_of}
 
 -- `report` on a core and a script: both are taken, and all that their run makes is made, kept and
 -- printed, or memory is wanting
@@ -79,3 +80,9 @@ WordsReport = (words : List (List ℕ)) → (core script : List ℕ) → (old ne
 abbrev pub WordsShow : Type 0
 WordsShow = (words : List (List ℕ)) → (report : List ℕ) → (old new : Seen) → (status : ℕ)
     → form_of words ≡ Show report → TopDoes words old new status → ShowDoes report old new status
+
+-- words of the form `make N CORE SCRIPT` do what that command does
+abbrev pub WordsMake : Type 0
+WordsMake = (words : List (List ℕ)) → (images : ℕ) → (core script : List ℕ) → (old new : Seen) → (status : ℕ)
+    → form_of words ≡ Make images core script → TopDoes words old new status
+    → MakeDoes images core script old new status

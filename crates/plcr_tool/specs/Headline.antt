@@ -24,9 +24,10 @@ use Rattle.plcr_command.specs.Seen.{Seen}
 use Rattle.plcr_command.specs.Jobs.{IsJob}
 use Rattle.plcr_command.specs.Endings.{HasRead, kept_names}
 use Rattle.plcr_run.specs.Past.{HasMetAll}
+use Rattle.plcr_workers.specs.Command.{ThreadsKept, ThreadsRan, ThreadsTell}
 use Rattle.plcr_tool.specs.declared.report.TheConstants.{ALONE}
 use Rattle.plcr_tool.specs.Report.{report_files}
-use Rattle.plcr_tool.specs.Top.{Form, Report, Show, Make, Usage, form_of}
+use Rattle.plcr_tool.specs.Top.{Form, Report, Show, Make, SideBySide, Usage, form_of}
 
 -- A file tells truly of the core's process and of what happened on the image list. There was a hold
 -- of a pass, in which the images were met by a lawful walk through the lists that the changes made:
@@ -80,12 +81,17 @@ ReportsTellTruly core script old new past status =
     (status ≡ 0) ⊎ (status ≡ 5)
     → HasRead (IsJob ALONE) (report_files core script) (RanTruly past status) old new
 
--- the same for the words of the command line
+-- The same for the words of the command line. Of scripts side by side it tells that the journal and
+-- the history are one another's; and where all was done, that the other lines and the files are those
+-- of runs of the scripts over this history
 abbrev pub FormTellsTruly : Form → Seen → Seen → Option WriterState → ℕ → Type 0
 FormTellsTruly (Report core script) old new past status =
     ReportsTellTruly core script old new past status
 FormTellsTruly (Show report) old new past status = Unit {0}
 FormTellsTruly (Make images core script) old new past status = Unit {0}
+FormTellsTruly (SideBySide core scripts) old new past status =
+    ThreadsTell core scripts old new past status × ThreadsRan core scripts old new past status
+    × ThreadsKept core scripts old new past status
 FormTellsTruly Usage old new past status = Unit {0}
 
 abbrev pub TopTellsTruly : List (List ℕ) → Seen → Seen → Option WriterState → ℕ → Type 0

@@ -5,5 +5,6 @@ pub mod Past
 pub mod Report
 pub mod Show
 pub mod Statuses
+pub mod Threads
 pub mod Top
 pub mod inner

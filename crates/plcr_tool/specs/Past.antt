@@ -10,9 +10,10 @@ use Rattle.plcr_command.specs.Process.{meanings_of}
 use Rattle.plcr_command.specs.Endings.{HasRead}
 use Rattle.plcr_run.specs.Past.{LeavesWhole, LeavesPart}
 use Rattle.plcr_maker.specs.Make.{MakeLeaves}
+use Rattle.plcr_workers.specs.Command.{ThreadsLeave}
 use Rattle.plcr_tool.specs.declared.report.TheConstants.{ALONE}
 use Rattle.plcr_tool.specs.Report.{report_files}
-use Rattle.plcr_tool.specs.Top.{Form, Report, Show, Make, Usage, form_of}
+use Rattle.plcr_tool.specs.Top.{Form, Report, Show, Make, SideBySide, Usage, form_of}
 
 -- the job has one script, and this is known of the writer that its run on the core left
 pub record Left (Leaves : Meanings → ScriptValue → Option WriterState → Type 0) (past : Option WriterState) (job : Job) : Type 0 where
@@ -40,6 +41,7 @@ abbrev pub FormLeaves : Form → Seen → Seen → Option WriterState → ℕ �
 FormLeaves (Report core script) old new past status = ReportLeaves core script old new past status
 FormLeaves (Show report) old new past status = past ≡ None
 FormLeaves (Make images core script) old new past status = MakeLeaves images past status
+FormLeaves (SideBySide core scripts) old new past status = ThreadsLeave core scripts old new past status
 FormLeaves Usage old new past status = past ≡ None
 
 -- what the program leaves for its words

@@ -1,6 +1,6 @@
 -- What `report CORE SCRIPT` and `show REPORT` have done, by their status: what they took, made,
 -- kept, gave up and printed, and what they left in `past`. No other status comes.
-use Rattle.std.specs.Prelude.{◌≡◌, ◌⊎◌, ◌↔◌, ℕ, List, [], ◌∷◌, Option, None}
+use Rattle.std.specs.Prelude.{◌≡◌, ◌⊎◌, ◌↔◌, ℕ, List, Option, None}
 use Rattle.plcr_base.specs.Told.{Prints}
 use Rattle.plcr_core.specs.declared.fault.CoreFault.{CoreFault}
 use Rattle.plcr_decode.specs.declared.faults.DecodeFault.{DecodeFault}

@@ -6,11 +6,21 @@ ghost use Rattle.plcr_tool.specs.Complete.{
   CoreRefusalsAreExact,
   ScriptRefusalsAreExact,
   LongJobsAreRefused,
+  WordsMake,
   WordsReport,
   ShownReportsAreComplete,
   ReportRefusalsAreExact,
   LongReportsAreRefused,
   WordsShow,
+};
+ghost use Rattle.plcr_tool.specs.Threads.{
+  ThreadsAreComplete,
+  ThreadsRefuseCores,
+  ThreadsRefuseScripts,
+  ThreadsRefuseLong,
+  WordsLeaveAsThreads,
+  WordsTellAsThreads,
+  WordsThreads,
 };
 
 /// On a core and a script that can be taken, `report` has status 0 with all files and lines, or 7,
@@ -35,4 +45,21 @@ pub fn shown_reports_are_complete()
     ensures no_report { ReportRefusalsAreExact }
     ensures too_long { LongReportsAreRefused }
     ensures words { WordsShow }
+{}
+
+/// The same of `threads`, if it returns, on a core and scripts.
+pub fn threads_are_complete()
+    ensures complete { ThreadsAreComplete }
+    ensures no_core { ThreadsRefuseCores }
+    ensures no_script { ThreadsRefuseScripts }
+    ensures too_long { ThreadsRefuseLong }
+    ensures words { WordsThreads }
+    ensures leaves { WordsLeaveAsThreads }
+    ensures tells { WordsTellAsThreads }
+{}
+
+/// Words of the form `make N CORE SCRIPT` do what `make` does. What it answers where nothing fails is
+/// told by `makes_are_complete` of plcr_maker.
+pub fn makes_are_chosen()
+    ensures words { WordsMake }
 {}

@@ -112,7 +112,7 @@ fn add_state(bytes: &mut Vec<u8>) -> Result<(), AllocError> {
     Ok(())
 }
 
-fn core_bytes(alloc: Global, core: Core) -> Result<Vec<u8>, AllocError> {
+pub fn core_bytes(alloc: Global, core: Core) -> Result<Vec<u8>, AllocError> {
     let mut bytes = Vec::new(alloc);
     let (filetype, commands, size) = match core {
         Core::Executable => (2, 2, 256),

@@ -22,10 +22,15 @@ mod show_tests;
 mod statuses;
 #[cfg(test)]
 mod tests;
+#[cfg(test)]
+mod threads_fault_tests;
+#[cfg(test)]
+mod threads_tests;
 mod top;
 
 use plcr_command::{Ending, Refusal, status};
 use plcr_io::{HostDesk, HostOut};
+use plcr_workers::NoGate;
 use std::process::ExitCode;
 use std::{env, io};
 
@@ -42,10 +47,12 @@ fn main(rt: HostRuntime) -> ExitCode {
     };
     let mut past = None;
     ExitCode::from(top::top(
+        &rt,
         rt.alloc(),
         words.as_slice(),
         &mut desk,
         &mut lines,
+        &NoGate,
         &mut past,
     ))
 }

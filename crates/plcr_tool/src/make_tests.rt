@@ -1,6 +1,7 @@
 use crate::fixtures::{file_of, words};
 use crate::top::top;
 use plcr_io::{MemDesk, MemFile, MemOut};
+use plcr_workers::NoGate;
 use std::alloc::Global;
 use std::test::Fail;
 
@@ -24,7 +25,15 @@ fn what_is_made_is_reported_again(rt: HostRuntime) -> Result<(), Fail> {
     let mut lines = MemOut::new(alloc, 500, 100, Vec::new(alloc))?;
     let mut past = None;
     let asked = words(alloc, &["make", "10", "g.core", "g.script"])?;
-    let status = top(alloc, asked.as_slice(), &mut first, &mut lines, &mut past);
+    let status = top(
+        &rt,
+        alloc,
+        asked.as_slice(),
+        &mut first,
+        &mut lines,
+        &NoGate,
+        &mut past,
+    );
     assert_eq!(rt; status, 0);
     let line = b"made images 8 threads 16 frames 512 bytes 7983\n";
     assert_eq!(rt; lines.bytes(), line.as_slice());
@@ -38,7 +47,15 @@ fn what_is_made_is_reported_again(rt: HostRuntime) -> Result<(), Fail> {
     let mut second = desk(alloc, vec![in alloc; core, script]?)?;
     let mut lines = MemOut::new(alloc, 500, 100, Vec::new(alloc))?;
     let asked = words(alloc, &["report", "g.core", "g.script"])?;
-    let status = top(alloc, asked.as_slice(), &mut second, &mut lines, &mut None);
+    let status = top(
+        &rt,
+        alloc,
+        asked.as_slice(),
+        &mut second,
+        &mut lines,
+        &NoGate,
+        &mut None,
+    );
     assert_eq!(rt; status, 0);
     assert_eq!(rt; lines.bytes(), LOG.as_bytes());
     assert_eq!(rt; second.file("made.plcrash"), first.file("made.plcrash"));
@@ -60,7 +77,15 @@ fn make_has_three_words_behind_it(rt: HostRuntime) -> Result<(), Fail> {
         let mut lines = MemOut::new(alloc, 500, 100, Vec::new(alloc))?;
         let mut past = None;
         let asked = words(alloc, case)?;
-        let status = top(alloc, asked.as_slice(), &mut desk, &mut lines, &mut past);
+        let status = top(
+            &rt,
+            alloc,
+            asked.as_slice(),
+            &mut desk,
+            &mut lines,
+            &NoGate,
+            &mut past,
+        );
         assert_eq!(rt; status, 1);
         assert!(rt; lines.bytes().starts_with(b"usage: report CORE SCRIPT / "));
         assert!(rt; desk.file("c").is_none());

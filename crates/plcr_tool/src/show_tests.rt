@@ -4,6 +4,7 @@ use crate::fixtures::REPORT;
 use crate::show::show_command;
 use crate::top::top;
 use plcr_io::{MemDesk, MemFile, MemOut};
+use plcr_workers::NoGate;
 use std::alloc::{AllocError, Global};
 use std::test::Fail;
 
@@ -80,7 +81,15 @@ fn shows_by_its_words(rt: HostRuntime) -> Result<(), Fail> {
     let show = String::from_str(alloc, "show")?;
     let report = String::from_str(alloc, "r")?;
     let words = vec![in alloc; show, report]?;
-    let status = top(alloc, words.as_slice(), &mut desk, &mut lines, &mut None);
+    let status = top(
+        &rt,
+        alloc,
+        words.as_slice(),
+        &mut desk,
+        &mut lines,
+        &NoGate,
+        &mut None,
+    );
     assert_eq!(rt; status, 0);
     assert_eq!(rt; lines.bytes(), TEXT.as_bytes());
     Ok(())

@@ -2,8 +2,11 @@ use crate::fixtures::{Core, REPORT, desk, lines, words};
 use crate::report::report_command;
 use crate::top::top;
 use plcr_io::MemOut;
+use plcr_workers::NoGate;
 use std::alloc::Global;
+use std::sync::Wait;
 use std::test::Fail;
+use std::thread::Threads;
 
 #[test]
 fn reports_one_thread(rt: HostRuntime) -> Result<(), Fail> {
@@ -20,7 +23,15 @@ fn reports_one_thread(rt: HostRuntime) -> Result<(), Fail> {
     let core = String::from_str(alloc, "c")?;
     let script = String::from_str(alloc, "s")?;
     let words = vec![in alloc; report, core, script]?;
-    let status = top(alloc, words.as_slice(), &mut desk, &mut lines, &mut None);
+    let status = top(
+        &rt,
+        alloc,
+        words.as_slice(),
+        &mut desk,
+        &mut lines,
+        &NoGate,
+        &mut None,
+    );
     assert_eq!(rt; status, 0);
     assert_eq!(rt; lines.bytes(), b"1 report a.plcrash 271 0 0 0\n".as_slice());
     assert_eq!(rt;
@@ -31,11 +42,24 @@ fn reports_one_thread(rt: HostRuntime) -> Result<(), Fail> {
 }
 
 /// What `top` answers and prints for the first of these words, on a desk with a core and a script.
-fn said(alloc: Global, script: &[u8], said: &[&str]) -> Result<(u8, MemOut), Fail> {
+fn said<R: Threads + Wait + Sync>(
+    rt: &R,
+    alloc: Global,
+    script: &[u8],
+    said: &[&str],
+) -> Result<(u8, MemOut), Fail> {
     let owned = words(alloc, said)?;
     let mut desk = desk(alloc, Core::Whole, script, Vec::new(alloc), Vec::new(alloc))?;
     let mut lines = lines(alloc)?;
-    let status = top(alloc, owned.as_slice(), &mut desk, &mut lines, &mut None);
+    let status = top(
+        rt,
+        alloc,
+        owned.as_slice(),
+        &mut desk,
+        &mut lines,
+        &NoGate,
+        &mut None,
+    );
     Ok((status, lines))
 }
 
@@ -65,7 +89,7 @@ fn tells_the_forms(rt: HostRuntime) -> Result<(), Fail> {
         ),
     ];
     for (script, words, want, line) in cases {
-        let (status, lines) = said(alloc, script, words)?;
+        let (status, lines) = said(&rt, alloc, script, words)?;
         assert_eq!(rt; status, want);
         assert_eq!(rt; lines.bytes(), line.as_bytes());
     }

@@ -51,10 +51,6 @@ number_field field n = record { number = field; value = Number n }
 abbrev pub bytes_field : ℕ → List ℕ → Field
 bytes_field field bs = record { number = field; value = Bytes bs }
 
--- a field that is a message of its own
-abbrev pub message_field : ℕ → List Field → Field
-message_field field message = bytes_field field (spelling message)
-
 -- what stands before a submessage of so many bytes: its tag and its length
 abbrev pub message_head : ℕ → ℕ → List ℕ
 message_head field len = tag field (wire_number wires.Bytes) ++ varint len

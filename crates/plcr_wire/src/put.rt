@@ -51,7 +51,7 @@ pub fn put_tag<P: Put>(p: &mut P, field: u32, wire: u8) -> Result<(), PutFailed>
     ensures err { OnErr result (PutsProperFront (P.pen p.old) (P.pen p.new) (tag field wire)) }
     ensures cause { OnErr result (Rose (P.pen p.old).faults (P.pen p.new).faults) }
 {
-    put_varint(p, tag_number(field, wire))
+    put_varint(p, tag_number(field, u64::from(wire)))
 }
 
 /// How many bytes the tag of a field with this number and wire type has.

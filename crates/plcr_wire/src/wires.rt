@@ -7,6 +7,18 @@ ghost use Rattle.plcr_wire.specs.declared.wires.TheConstants.{WIRE_TYPES};
 /// The lowest bits of a tag tell the wire type, as one of so many numbers.
 pub const WIRE_TYPES: u64 = 8;
 
+// The number of the wire type of varints.
+const NUMBER: u64 = 0;
+
+// That of eight bytes.
+const FIXED64: u64 = 1;
+
+// That of a length and so many bytes.
+const BYTES: u64 = 2;
+
+// That of four bytes.
+const FIXED32: u64 = 5;
+
 /// A wire type in use.
 #[derive(Clone, Copy)]
 pub enum Wire {
@@ -22,25 +34,25 @@ pub enum Wire {
 
 impl Wire {
     // Its number in a tag.
-    pub(crate) fn number(self) -> u8
+    pub(crate) fn number(self) -> u64
         ensures number { result ≡ wire_number self }
         ensures within { result < WIRE_TYPES }
     {
         match self {
-            Wire::Number => 0,
-            Wire::Fixed64 => 1,
-            Wire::Bytes => 2,
-            Wire::Fixed32 => 5,
+            Wire::Number => NUMBER,
+            Wire::Fixed64 => FIXED64,
+            Wire::Bytes => BYTES,
+            Wire::Fixed32 => FIXED32,
         }
     }
 }
 
 // The number that is written as the tag of a field.
-pub(crate) fn tag_number(field: u32, wire: u8) -> u64
+pub(crate) fn tag_number(field: u32, wire: u64) -> u64
     requires { wire < WIRE_TYPES }
     ensures { result ≡ field * WIRE_TYPES + wire }
 {
-    u64::from(field) * WIRE_TYPES + u64::from(wire)
+    u64::from(field) * WIRE_TYPES + wire
 }
 
 // The wire type that a tag names, where it is the tag of a field that may be.
@@ -52,10 +64,10 @@ pub(crate) fn tag_wire(tag: u64) -> Option<Wire>
         return None;
     }
     match tag % WIRE_TYPES {
-        0 => Some(Wire::Number),
-        1 => Some(Wire::Fixed64),
-        2 => Some(Wire::Bytes),
-        5 => Some(Wire::Fixed32),
+        NUMBER => Some(Wire::Number),
+        FIXED64 => Some(Wire::Fixed64),
+        BYTES => Some(Wire::Bytes),
+        FIXED32 => Some(Wire::Fixed32),
         _ => None,
     }
 }

@@ -10,10 +10,10 @@ use Rattle.plcr_command.specs.Jobs.{IsCore}
 use Rattle.plcr_command.specs.Process.{meanings_of}
 use Rattle.plcr_run.specs.Past.{LeavesWhole}
 use Rattle.plcr_make.specs.Cores.{core_of}
-use Rattle.plcr_make.specs.Scripts.{script_of}
+use Rattle.plcr_make.specs.Scripts.{report_name, script_of}
 use Rattle.plcr_make.specs.MadeScripts.{made_script}
 use Rattle.plcr_make.specs.Summary.{summary_line}
-use Rattle.plcr_maker.specs.Make.{report_name, frames_in, made_run}
+use Rattle.plcr_maker.specs.Make.{frames_in, made_run}
 use Rattle.plcr_maker.specs.declared.counts.Counts.{Counts}
 use Rattle.plcr_maker.specs.declared.runs.Ran.{Ran}
 use Rattle.plcr_maker.specs.declared.making.Made.{Made}

@@ -13,4 +13,4 @@ returns-then-len-ge-MOST_THREADS c =
 
 pub returns : goal.returns
 returns c =
-    rw c.in-Some.is (c.in_ok-push.ensures.items ∙ kept_more MOST_THREADS c.args.threads.now.items c.in-Some.thread.now (omega arith))
+    rw c.in-Some.is (c.in_ok-push.ensures.items ∙ kept_more MOST_THREADS c.args.threads.now.items c.in-Some.thread (omega arith))

@@ -1,11 +1,12 @@
 use Rattle.std.proofs.Common.{arith}
 use Rattle.plcr_wire.specs.Pen.{Wrote}
-use Rattle.plcr_wire.specs.Message.{field_spelling, message_field}
+use Rattle.plcr_wire.specs.Message.{field_spelling}
 use Rattle.plcr_report.specs.Messages.{register_message}
 use Rattle.plcr_regs.specs.Names.{register_count}
 use Rattle.plcr_encode.specs.Values.{register_at}
 use Rattle.plcr_encode.proofs.Rows.{up_to_more, ranged_left}
 use Rattle.plcr_encode.proofs.threads.put_registers.Goals as goal
+use Rattle.plcr_encode.specs.inner.Rows.{message_field}
 
 pub loop-i-preserved : goal.loop-i-preserved
 loop-i-preserved g c =

@@ -1,11 +1,12 @@
 use Rattle.std.proofs.Common.{◌≡◌, ◌≤◌, ◌+◌, ◌*◌, length, arith}
-use Rattle.plcr_wire.specs.Message.{field_spelling, message_field}
+use Rattle.plcr_wire.specs.Message.{field_spelling}
 use Rattle.plcr_report.specs.Messages.{register_message}
 use Rattle.plcr_regs.specs.Names.{register_count}
 use Rattle.plcr_encode.specs.declared.limits.TheConstants.{FIELD_BYTES, REGISTER_BYTES}
 use Rattle.plcr_encode.specs.Values.{register_at}
 use Rattle.plcr_encode.proofs.Rows.{ranged_left, sized_more}
 use Rattle.plcr_encode.proofs.threads.registers_len.Goals as goal
+use Rattle.plcr_encode.specs.inner.Rows.{message_field}
 
 pub loop-i-preserved : goal.loop-i-preserved
 loop-i-preserved c =

@@ -1,6 +1,6 @@
 use Rattle.std.proofs.Common.{◌≡◌, ℕ, List, Some, sym, ap, ◌∙◌}
 use Rattle.plcr_io.specs.MemDesk.{contents, file_now}
-use Rattle.plcr_maker.specs.Make.{report_name}
+use Rattle.plcr_make.specs.Scripts.{report_name}
 use Rattle.plcr_maker.proofs.runs.report_in.Goals as goal
 
 pub returns-in-Ok : goal.returns-in-Ok

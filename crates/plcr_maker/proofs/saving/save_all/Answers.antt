@@ -1,7 +1,7 @@
 use Rattle.std.proofs.Common.{[], ◌∷◌}
 use Rattle.plcr_command.proofs.Kept.{kept_none, kept_twice, goes_none, goes_twice}
 use Rattle.plcr_maker.proofs.Saved.{stopped_at}
-use Rattle.plcr_maker.specs.Make.{report_name}
+use Rattle.plcr_make.specs.Scripts.{report_name}
 use Rattle.plcr_maker.proofs.saving.save_all.Goals as goal
 
 pub returns-in-Err-clause-stopped : goal.returns-in-Err-clause-stopped

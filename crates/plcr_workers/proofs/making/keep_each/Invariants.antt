@@ -1,0 +1,9 @@
+use Rattle.std.proofs.Common.{vec_len}
+use Rattle.plcr_workers.proofs.Settled.{KeepingEach}
+use Rattle.plcr_workers.proofs.making.keep_each.Given as goal
+
+abbrev pub invariant-loop-draft : goal.invariant-loop-draft
+invariant-loop-draft g l = KeepingEach g.D.Out.Sink.written g.D.Out.Sink.faults l.scripts l.fn.drafts.items l.drafts.items (g.D.Desk.told l.initial.desk) (g.D.Desk.told l.desk)
+
+abbrev pub decreases-loop-draft : goal.decreases-loop-draft
+decreases-loop-draft g l = vec_len l.drafts

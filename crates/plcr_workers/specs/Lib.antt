@@ -1,0 +1,10 @@
+pub mod Asking
+pub mod Outcomes
+pub mod Stays
+pub mod Scripts
+pub mod Log
+pub mod Threads
+pub mod Stopped
+pub mod Command
+pub mod Known
+pub mod inner
