@@ -16,15 +16,16 @@ pub begins : IsKept [] (first_view ∷ [])
 begins = inl (record { empty = refl; alone = refl })
 
 opened_truth : TurnState → Truth
-opened_truth x = record { list = x.writer.table; face = face_of x; owner = λ _. 0; chief = 0 }
+opened_truth x = record { list = x.writer.table; nodes = x.writer.nodes; passes = x.writer.passes; face = face_of x; owner = λ _. 0; chief = 0 }
 
 -- the first view is in no queue in which the turn goes round
 pub fresh_is_new : {P : Type 0} (items : List TurnState) (views : List View) (port : ℕ) → IsGoing items views → get_elem? views port ≡ some first_view → P
 fresh_is_new items views port g at = absurd ((g.fits port first_view at refl).whose)
 
-opened_fits : (x : TurnState) → Fits (record { list = x.writer.table; face = face_of x; owner = λ _. 0; chief = 0 }) 0 (opened_view x)
+opened_fits : (x : TurnState) → Fits (record { list = x.writer.table; nodes = x.writer.nodes; passes = x.writer.passes; face = face_of x; owner = λ _. 0; chief = 0 }) 0 (opened_view x)
 opened_fits x = record {
   list = refl;
+  sizes = (refl, refl);
   count = refl;
   whose = refl;
   scripts = belong_if (λ _. 0) 0 (shares_from 0 x.parts) (λ _ _. refl);
@@ -36,11 +37,11 @@ opened_fits x = record {
 
 opened_going : (x : TurnState) → IsGoing (x ∷ []) (opened_view x ∷ [])
 opened_going x = record {
-  truth = record { list = x.writer.table; face = face_of x; owner = λ _. 0; chief = 0 };
-  place = inl (record { turn = x; items_are = refl; list = refl; face = refl; nobody = λ pass v at live. ap (λ (u : View). u.turn) (sym (only_one (opened_view x) v pass at).1) });
+  truth = record { list = x.writer.table; nodes = x.writer.nodes; passes = x.writer.passes; face = face_of x; owner = λ _. 0; chief = 0 };
+  place = inl (record { turn = x; items_are = refl; list = refl; sizes = (refl, refl); face = refl; nobody = λ pass v at live. ap (λ (u : View). u.turn) (sym (only_one (opened_view x) v pass at).1) });
   fits = λ pass v at live.
       let o = only_one (opened_view x) v pass at in
-      subst (λ (y : ℕ × View). Fits (record { list = x.writer.table; face = face_of x; owner = λ _. 0; chief = 0 }) y.0 y.1) (λ i. (sym o.0 i, o.1 i)) (opened_fits x);
+      subst (λ (y : ℕ × View). Fits (record { list = x.writer.table; nodes = x.writer.nodes; passes = x.writer.passes; face = face_of x; owner = λ _. 0; chief = 0 }) y.0 y.1) (λ i. (sym o.0 i, o.1 i)) (opened_fits x);
   owned = λ script few. record { view = opened_view x; there = refl; unspent = refl; has = from_has x.parts 0 script (omega arith) (omega arith) };
 }
 

@@ -36,14 +36,15 @@ pub some_item : (x : TurnState) (items : List TurnState) → (x ∷ items) ≡ [
 some_item x items e = let e' : suc (length items) ≡ 0 = ap length e in omega arith
 
 -- the turn that the queue holds is of what the rule means
-from_queue : (t : Truth) (x : TurnState) (items : List TurnState) (views : List View) → IsInQueue t (x ∷ items) views → (items ≡ []) × (x.writer.table ≡ t.list) × (face_of x ≡ t.face)
+from_queue : (t : Truth) (x : TurnState) (items : List TurnState) (views : List View) → IsInQueue t (x ∷ items) views → (items ≡ []) × (x.writer.table ≡ t.list) × (face_of x ≡ t.face) × (x.writer.nodes ≡ t.nodes) × (x.writer.passes ≡ t.passes)
 from_queue t x items views q =
     let e : x ≡ q.turn = ap (λ (l : List TurnState). first_or l x) q.items_are in
-    (ap rest_of q.items_are, ap (λ (y : TurnState). y.writer.table) e ∙ q.list, ap face_of e ∙ q.face)
+    (ap rest_of q.items_are, ap (λ (y : TurnState). y.writer.table) e ∙ q.list, ap face_of e ∙ q.face, ap (λ (y : TurnState). y.writer.nodes) e ∙ q.sizes.0, ap (λ (y : TurnState). y.writer.passes) e ∙ q.sizes.1)
 
 take_fits : (t : Truth) (port : ℕ) (v : View) (x : TurnState) → face_of x ≡ t.face → Fits t port v → Fits t port (taken_view v x)
 take_fits t port v x face f = record {
   list = f.list;
+  sizes = f.sizes;
   count = f.count;
   whose = f.whose;
   scripts = f.scripts;
@@ -53,10 +54,10 @@ take_fits t port v x face f = record {
   progress = f.progress;
 }
 
-is_taken : (t : Truth) (port : ℕ) (v : View) (x : TurnState) → x.writer.table ≡ t.list → face_of x ≡ t.face → Fits t port v → IsTaken v x
-is_taken t port v x list face f =
+is_taken : (t : Truth) (port : ℕ) (v : View) (x : TurnState) → x.writer.table ≡ t.list → (x.writer.nodes ≡ t.nodes) × (x.writer.passes ≡ t.passes) → face_of x ≡ t.face → Fits t port v → IsTaken v x
+is_taken t port v x list sizes face f =
     subst (λ (y : Face). (v.count ≡ length y.parts) → IsPrefix v.journal y.journal → AllBegin v.joined y.journal → Agrees y.parts v.shares → IsTaken v x) face
-    (λ count seen joined progress. record { list = f.list ∙ ap Some (sym list); count = count; seen = seen; joined = joined; progress = progress })
+    (λ count seen joined progress. record { list = f.list ∙ ap Some (sym list); sizes = (f.sizes.0 ∙ sym sizes.0, f.sizes.1 ∙ sym sizes.1); count = count; seen = seen; joined = joined; progress = progress })
     f.count f.seen f.joined f.progress
 
 took : (port : ℕ) (v : View) (x : TurnState) (items : List TurnState) (views : List View) → IsUnspent v → (g : IsGoing (x ∷ items) views) → IsInQueue g.truth (x ∷ items) views → get_elem? views port ≡ some v
@@ -80,7 +81,7 @@ took port v x items views live g q at =
         fits = all_set (Fits t) views port w (λ _. take_fits t port v x from.2 f) (λ j u _ there lives. g.fits j u there lives);
         owned = λ script few. owned_set t.owner views port v w script at (λ h. (live, h)) (g.owned script few);
       },
-      is_taken t port v x from.1 from.2 f,
+      is_taken t port v x from.1 (from.3, from.4) from.2 f,
     )
 
 pub takes : (port : ℕ) (v : View) → IsUnspent v → Pops IsKept port v (λ x w. (w ≡ taken_view v x) × IsTaken v x)
@@ -138,6 +139,7 @@ others_fit : (t : Truth) (face : Face) (port j : ℕ) (v u : View) → Fits t po
     → ((script : ℕ) → has_share script v.shares ≡ false → slice_get face.parts script ≡ slice_get t.face.parts script) → Fits (record t { face = face }) j u
 others_fit t face port j v u f g apart longer count same = record {
   list = g.list;
+  sizes = g.sizes;
   count = g.count ∙ sym count;
   whose = g.whose;
   scripts = g.scripts;
@@ -157,6 +159,7 @@ whose_renewed Spent chief pass parts shares w = w
 give_fits : (t : Truth) (port : ℕ) (v : View) (x : TurnState) → Fits t port v → IsPrefix t.face.journal x.journal → length x.parts ≡ length t.face.parts → Fits (record t { face = face_of x }) port (given_view v x)
 give_fits t port v x f longer count = record {
   list = f.list;
+  sizes = f.sizes;
   count = f.count ∙ sym count;
   whose = whose_renewed v.role t.chief port x.parts v.shares f.whose;
   scripts = belong_if t.owner port (renewed x.parts v.shares) (λ script h. belong_to t.owner port v.shares f.scripts script (sym (renewed_same x.parts script v.shares) ∙ h));
@@ -181,6 +184,7 @@ gave port v x items views m g at p who face =
         turn = x;
         items_are = ap (λ l. l ++ x ∷ []) p.empty;
         list = some_same (sym m.list ∙ f.list);
+        sizes = (sym m.sizes.0 ∙ f.sizes.0, sym m.sizes.1 ∙ f.sizes.1);
         face = refl;
         nobody = all_set (λ j u. u.turn ≡ None) views port w (λ _. refl) (λ j u other there lives. p.only j u there lives (λ e. other (e ∙ who)));
       });

@@ -45,6 +45,7 @@ module _ (port : ℕ) (v : View) (share : Share) (shares : List Share) (is : v.s
       let b : Belong t.owner port (share ∷ shares) = subst (λ (l : List Share). Belong t.owner port l) is f.scripts in
       record {
         list = f.list;
+        sizes = f.sizes;
         count = f.count;
         whose = subst (λ r. IsWhose t.chief port r shares) (sym role) (subst (λ r. IsWhose t.chief port r v.shares) role f.whose);
         scripts = belong_if (gone t.owner share.script k) port shares (λ script h. gone_else t.owner share.script k script (first_alone t f script h) ∙ belong_to t.owner port shares b.1 script h);
@@ -57,6 +58,7 @@ module _ (port : ℕ) (v : View) (share : Share) (shares : List Share) (is : v.s
   right_fits : (t : Truth) (k : ℕ) → port ≢ k → Fits t port v → Fits (record t { owner = gone t.owner share.script k }) k right
   right_fits t k away f = record {
     list = f.list;
+    sizes = f.sizes;
     count = f.count;
     whose = ((λ e. away (sym (e ∙ sym (subst (λ r. IsWhose t.chief port r v.shares) role f.whose)))), λ e. absurd (let e' : 1 ≡ 0 = ap length e in omega arith));
     scripts = (gone_here t.owner share.script k, tt);
@@ -69,6 +71,7 @@ module _ (port : ℕ) (v : View) (share : Share) (shares : List Share) (is : v.s
   other_fits : (t : Truth) (k j : ℕ) (u : View) → j ≢ port → Fits t port v → Fits t j u → Fits (record t { owner = gone t.owner share.script k }) j u
   other_fits t k j u away f g = record {
     list = g.list;
+    sizes = g.sizes;
     count = g.count;
     whose = g.whose;
     scripts = belong_if (gone t.owner share.script k) j u.shares (λ script h.
@@ -121,7 +124,7 @@ module _ (port : ℕ) (v : View) (share : Share) (shares : List Share) (is : v.s
       record {
         truth = record t { owner = gone t.owner share.script k };
         place = ⊎_elim
-            (λ (q : IsInQueue t items views). inl (record { turn = q.turn; items_are = q.items_are; list = q.list; face = q.face; nobody = all_forked (λ j u. u.turn ≡ None) views idle idle (λ j u _ there lives. q.nobody j u there lives) }))
+            (λ (q : IsInQueue t items views). inl (record { turn = q.turn; items_are = q.items_are; list = q.list; sizes = q.sizes; face = q.face; nobody = all_forked (λ j u. u.turn ≡ None) views idle idle (λ j u _ there lives. q.nobody j u there lives) }))
             (λ (p : IsWithPass t items views).
             let elsewhere : p.who ≢ port = λ e. has_and_not v.turn t.face (ap (λ (u : View). u.turn) (same_view views port v p.view at (subst (λ n. get_elem? views n ≡ some p.view) e p.there)) ∙ p.has) idle in
             inr (record {
@@ -166,6 +169,7 @@ module _ (port other : ℕ) (v w : View) (role : v.role ≡ Chief) (idle : v.tur
   both_fits : (t : Truth) → Fits t port v → Fits t other w → Fits (record t { owner = gained t.owner w.shares port }) port (both_view v w)
   both_fits t f g = record {
     list = f.list;
+    sizes = f.sizes;
     count = f.count;
     whose = subst (λ r. IsWhose t.chief port r (w.shares ++ v.shares)) (sym role) (subst (λ r. IsWhose t.chief port r v.shares) role f.whose);
     scripts = belong_if (gained t.owner w.shares port) port (w.shares ++ v.shares) (λ script h.
@@ -180,6 +184,7 @@ module _ (port other : ℕ) (v w : View) (role : v.role ≡ Chief) (idle : v.tur
   still_fits : (t : Truth) (j : ℕ) (u : View) → j ≢ other → Fits t other w → Fits t j u → Fits (record t { owner = gained t.owner w.shares port }) j u
   still_fits t j u away g f = record {
     list = f.list;
+    sizes = f.sizes;
     count = f.count;
     whose = f.whose;
     scripts = belong_if (gained t.owner w.shares port) j u.shares (λ script h.
@@ -227,7 +232,7 @@ module _ (port other : ℕ) (v w : View) (role : v.role ≡ Chief) (idle : v.tur
       record {
         truth = record t { owner = gained t.owner w.shares port };
         place = ⊎_elim
-            (λ (q : IsInQueue t items views). inl (record { turn = q.turn; items_are = q.items_are; list = q.list; face = q.face; nobody = all_merged (λ j u. u.turn ≡ None) views idle (λ j u _ _ here lives. q.nobody j u here lives) }))
+            (λ (q : IsInQueue t items views). inl (record { turn = q.turn; items_are = q.items_are; list = q.list; sizes = q.sizes; face = q.face; nobody = all_merged (λ j u. u.turn ≡ None) views idle (λ j u _ _ here lives. q.nobody j u here lives) }))
             (λ (p : IsWithPass t items views).
             let not_mine : p.who ≢ port = λ e. has_and_not v.turn t.face (ap (λ (u : View). u.turn) (same_view views port v p.view at (subst (λ n. get_elem? views n ≡ some p.view) e p.there)) ∙ p.has) idle in
             let not_theirs : p.who ≢ other = λ e. has_and_not w.turn t.face (ap (λ (u : View). u.turn) (same_view views other w p.view there (subst (λ n. get_elem? views n ≡ some p.view) e p.there)) ∙ p.has) rests in

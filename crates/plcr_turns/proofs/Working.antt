@@ -33,7 +33,7 @@ use Rattle.plcr_turns.specs.Turns.{TurnState, Says, IsTurn, IsTold, HasApplied, 
 use Rattle.plcr_turns.specs.Views.{face_of, has_share, Agrees, part_or, renewed, is_unspent, taken_view, given_view, IsTaken, MayGive}
 use Rattle.plcr_turns.specs.Working.{IsWorking, AppliesLine}
 use Rattle.plcr_turns.proofs.Shares.{has_first}
-use Rattle.plcr_turns.proofs.Turned.{one_more_here, one_more_else, one_more_length, lines_more, line_here}
+use Rattle.plcr_turns.proofs.Turned.{one_more_here, one_more_else, one_more_length, lines_more, line_here, SameSizes, same_again, same_sizes}
 
 -- the number of a load is one of those that there are
 loaded_among : (old : WriterState) (header : ℕ) (name : List ℕ) (number : ℕ) (new : WriterState) → IsLoaded old header name number new → number ≤ loads new.history
@@ -91,6 +91,11 @@ module _ (script line : ℕ) (request : Request) (list : TableId) (v : View) (x 
   table_same : x'.writer.table ≡ x.writer.table
   table_same = applies.answered.come.table ∙ ap (λ (s : WriterState). s.table) tells.writer.now
 
+  sizes_same : SameSizes x.writer x'.writer
+  sizes_same =
+      let told_same : SameSizes x.writer told.writer = (ap (λ (s : WriterState). s.nodes) tells.writer.now, ap (λ (s : WriterState). s.passes) tells.writer.now) in
+      same_again x.writer told.writer x'.writer told_same (same_sizes (asked_by request) (name_in request) told.writer applies.said x'.writer applies.answered.come.does.says)
+
   journal_is : x'.journal ≡ x.journal ++ line_of script line (asked_by request) applies.said ∷ []
   journal_is = applies.journal ∙ ap (λ (l : List ChangeLine). l ++ line_of script line (asked_by request) applies.said ∷ []) told_journal
 
@@ -101,6 +106,7 @@ module _ (script line : ℕ) (request : Request) (list : TableId) (v : View) (x 
   may_give = record {
     unspent = ap is_unspent working.role;
     list = taken.list ∙ ap Some (sym table_same);
+    sizes = (taken.sizes.0 ∙ sym sizes_same.0, taken.sizes.1 ∙ sym sizes_same.1);
     face = face_of x;
     has = refl;
     journal = (line_of script line (asked_by request) applies.said ∷ [], sym journal_is);

@@ -13,9 +13,11 @@ use Rattle.plcr_turns.specs.declared.view.View.{View}
 use Rattle.plcr_turns.specs.Turns.{TurnState}
 use Rattle.plcr_turns.specs.Views.{face_of, has_share, Agrees, AllBegin, IsUnspent, first_view}
 
--- the list, the turn's journal and progress, the pass to which each script belongs, and the chief's pass
+-- the list with its sizes, the turn's journal and progress, the pass to which each script belongs, and the chief's pass
 pub record Truth : Type 0 where
   pub list : TableId
+  pub nodes : ℕ
+  pub passes : ℕ
   pub face : Face
   pub owner : ℕ → ℕ
   pub chief : ℕ
@@ -40,6 +42,7 @@ AreApart (share ∷ shares) = (has_share share.script shares ≡ false) × AreAp
 -- what a pass knows is so
 pub record Fits (t : Truth) (pass : ℕ) (v : View) : Type 0 where
   pub list : v.list ≡ Some t.list
+  pub sizes : (v.nodes ≡ t.nodes) × (v.passes ≡ t.passes)
   pub count : v.count ≡ length t.face.parts
   -- it is the chief's or has a script, and each of its scripts is its own
   pub whose : IsWhose t.chief pass v.role v.shares
@@ -56,6 +59,7 @@ pub record IsInQueue (t : Truth) (items : List TurnState) (views : List View) : 
   pub turn : TurnState
   pub items_are : items ≡ turn ∷ []
   pub list : turn.writer.table ≡ t.list
+  pub sizes : (turn.writer.nodes ≡ t.nodes) × (turn.writer.passes ≡ t.passes)
   pub face : face_of turn ≡ t.face
   pub nobody : (pass : ℕ) (v : View) → get_elem? views pass ≡ some v → IsUnspent v → v.turn ≡ None
 

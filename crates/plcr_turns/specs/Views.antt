@@ -46,7 +46,7 @@ AllBegin (seen ∷ others) journal = IsPrefix seen journal × AllBegin others jo
 
 -- the view of a queue's first pass
 abbrev pub first_view : View
-first_view = record { role = Fresh; list = None; count = 0; journal = []; joined = []; shares = []; turn = None }
+first_view = record { role = Fresh; list = None; nodes = 0; passes = 0; count = 0; journal = []; joined = []; shares = []; turn = None }
 
 -- the pass was not taken in
 abbrev pub is_unspent : Role → Bool
@@ -64,15 +64,16 @@ HasAll v = (script : ℕ) → script < v.count → has_share script v.shares ≡
 
 -- after the first push all scripts belong to the pass, which hands them out
 abbrev pub opened_view : TurnState → View
-opened_view x = record { role = Chief; list = Some x.writer.table; count = length x.parts; journal = x.journal; joined = []; shares = shares_from 0 x.parts; turn = None }
+opened_view x = record { role = Chief; list = Some x.writer.table; nodes = x.writer.nodes; passes = x.writer.passes; count = length x.parts; journal = x.journal; joined = []; shares = shares_from 0 x.parts; turn = None }
 
 -- after the turn was taken
 abbrev pub taken_view : View → TurnState → View
 taken_view v x = record v { journal = x.journal; turn = Some (face_of x) }
 
--- what is known of a turn that was taken: it is that of the list, its journal goes on from each one that was seen, and it has the pass's scripts as far as the pass knows
+-- what is known of a turn that was taken: it is that of the list, of these sizes, its journal goes on from each one that was seen, and it has the pass's scripts as far as the pass knows
 pub record IsTaken (v : View) (x : TurnState) : Type 0 where
   pub list : v.list ≡ Some x.writer.table
+  pub sizes : (v.nodes ≡ x.writer.nodes) × (v.passes ≡ x.writer.passes)
   pub count : v.count ≡ length x.parts
   pub seen : IsPrefix v.journal x.journal
   pub joined : AllBegin v.joined x.journal
@@ -82,6 +83,7 @@ pub record IsTaken (v : View) (x : TurnState) : Type 0 where
 pub record MayGive (v : View) (x : TurnState) : Type 0 where
   pub unspent : IsUnspent v
   pub list : v.list ≡ Some x.writer.table
+  pub sizes : (v.nodes ≡ x.writer.nodes) × (v.passes ≡ x.writer.passes)
   pub face : Face
   pub has : v.turn ≡ Some face
   pub journal : IsPrefix face.journal x.journal
@@ -113,7 +115,7 @@ abbrev pub both_view : View → View → View
 both_view v w = record v { joined = w.journal ∷ (w.joined ++ v.joined); shares = w.shares ++ v.shares }
 
 abbrev pub spent_view : View
-spent_view = record { role = Spent; list = None; count = 0; journal = []; joined = []; shares = []; turn = None }
+spent_view = record { role = Spent; list = None; nodes = 0; passes = 0; count = 0; journal = []; joined = []; shares = []; turn = None }
 
 -- where all scripts belong to the chief, who has not the turn, it is in the queue
 abbrev pub MustHold : View → List TurnState → Type 0

@@ -34,6 +34,9 @@ pub struct View {
     pub role: Role,
     /// The image list whose writer the turn has, once there is a turn.
     pub list: Option<ImageList>,
+    /// How many nodes and passes that list has.
+    pub nodes: u32,
+    pub passes: u32,
     /// How many scripts there are.
     pub count: u32,
     /// The journal as the pass last saw it.

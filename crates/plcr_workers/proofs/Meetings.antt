@@ -16,6 +16,8 @@ use Rattle.plcr_imagelist.specs.Tellings.{IsMet}
 use Rattle.plcr_imagelist.proofs.Changed.{met_adds, adds_more}
 use Rattle.plcr_imagelist.proofs.Looking.{went_again}
 use Rattle.plcr_imagelist.proofs.Opened.{walkers_numbered}
+use Rattle.std.specs.Prelude.{Option, Some, slice_get, unwrap_or}
+use Rattle.plcr_script.specs.Scripts.{ScriptValue}
 use Rattle.plcr_workers.specs.inner.Hired.{AreInOrder, AreUntouched}
 use Rattle.plcr_workers.specs.inner.Stages.{HasMetThese}
 
@@ -74,3 +76,8 @@ opened_untouched table nodes passes writer images o place other less =
     let count = opened_count table nodes passes writer images o in
     let is = ap (λ (l : List WalkerState). get_or l place other) o.numbered ∙ (walkers_numbered table nodes passes passes).1 place other (omega (arith, less, count)) in
     ap (λ (w : WalkerState). w.history) is
+
+-- the first script, by its place
+pub first_is : (scripts : List ScriptValue) (found script : ScriptValue) → found ≡ get_or scripts 0 found → slice_get scripts 0 ≡ Some script → found ≡ script
+first_is [] found script is first = absurd cc
+first_is (x ∷ scripts) found script is first = is ∙ ap (λ (o : Option ScriptValue). unwrap_or o x) first

@@ -40,7 +40,7 @@ use Rattle.plcr_workers.specs.declared.worker.Worker.{Worker}
 use Rattle.plcr_workers.specs.Command.{IsJournalOf, IsWriterOf, meanings_in}
 use Rattle.plcr_workers.specs.Log.{file_of}
 use Rattle.plcr_workers.specs.inner.Drafts.{AreSamePlaces, HasTaken, HaveTaken}
-use Rattle.plcr_workers.specs.inner.Hired.{IsHired, IsReadyToRun, IsGone, IsWholeOf, AreNew, AreNumbered, AreFromTheLast, lines_left, passes_left, views_of}
+use Rattle.plcr_workers.specs.inner.Hired.{IsHired, IsReadyToRun, IsGone, IsWholeOf, AreNew, AreNumbered, AreFromTheLast, lines_left, passes_left, views_of, AreSizesOf, KnowsSameSizes}
 use Rattle.plcr_workers.specs.inner.Own.{HaveOwnLines, KnowsOwnOf}
 use Rattle.plcr_workers.specs.Known.{HasEnded}
 use Rattle.plcr_workers.proofs.Joined.{AllKnow, all_known, first_applied, outputs_each, pass_of, whole_applied}
@@ -169,15 +169,21 @@ all_met list count images old new long are met pass less =
     let same : (get_or images place (no_pass list)).number ≡ pass = omega (arith, number, less) in
     subst (λ (n : ℕ). among n new.joined ≡ true) same (met.joined place (no_pass list) within)
 
-pub writer_is : (list : TableId) (scripts : List ScriptValue) (images : List WalkerState) (old new : WriterState) → length images ≡ length scripts → AreFromTheLast (length scripts) list images → HasMetThese images old new → IsAtRest new → IsWriterOf scripts (Some new)
-writer_is list scripts images old new long are met rest = record {
+pub writer_is : (list : TableId) (scripts : List ScriptValue) (images : List WalkerState) (old new : WriterState) → length images ≡ length scripts → AreFromTheLast (length scripts) list images → HasMetThese images old new → AreSizesOf scripts old.nodes old.passes → IsAtRest new → IsWriterOf scripts (Some new)
+writer_is list scripts images old new long are met sizes rest = record {
   writer = new;
   is = refl;
   known = rest.known;
   first = rest.first;
   paced = rest.paced;
   met = all_met list (length scripts) images old new long are met;
+  nodes_are = λ script first. met.sizes.0 ∙ sizes.0 script first;
+  passes_are = met.sizes.1 ∙ sizes.1;
 }
+
+-- the turn that was taken last is of a list of the same sizes
+pub sizes_taken : (scripts : List ScriptValue) (old new : View) (t : TurnState) → AreSizesOf scripts old.nodes old.passes → KnowsSameSizes old new → (new.nodes ≡ t.writer.nodes) × (new.passes ≡ t.writer.passes) → AreSizesOf scripts t.writer.nodes t.writer.passes
+sizes_taken scripts old new t sizes same taken = (λ script first. sym taken.0 ∙ same.0 ∙ sizes.0 script first, sym taken.1 ∙ same.1 ∙ sizes.1)
 
 -- ---- workers that have their outputs
 

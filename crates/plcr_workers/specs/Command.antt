@@ -84,6 +84,9 @@ pub record IsWriterOf (scripts : List ScriptValue) (past : Option WriterState) :
   pub first : TakesFirst writer.history
   pub paced : IsPaced writer.history
   pub met : (pass : ℕ) → pass < length scripts → among pass writer.joined ≡ true
+  -- its list has as many nodes as the first script says, and a pass for each script
+  pub nodes_are : (script : ScriptValue) → slice_get scripts 0 ≡ Some script → writer.nodes ≡ script.nodes
+  pub passes_are : writer.passes ≡ length scripts
 
 -- the same of the scripts that the files hold
 abbrev pub LeftByScripts : (core : List ℕ) → (scripts : List (List ℕ)) → (old new : Seen) → Option WriterState → Type 0

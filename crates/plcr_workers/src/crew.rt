@@ -8,7 +8,7 @@ ghost use Rattle.plcr_script.specs.Reading.{file_of, files_of};
 ghost use Rattle.plcr_turns.specs.Views.{HasAll};
 ghost use Rattle.plcr_workers.specs.Asking.{asked_in, change_lines};
 ghost use Rattle.plcr_workers.specs.inner.Drafts.{HasOutputs, HasTaken, HaveTaken};
-ghost use Rattle.plcr_workers.specs.inner.Hired.{IsHired, IsReadyToRun, IsGone, IsWholeOf, AreNew, AreNumbered, AreInOrder, AreFromTheLast, totals_in, asks_one, writes_one, lines_left, passes_left, views_of, AreUntouched};
+ghost use Rattle.plcr_workers.specs.inner.Hired.{IsHired, IsReadyToRun, IsGone, IsWholeOf, AreNew, AreNumbered, AreInOrder, AreFromTheLast, totals_in, asks_one, writes_one, lines_left, passes_left, views_of, AreUntouched, KnowsSameSizes};
 ghost use Rattle.plcr_workers.specs.inner.Own.{KnowsOwnOf};
 ghost use Rattle.plcr_workers.specs.inner.Outputs.{in_order, outputs_of};
 ghost use Rattle.plcr_workers.specs.inner.Reports.{HasReports, HaveReports};
@@ -112,6 +112,7 @@ pub(crate) fn hire<K: Sink + Drop>(
     requires count { length images.items ≡ length scripts.now }
     ensures queue { OnOk result (IsSamePass chief.old chief.new) }
     ensures chief { OnOk result (HasGathered (length scripts.now) list.now [] (view chief.new)) }
+    ensures sizes { OnOk result (KnowsSameSizes (view chief.old) (view chief.new)) }
     ensures count { IfOk result (λ workers. vec_len workers ≡ length scripts.now) }
     ensures new { IfOk result (λ workers. AreNew scripts.now workers.items) }
     ensures hired { IfOk result (λ workers. All (λ w. IsHired queue.now.table.shared.table_id list.now scripts.now w) workers.items) }
@@ -230,6 +231,7 @@ pub(crate) fn gather<K: Sink + Drop>(
     requires none { (vec_len room.images ≡ 0) × (vec_len room.drafts ≡ 0) × (vec_len room.others ≡ 0) }
     ensures queue { IsSamePass chief.old chief.new }
     ensures chief { HasGathered (length scripts.now) list.now (views_of workers.items) (view chief.new) }
+    ensures sizes { KnowsSameSizes (view chief.old) (view chief.new) }
     ensures working { AreWorking 0 list.now (views_of workers.items) }
     ensures all { HasAll (view chief.new) }
     ensures images { AreFromTheLast (length scripts.now) list.now result.images.items }

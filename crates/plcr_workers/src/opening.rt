@@ -6,7 +6,7 @@ ghost use Rattle.plcr_imagelist.specs.States.{IsAtRest};
 ghost use Rattle.plcr_script.specs.Lawful.{IsLawful};
 ghost use Rattle.plcr_turns.specs.Gathering.{HasHanded};
 ghost use Rattle.plcr_turns.specs.Turns.{is_new};
-ghost use Rattle.plcr_workers.specs.inner.Hired.{AreInOrder, AreUntouched, totals_in};
+ghost use Rattle.plcr_workers.specs.inner.Hired.{AreInOrder, AreSizesOf, AreUntouched, totals_in};
 ghost use Rattle.plcr_workers.specs.inner.Stages.{HasMetThese, IsStage};
 
 use crate::crew::{Left, hire, room_for, totals_of};
@@ -65,6 +65,7 @@ fn open_list(
     ensures images { IfOk result (λ r. AreInOrder r.0 r.2.items) }
     ensures untouched { IfOk result (λ r. AreUntouched r.2.items) }
     ensures count { IfOk result (λ r. vec_len r.2 ≡ length scripts.now) }
+    ensures sizes { IfOk result (λ r. AreSizesOf scripts.now r.1.nodes r.1.passes) }
 {
     let nodes = scripts[0].nodes();
     match ImageList::open(alloc, nodes, scripts.len() as u32) {
@@ -84,6 +85,7 @@ fn open_queue<R: Wait>(
     requires new { is_new writer }
     ensures queue { IfOk result (λ q. (ruled_capacity q.0 ≡ 1) × IsPassOf q.0 q.1) }
     ensures handed { IfOk result (λ q. HasHanded 0 writer.table (totals_in scripts.now) (view q.1)) }
+    ensures sizes { IfOk result (λ q. ((view q.1).nodes ≡ writer.nodes) × ((view q.1).passes ≡ writer.passes)) }
 {
     let totals = totals_of(alloc, scripts)?;
     let turn = Turn::open(alloc, writer, totals.as_slice())?;

@@ -15,7 +15,7 @@ ghost use Rattle.plcr_turns.specs.declared.lines.ChangeLine.{ChangeLine as Journ
 ghost use Rattle.plcr_turns.specs.Gathering.{HasGathered};
 ghost use Rattle.plcr_workers.specs.Command.{IsJournalOf, IsWriterOf, meanings_in};
 ghost use Rattle.plcr_workers.specs.Log.{scripts_text, threads_log};
-ghost use Rattle.plcr_workers.specs.inner.Hired.{AreNew, AreNumbered, IsGone, IsHired};
+ghost use Rattle.plcr_workers.specs.inner.Hired.{AreNew, AreSizesOf, AreNumbered, IsGone, IsHired};
 ghost use Rattle.plcr_workers.specs.inner.Outputs.{AreDone, HasOpenFor, IsDraftOf, NotAllMade, StandsAt, in_order, name_at, outputs_of};
 ghost use Rattle.plcr_workers.specs.inner.Own.{HaveOwnLines, KnowsOwnOf};
 ghost use Rattle.plcr_workers.specs.inner.Stages.{AppliesAll, AreLinesOf, HasReported, KeptBy, ToldReports, HasWorked, IsStage, LogEnds, RunEnds, RunWhole, Settles, WholeBy, items_of, job_of};
@@ -174,6 +174,7 @@ fn end_workers<R: Wait, K: Sink + Drop>(
     requires few { length scripts.now ≤ MOST_SCRIPTS }
     requires queue { IsPassOf queue.now chief.old }
     requires chief { HasGathered (length scripts.now) list.now [] (view chief.old) }
+    requires sizes { AreSizesOf scripts.now (view chief.old).nodes (view chief.old).passes }
     requires count { vec_len workers ≡ length scripts.now }
     requires numbers { AreNumbered workers.items }
     requires gone { All (λ w. IsGone queue.now.table.shared.table_id list.now scripts.now w) workers.items }

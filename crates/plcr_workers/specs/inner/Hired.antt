@@ -51,6 +51,14 @@ pub record IsNew {K : Type 0} (scripts : List ScriptValue) (place : ℕ) (w : Wo
   pub journal : (view w.turns).journal ≡ []
   pub untouched : (image : WalkerState) → w.image ≡ Some image → image.history ≡ []
 
+-- a list of these sizes is that of scripts: as many nodes as the first says, and a pass for each
+abbrev pub AreSizesOf : List ScriptValue → (nodes passes : ℕ) → Type 0
+AreSizesOf scripts nodes passes = ((script : ScriptValue) → slice_get scripts 0 ≡ Some script → nodes ≡ script.nodes) × (passes ≡ length scripts)
+
+-- a pass of the queue knows of a list of the same sizes as before
+abbrev pub KnowsSameSizes : View → View → Type 0
+KnowsSameSizes old new = (new.nodes ≡ old.nodes) × (new.passes ≡ old.passes)
+
 -- passes that have seen nothing yet
 abbrev pub AreUntouched : List WalkerState → Type 0
 AreUntouched images = All (λ (i : WalkerState). i.history ≡ []) images

@@ -37,7 +37,7 @@ use Rattle.plcr_workers.specs.declared.making.Unwritten.{Unwritten}
 use Rattle.plcr_workers.specs.declared.worker.Worker.{Worker}
 use Rattle.plcr_workers.specs.inner.Drafts.{HaveTaken}
 use Rattle.plcr_workers.specs.inner.Reports.{HaveReports, IsToldReport}
-use Rattle.plcr_workers.specs.inner.Hired.{IsHired, IsWholeOf, AreNew}
+use Rattle.plcr_workers.specs.inner.Hired.{AreSizesOf, IsHired, IsWholeOf, AreNew}
 use Rattle.plcr_workers.specs.inner.Outputs.{AreFiles, AreDone, HaveEmpty, HasDropped, HasKeptAll, HasKeptUpTo, HasMade, IsDraftOf, draft_names, outputs_of}
 use Rattle.plcr_workers.specs.Command.{AllApplied, AllKept, StoppedBy, IsJournalOf, IsWriterOf, LeftByScripts, RanTogether, meanings_in, RanReports, RanWhole}
 
@@ -57,6 +57,7 @@ pub record IsStage {K : Type 0} (scripts : List ScriptValue) (stage : Stage K) :
   pub capacity : ruled_capacity stage.queue ≡ 1
   pub chief_is : IsPassOf stage.queue stage.chief
   pub handed : HasGathered (length scripts) stage.list [] (view stage.chief)
+  pub sizes : AreSizesOf scripts (view stage.chief).nodes (view stage.chief).passes
   pub count : vec_len stage.workers ≡ length scripts
   pub new : AreNew scripts stage.workers.items
   pub hired : All (λ w. IsHired stage.queue.table.shared.table_id stage.list scripts w) stage.workers.items

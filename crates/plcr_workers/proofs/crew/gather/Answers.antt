@@ -9,6 +9,7 @@ use Rattle.plcr_turns.proofs.Gathered.{gathers_next}
 use Rattle.plcr_workers.specs.declared.worker.Worker.{Worker}
 use Rattle.plcr_workers.specs.inner.Hired.{IsGone, lines_left, views_of}
 use Rattle.plcr_workers.proofs.Crews.{AreIn, nobody_in, one_in, last_in, none_left, again}
+use Rattle.plcr_turns.specs.declared.view.View.{View}
 use Rattle.plcr_workers.proofs.crew.gather.Goals as goal
 
 pub take_in-requires-clause-queue : goal.take_in-requires-clause-queue
@@ -47,6 +48,10 @@ loop-worker-preserved g c =
     let before = c.loop-worker.invariant.same in
     record {
       same = (same.0 ∙ before.0, same.1 ∙ before.1, same.2 ∙ before.2);
+      sizes = (
+        ap (λ (v : View). v.nodes) c.take_in.ensures.both ∙ c.loop-worker.invariant.sizes.0,
+        ap (λ (v : View). v.passes) c.take_in.ensures.both ∙ c.loop-worker.invariant.sizes.1,
+      );
       gone = all_front (λ w. IsGone queue list scripts w) c.pop.new.self.items (worker ∷ []) all;
       are_in = record { taken = worker ∷ c.loop-worker.invariant.are_in.taken; are_in = rw added (rw c.push_reserved.ensures.items (rw c.push_reserved-in-Some.ensures.items next)) };
       images_room = (let a = c.add_image.ensures.len in let b = c.add_image.ensures.capacity in let r = c.loop-worker.invariant.images_room in omega (arith, a, b, r, length_of));
@@ -62,6 +67,7 @@ loop-worker-init g c =
     let many : length c.args.workers.items ≡ length c.args.scripts.now = (let o = c.args.workers.ok.0 in let n = c.requires.count in omega (arith, o, n)) in
     record {
       same = (refl, refl, refl);
+      sizes = (refl, refl);
       gone = c.requires.gone;
       are_in = record { taken = []; are_in = rw images (rw drafts (rw others (nobody_in (length c.args.scripts.now) c.args.list.now c.args.workers.items (view c.args.chief.now) many c.requires.numbers c.requires.chief))) };
       images_room = c.requires.images_room;

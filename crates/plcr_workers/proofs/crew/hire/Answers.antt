@@ -38,6 +38,7 @@ pub loop-script-init : goal.loop-script-init
 loop-script-init g c = record {
   same = (refl, refl, refl);
   handed = c.requires.handed;
+  sizes = (refl, refl);
   images_are = subst (λ n. AreFromTheLast n c.args.list.now c.from_the_last-images.result.items) c.requires.count c.from_the_last-images.ensures.order;
   many = (let n = c.from_the_last-images.ensures.count in let m = c.requires.count in omega (arith, n, m));
   untouched = subst AreUntouched (sym c.from_the_last-images.ensures.items) (all_reversed (λ (i : WalkerState). i.history ≡ []) c.args.images.items c.requires.untouched);
@@ -71,6 +72,10 @@ loop-script-preserved g c =
       same = (same.0 ∙ was.0, same.1 ∙ was.1, same.2 ∙ was.2);
       handed = subst (λ (v : View). HasHanded (n + 1) c.args.list.now (totals_in c.args.scripts.now) v) (sym c.hand_out-turns.ensures.left)
           (subst (λ m. HasHanded m c.args.list.now (totals_in c.args.scripts.now) (left_view (view c.loop-script.chief))) (sym (add-one n)) next.1);
+      sizes = (
+        ap (λ (v : View). v.nodes) c.hand_out-turns.ensures.left ∙ c.loop-script.invariant.sizes.0,
+        ap (λ (v : View). v.passes) c.hand_out-turns.ensures.left ∙ c.loop-script.invariant.sizes.1,
+      );
       images_are = each_front (λ k (i : WalkerState). (i.table ≡ c.args.list.now) × (i.number + k + 1 ≡ length c.args.scripts.now)) c.pop.new.self.items (c.in-Some.image ∷ []) images;
       many = omega (arith, long, left);
       untouched = all_front (λ (i : WalkerState). i.history ≡ []) c.pop.new.self.items (c.in-Some.image ∷ []) untouched;

@@ -3,14 +3,14 @@ use Rattle.crossbeam_queue.specs.Passes.{view}
 use Rattle.plcr_imagelist.specs.States.{WriterState, IsAtRest}
 use Rattle.plcr_turns.specs.declared.lines.ChangeLine.{ChangeLine}
 use Rattle.plcr_workers.specs.Command.{IsJournalOf}
-use Rattle.plcr_workers.specs.inner.Hired.{views_of}
+use Rattle.plcr_workers.specs.inner.Hired.{views_of, AreSizesOf}
 use Rattle.std.specs.Prelude.{Vec}
 use Rattle.std.specs.declared.alloc.Global.{Global}
 use Rattle.plcr_workers.specs.declared.lines.PassLine.{PassLine}
 use Rattle.plcr_workers.specs.inner.Outputs.{outputs_of}
 use Rattle.plcr_workers.specs.inner.Stages.{AppliesAll, AreLinesOf, HasMetThese, HaveRun, items_of}
 use Rattle.plcr_workers.proofs.Whole.{scripts_ran}
-use Rattle.plcr_workers.proofs.Worked.{few_lines, journal_applies, journal_is, lines_are, same_table, writer_is}
+use Rattle.plcr_workers.proofs.Worked.{few_lines, journal_applies, journal_is, lines_are, same_table, sizes_taken, writer_is}
 use Rattle.plcr_workers.proofs.Told.{told_by}
 use Rattle.plcr_workers.proofs.stage.end_workers.Goals as goal
 
@@ -30,7 +30,9 @@ meet_all-writer-requires-clause-images g c = λ place other less. (c.gather-left
 
 pub returns-clause-writer : goal.returns-clause-writer
 returns-clause-writer g c =
-    writer_is c.args.list.now c.args.scripts.now c.gather-left.result.images.items c.end-writer.result.0 c.meet_all-writer.result (sym c.gather-left.result.images.ok.0 ∙ c.gather-left.ensures.met) c.gather-left.ensures.images c.meet_all-writer.ensures.met c.meet_all-writer.ensures.rest
+    writer_is c.args.list.now c.args.scripts.now c.gather-left.result.images.items c.end-writer.result.0 c.meet_all-writer.result (sym c.gather-left.result.images.ok.0 ∙ c.gather-left.ensures.met) c.gather-left.ensures.images c.meet_all-writer.ensures.met
+    (subst (λ (x : WriterState). AreSizesOf c.args.scripts.now x.nodes x.passes) (sym c.end-writer.ensures.writer)
+    (sizes_taken c.args.scripts.now (view c.args.chief.now) (view c.gather-left.new.chief) c.take_last.result c.requires.sizes c.gather-left.ensures.sizes c.take_last.ensures.taken.sizes)) c.meet_all-writer.ensures.rest
 
 pub returns-clause-tells : goal.returns-clause-tells
 returns-clause-tells g c = λ process own.
