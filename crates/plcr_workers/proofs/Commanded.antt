@@ -32,7 +32,7 @@ all_since job old mid new lines lines' faults faults' nothing k = record {
   kept = kept_since _ _ old mid new lines lines' faults faults' nothing k.kept;
 }
 
-some_since : (job : Job) (old mid new : Told) (lines lines' : Option (List ℕ)) (faults faults' : ℕ) → MadeNothing old mid → NotAllKept job (seen mid lines faults) (seen new lines' faults') → NotAllKept job (seen old lines faults) (seen new lines' faults')
+pub some_since : (job : Job) (old mid new : Told) (lines lines' : Option (List ℕ)) (faults faults' : ℕ) → MadeNothing old mid → NotAllKept job (seen mid lines faults) (seen new lines' faults') → NotAllKept job (seen old lines faults) (seen new lines' faults')
 some_since job old mid new lines lines' faults faults' nothing k = record {
   name = k.name;
   files = k.files;

@@ -188,15 +188,16 @@ module _ {K : Type 0} (written : K → Option (List ℕ)) (faults : K → ℕ) (
   kept_ends (Err unmade) done others ending w k ends = absurd k
 
   -- one was not
+  pub cut_unkept : (made : Result (Unit {0}) Unwritten) (unwritten : Unwritten) → Worked faults job.scripts workers old mid made → Settles written job.scripts drafts made mid new (Err unwritten)
+      → Prints lines lines' (cannot_write (name_at job.scripts unwritten.script unwritten.at)) counts counts' → NotAllKept job (seen old lines counts) (seen new lines' counts')
+  cut_unkept (Ok ok) unwritten w k prints = not_kept written faults job workers drafts same old mid new lines lines' counts counts' unwritten.script unwritten.at w k prints
+  cut_unkept (Err unmade) unwritten w k prints =
+      not_made written faults job workers drafts same old mid new lines lines' counts counts' unwritten.script unwritten.at
+      (subst (λ (u : Unwritten). NotAllMade job.scripts workers u.script u.at old mid) (sym k.0) w) k.1 prints
+
   pub cut_ends : (made : Result (Unit {0}) Unwritten) (unwritten : Unwritten) → Worked faults job.scripts workers old mid made → Settles written job.scripts drafts made mid new (Err unwritten)
       → Prints lines lines' (cannot_write (name_at job.scripts unwritten.script unwritten.at)) counts counts' → RunEnds job (seen old lines counts) (seen new lines' counts') past Stopped
-  cut_ends (Ok ok) unwritten w k prints = (journal, inl (not_kept written faults job workers drafts same old mid new lines lines' counts counts' unwritten.script unwritten.at w k prints), left)
-  cut_ends (Err unmade) unwritten w k prints = (
-    journal,
-    inl (not_made written faults job workers drafts same old mid new lines lines' counts counts' unwritten.script unwritten.at
-        (subst (λ (u : Unwritten). NotAllMade job.scripts workers u.script u.at old mid) (sym k.0) w) k.1 prints),
-    left,
-  )
+  cut_ends made unwritten w k prints = (journal, inl (cut_unkept made unwritten w k prints), left)
 
 -- the report whose file is named stands in its script
 pub cut_stands : {K : Type 0} (written : K → Option (List ℕ)) (faults : K → ℕ) (scripts : List ScriptValue) (workers : List (Worker K)) (drafts : List (Draft K)) (same : drafts ≡ outputs_of workers) (old mid new : Told) (made : Result (Unit {0}) Unwritten) (unwritten : Unwritten)
@@ -247,6 +248,12 @@ module _ {K : Type 0} (written : K → Option (List ℕ)) (faults : K → ℕ) (
       → Prints lines lines' (cannot_write (name_at job.scripts unwritten.script unwritten.at)) counts counts' → RunEnds job (seen old lines counts) (seen new lines' counts') (Some w) Stopped
   run_cut result unwritten is settles prints =
       cut_ends written faults job workers drafts outputs_same old mid new lines lines' counts counts' (Some w) journal (left_of job w journal met told.0) applies made unwritten worked
+      (subst (λ (r : Result (Unit {0}) Unwritten). Settles written job.scripts drafts made mid new r) is settles) prints
+
+  pub run_unkept : (result : Result (Unit {0}) Unwritten) (unwritten : Unwritten) → result ≡ Err unwritten → Settles written job.scripts drafts made mid new result
+      → Prints lines lines' (cannot_write (name_at job.scripts unwritten.script unwritten.at)) counts counts' → NotAllKept job (seen old lines counts) (seen new lines' counts')
+  run_unkept result unwritten is settles prints =
+      cut_unkept written faults job workers drafts outputs_same old mid new lines lines' counts counts' (Some w) journal (left_of job w journal met told.0) applies made unwritten worked
       (subst (λ (r : Result (Unit {0}) Unwritten). Settles written job.scripts drafts made mid new r) is settles) prints
 
   pub run_stands : (result : Result (Unit {0}) Unwritten) (unwritten : Unwritten) → result ≡ Err unwritten → Settles written job.scripts drafts made mid new result → StandsAt job.scripts unwritten.script unwritten.at

@@ -2,7 +2,7 @@
 use Rattle.std.specs.Prelude.{◌≡◌, ◌≢◌, ◌⊎◌, ℕ, ◌<◌, true, List, length, take, All, slice_get, [], ◌∷◌, ◌++◌, Option, Some, None}
 use Rattle.std.specs.Io.KnownBytes.{append_known}
 use Rattle.plcr_base.specs.Causes.{Rose}
-use Rattle.plcr_base.specs.Told.{Gains, Prints}
+use Rattle.plcr_base.specs.Told.{AppendsProperFront, Gains, Prints}
 use Rattle.plcr_machine.specs.Histories.{IsHistory}
 use Rattle.plcr_machine.specs.Passes.{IsPaced}
 use Rattle.plcr_machine.specs.Changes.{TakesFirst, changes_of}
@@ -144,8 +144,17 @@ pub record RanReports (past : Option WriterState) (job : Job) (old new : Seen) :
 abbrev pub ThreadsKept : List ℕ → List (List ℕ) → Seen → Seen → Option WriterState → ℕ → Type 0
 ThreadsKept core scripts old new past status = (status ≡ 0) ⊎ (status ≡ 5) → HasRead (IsJob SIDE_BY_SIDE) (job_files core scripts) (RanReports past) old new
 
--- what the scripts of a job came to that ran whole, where this is what was told: one history, which the writer has seen; a journal that has each load and unload line of each script once, and whose accepted lines are the changes of the history; and for each script its other lines and its files, which are those of a run of its statements: its stays with their windows, the images that they met, and what their reports say. All files were kept, and the log of all this is what was printed
-pub record RanWhole (past : Option WriterState) (job : Job) (old new : Seen) : Type 0 where
+-- a log was printed
+abbrev pub IsPrinted : List ℕ → Seen → Seen → Type 0
+IsPrinted log old new = new.lines ≡ append_known old.lines log
+
+-- a log was cut: the sink of the lines took a front of it, and its count of faults rose
+pub record IsCut (log : List ℕ) (old new : Seen) : Type 0 where
+  pub lines : AppendsProperFront old.lines new.lines log
+  pub cause : Rose old.line_faults new.line_faults
+
+-- what the scripts of a job came to that ran whole, where this is what was told: one history, which the writer has seen; a journal that has each load and unload line of each script once, and whose accepted lines are the changes of the history; and for each script its other lines and its files, which are those of a run of its statements: its stays with their windows, the images that they met, and what their reports say. All files were kept, and the log of all this came out so
+pub record RanWhole (past : Option WriterState) (CameOut : List ℕ → Seen → Seen → Type 0) (job : Job) (old new : Seen) : Type 0 where
   pub writer : WriterState
   pub is : past ≡ Some writer
   pub journal : List ChangeLine
@@ -156,8 +165,13 @@ pub record RanWhole (past : Option WriterState) (job : Job) (old new : Seen) : T
   pub runs : ScriptsRun (meanings_in job.core job.scripts) writer journal 0 job.scripts others files
   pub names : kept_names files ≡ written_by job.scripts
   pub kept : Gains old.desk.kept new.desk.kept files
-  pub lines : new.lines ≡ append_known old.lines (threads_log job.scripts journal others)
+  pub log : CameOut (threads_log job.scripts journal others) old new
 
--- where `threads CORE SCRIPT...` did all, its scripts ran so
-abbrev pub ThreadsRan : List ℕ → List (List ℕ) → Seen → Seen → Option WriterState → ℕ → Type 0
-ThreadsRan core scripts old new past status = status ≡ 0 → HasRead (IsJob SIDE_BY_SIDE) (job_files core scripts) (RanWhole past) old new
+-- where a run stopped, a file was not kept, and no log was printed; or the scripts ran whole, and what was printed is a front of their log
+abbrev pub RanAndStopped : Option WriterState → Job → Seen → Seen → Type 0
+RanAndStopped past job old new = NotAllKept job old new ⊎ RanWhole past IsCut job old new
+
+-- where `threads CORE SCRIPT...` did all, its scripts ran so; and where it stopped, so
+pub record ThreadsRan (core : List ℕ) (scripts : List (List ℕ)) (old new : Seen) (past : Option WriterState) (status : ℕ) : Type 0 where
+  pub done : status ≡ 0 → HasRead (IsJob SIDE_BY_SIDE) (job_files core scripts) (RanWhole past IsPrinted) old new
+  pub stopped : status ≡ 5 → HasRead (IsJob SIDE_BY_SIDE) (job_files core scripts) (RanAndStopped past) old new

@@ -39,7 +39,7 @@ use Rattle.plcr_workers.specs.inner.Drafts.{HaveTaken}
 use Rattle.plcr_workers.specs.inner.Reports.{HaveReports, IsToldReport}
 use Rattle.plcr_workers.specs.inner.Hired.{AreSizesOf, IsHired, IsWholeOf, AreNew}
 use Rattle.plcr_workers.specs.inner.Outputs.{AreFiles, AreDone, HaveEmpty, HasDropped, HasKeptAll, HasKeptUpTo, HasMade, IsDraftOf, draft_names, outputs_of}
-use Rattle.plcr_workers.specs.Command.{AllApplied, AllKept, StoppedBy, IsJournalOf, IsWriterOf, LeftByScripts, RanTogether, meanings_in, RanReports, RanWhole}
+use Rattle.plcr_workers.specs.Command.{AllApplied, AllKept, StoppedBy, IsJournalOf, IsWriterOf, LeftByScripts, IsPrinted, RanTogether, meanings_in, RanAndStopped, RanReports, RanWhole}
 
 -- the writer has met these passes, and made nothing meanwhile
 pub record HasMetThese (passes : List WalkerState) (old new : WriterState) : Type 0 where
@@ -169,15 +169,15 @@ KeptIn core scripts old new past Stopped = HasRead (IsJob SIDE_BY_SIDE) (job_fil
 KeptIn core scripts old new past (Refused refusal) = Unit {0}
 KeptIn core scripts old new past Misused = Unit {0}
 
--- what a run whose scripts workers can run comes to, where all was done
+-- what a run whose scripts workers can run comes to
 abbrev pub WholeBy : Job → Seen → Seen → Option WriterState → Ending → Type 0
-WholeBy job old new past Done = All IsRunnable job.scripts → RanWhole past job old new
-WholeBy job old new past Stopped = Unit {0}
+WholeBy job old new past Done = All IsRunnable job.scripts → RanWhole past IsPrinted job old new
+WholeBy job old new past Stopped = All IsRunnable job.scripts → RanAndStopped past job old new
 WholeBy job old new past (Refused refusal) = Unit {0}
 WholeBy job old new past Misused = Unit {0}
 
 abbrev pub WholeIn : List ℕ → List (List ℕ) → Seen → Seen → Option WriterState → Ending → Type 0
-WholeIn core scripts old new past Done = HasRead (IsJob SIDE_BY_SIDE) (job_files core scripts) (RanWhole past) old new
-WholeIn core scripts old new past Stopped = Unit {0}
+WholeIn core scripts old new past Done = HasRead (IsJob SIDE_BY_SIDE) (job_files core scripts) (RanWhole past IsPrinted) old new
+WholeIn core scripts old new past Stopped = HasRead (IsJob SIDE_BY_SIDE) (job_files core scripts) (RanAndStopped past) old new
 WholeIn core scripts old new past (Refused refusal) = Unit {0}
 WholeIn core scripts old new past Misused = Unit {0}

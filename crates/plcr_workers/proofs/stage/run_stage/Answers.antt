@@ -1,4 +1,4 @@
-use Rattle.std.proofs.Common.{◌<◌, ℕ, All, List, length, sym, ap, subst, ◌∙◌, arith}
+use Rattle.std.proofs.Common.{inl, ◌<◌, ℕ, All, List, length, sym, ap, subst, ◌∙◌, arith}
 use Rattle.plcr_turns.specs.declared.lines.ChangeLine.{ChangeLine}
 use Rattle.plcr_workers.specs.declared.drafts.Draft.{Draft}
 use Rattle.plcr_workers.specs.declared.worker.Worker.{Worker}
@@ -7,7 +7,7 @@ use Rattle.plcr_workers.specs.inner.Hired.{AreNew, AreNumbered, IsGone, IsHired}
 use Rattle.plcr_workers.specs.inner.Outputs.{AreDone, HasOpenFor, IsDraftOf, in_order, outputs_of}
 use Rattle.plcr_workers.specs.inner.Stages.{AreLinesOf, LogEnds, items_of, job_of}
 use Rattle.plcr_workers.proofs.Opened.{opens_none}
-use Rattle.plcr_workers.proofs.Staged.{lent_whole, run_cut, run_goes, run_kept, run_stands, worked_by, worked_ok, worked_open}
+use Rattle.plcr_workers.proofs.Staged.{lent_whole, run_cut, run_goes, run_kept, run_stands, run_unkept, worked_by, worked_ok, worked_open}
 use Rattle.plcr_workers.proofs.Wholly.{whole_kept}
 use Rattle.plcr_workers.proofs.Made.{ok_of}
 use Rattle.plcr_workers.proofs.Told.{kept_any, run_reports}
@@ -121,6 +121,15 @@ returns-in-Ok-clause-ran g c =
     c.work-made.ensures.acted c.in-Ok.is c.settle.ensures.settles
     (subst (λ (text : List ℕ). LogEnds (g.L.Sink.written c.args.lines.now) (g.L.Sink.written c.print_log.new.lines) text (g.L.Sink.faults c.args.lines.now) (g.L.Sink.faults c.print_log.new.lines) c.print_log.result)
     (λ i. threads_log c.args.scripts.now (c.as_slice-applied.ensures.value i) (items_of (c.as_slice-rest.ensures.value i))) c.print_log.ensures.ends)
+
+pub returns-clause-ran : goal.returns-clause-ran
+returns-clause-ran g c = λ may.
+    inl (run_unkept g.D.Out.Sink.written g.D.Out.Sink.faults (job_of c.args.core.now c.args.scripts.now) c.work-made.new.workers _ (lent_whole c.args.stage.workers.len c.work-made.new.workers c.args.stage.workers.items (c.work-made.ensures.count ∙ sym c.requires.stage.count ∙ c.args.stage.workers.ok.0) (sym c.args.stage.workers.ok.0))
+    (in_order c.end_workers-ran.result.drafts.items) c.end_workers-ran.ensures.drafts (g.D.Desk.told c.args.desk.now) (g.D.Desk.told c.work-made.new.desk) (g.D.Desk.told c.settle.new.desk) (g.L.Sink.written c.args.lines.now) (g.L.Sink.written c.print_failed.new.lines) (g.L.Sink.faults c.args.lines.now) (g.L.Sink.faults c.print_failed.new.lines)
+    c.work-made.result c.end_workers-ran.result.writer c.end_workers-ran.result.journal.items
+    (worked_by g.D.Out.Sink.faults c.args.scripts.now c.work-made.new.workers (g.D.Desk.told c.args.desk.now) (g.D.Desk.told c.work-made.new.desk) c.work-made.result c.work-made.ensures.ok c.work-made.ensures.err)
+    c.work-made.ensures.own c.end_workers-ran.ensures.writer c.end_workers-ran.ensures.tells
+    c.settle.result c.in-Err.unwritten c.in-Err.is c.settle.ensures.settles c.print_failed.ensures.printed)
 
 pub returns-in-Ok-clause-kept : goal.returns-in-Ok-clause-kept
 returns-in-Ok-clause-kept g c =
