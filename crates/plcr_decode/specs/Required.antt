@@ -56,9 +56,13 @@ abbrev pub whole_within : ℕ → Kind → List Field → Result (Unit {0}) Deco
 whole_within zero kind fs = has_all kind fs
 whole_within (suc k) kind fs = has_all kind fs >>= λ u. inner_whole (whole_within k) (rows kind) fs
 
--- the first field that a message lacks, or one in it; below a root stand threads, their frames, and the frames' symbols
+-- the deepest level of messages in a root: below it stand threads, their frames, and the frames' symbols
+abbrev pub deepest_level : ℕ
+deepest_level = 3
+
+-- the first field that a message lacks, or one in it
 unfoldable pub whole : Kind → List Field → Result (Unit {0}) DecodeFault
-whole kind fs = whole_within 3 kind fs
+whole kind fs = whole_within deepest_level kind fs
 
 -- what a message lacks is a field of its own, or what the messages in it lack: no level of them is cut off
 abbrev pub WholeByParts : Type 0
