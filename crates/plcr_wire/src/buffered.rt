@@ -140,7 +140,7 @@ impl<'a, K: Sink, const ROOM: usize> Pieces<'a, K, ROOM> {
 }
 
 impl<'a, K: Sink, const ROOM: usize> Put for Pieces<'a, K, ROOM> {
-    ghost use Rattle.plcr_wire.specs.Shown.{sink_shown};
+    ghost use Rattle.plcr_wire.specs.inner.Shown.{sink_shown};
 
     ghost pen = { λ b. sink_pen b.sink.ghost_name (K.written b.sink.now) (K.faults b.sink.now) (K.mark b.sink.now) b.held.items b.failed };
 
