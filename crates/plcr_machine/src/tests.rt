@@ -300,6 +300,7 @@ fn only_some_walks_are_lawful(rt: HostRuntime) -> Result<(), Fail> {
     let both = [named(alloc, 1, 16, b'A')?, named(alloc, 2, 32, b'B')?];
     let other_name = [named(alloc, 1, 16, b'A')?, named(alloc, 2, 32, b'C')?];
     let turned = [named(alloc, 2, 32, b'B')?, named(alloc, 1, 16, b'A')?];
+    assert_eq!(rt; lists.len(), 6);
     if lists.len() == 6 {
         assert!(rt; is_lawful_walk(&lists, 2, 5, &both));
         assert!(rt; is_lawful_walk(&lists, 2, 2, &both));
