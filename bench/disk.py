@@ -1,4 +1,4 @@
-"""Writes that fail: a full disk, a closed pipe, a limit on the size of files, a folder that can't be written.
+"""Writes that fail: a full device, a closed pipe, a limit on the size of files, a folder that can't be written.
 
     python3 bench/disk.py [PROGRAM]
 
@@ -22,7 +22,6 @@ from measuring import HERE, program
 
 PROGRAM = program()
 LAUNCHER = os.path.abspath(os.path.join(HERE, "..", "plcr"))
-PAGE = 4096
 NOBODY = 65534
 SCRIPT = b"report 0 a\nreport 0 b\n"
 REPORT = ["report", "core", "script"]
@@ -169,69 +168,6 @@ def names_taken(things, report, _):
     print("outputs that can't be made, written or kept: status 5")
 
 
-@contextlib.contextmanager
-def small_disk(count):
-    """A folder on a disk of its own with so many pages and 16 names, reached through the process that has it mounted; None
-    where there is no such disk."""
-    script = 'mount -t tmpfs -o "size=$0,nr_inodes=16" none "$1" && echo mounted && read _'
-    own = ["--map-root-user"] if os.geteuid() else []
-    with tempfile.TemporaryDirectory() as folder:
-        words = ["sh", "-c", 'exec unshare "$@"', "sh", "--mount", *own, "sh", "-c", script, str(count * PAGE), folder]
-        with subprocess.Popen(words, stdin=subprocess.PIPE, stdout=subprocess.PIPE, stderr=subprocess.DEVNULL) as holder:
-            is_mounted = holder.stdout.readline() == b"mounted\n"
-            yield "/proc/%d/root%s" % (holder.pid, folder) if is_mounted else None
-            holder.stdin.close()
-
-
-def pages(data):
-    return (len(data) + PAGE - 1) // PAGE
-
-
-def full_disk(things, report, text):
-    """A disk with room for a part of the first report, for that and a part of the second, and for both."""
-    both = line(1, b"a", report) + line(2, b"b", report)
-    # by how many reports have room
-    cut = [(5, b"cannot write a\n", {}), (5, line(1, b"a", report) + b"cannot write b\n", {"a": report}), (0, both, {"a": report, "b": report})]
-    inputs, one = sum(map(pages, things.values())), pages(report)
-    for way in WAYS:
-        for free in range(2 * one + 1):
-            with small_disk(inputs + free) as folder:
-                if folder is None:
-                    print("skipped: a full disk, since none can be mounted")
-                    return
-                put(folder, things)
-                status, said, made = cut[free // one]
-                same("%d pages free, %s" % (free, way.name), run(way, REPORT, folder), Ended(status, said, {**things, **made}))
-    print("a disk of rising size: status 5 at %d sizes, then 0" % (2 * one))
-    full_text(report, text)
-    no_name_left(things)
-
-
-def full_text(report, text):
-    free = pages(text) - 1
-    for way in WAYS:
-        with small_disk(pages(report) + free) as folder:
-            put(folder, {"r": report})
-            with open(os.path.join(folder, "text"), "wb") as output:
-                got = run(way, SHOW, folder, output=output)
-            same("a text on a full disk, %s" % way.name, got, Ended(5, None, {"r": report, "text": text[:free * PAGE]}))
-    print("a text on a full disk: status 5, with its front")
-
-
-def no_name_left(things):
-    for way in WAYS:
-        with small_disk(1000) as folder:
-            put(folder, things)
-            names = []
-            with contextlib.suppress(OSError):
-                for number in range(100):
-                    put(folder, {"n%d" % number: b""})
-                    names.append("n%d" % number)
-            want = Ended(5, b"cannot write a\n", {**things, **dict.fromkeys(names, b"")})
-            same("no room for a name, %s" % way.name, run(way, REPORT, folder), want)
-    print("a disk with no room for a name: status 5")
-
-
 def may_run(way, folder, user):
     with contextlib.suppress(OSError):
         return run(way, [], folder, user=user).status == 1
@@ -260,7 +196,7 @@ def main():
     for threads in [1, 300]:
         given = whole(threads)
         print("reports of %d bytes:" % len(given[1]))
-        for part in [standard_output, size_limits, names_taken, full_disk, closed_folder]:
+        for part in [standard_output, size_limits, names_taken, closed_folder]:
             part(*given)
 
 

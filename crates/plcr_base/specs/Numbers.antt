@@ -1,4 +1,5 @@
--- Unsigned numbers in a list of bytes, the lowest byte first, as Mach-O files of x86-64 and arm64 hold them (loader.h).
+-- Unsigned numbers in a list of bytes, the lowest byte first, as Mach-O files of x86-64 and arm64
+-- hold them (loader.h).
 use Rattle.std.specs.Prelude.{ℕ, List, drop}
 use Rattle.byteorder.specs.Endian.{little_number}
 

@@ -39,6 +39,8 @@ pub record AppendsProperFront (old new : Option (List ℕ)) (bytes : List ℕ) :
   pub left : 0 < length rest
   pub appended : new ≡ append_known old front
 
--- these bytes were appended; or a front of them and not all, where the count of failures rose from `before` to `after`
+-- these bytes were appended; or a front of them and not all, where the count of failures rose from
+-- `before` to `after`
 abbrev pub Prints : Option (List ℕ) → Option (List ℕ) → List ℕ → ℕ → ℕ → Type 0
-Prints old new bytes before after = (new ≡ append_known old bytes) ⊎ (AppendsProperFront old new bytes × Rose before after)
+Prints old new bytes before after = (new ≡ append_known old bytes)
+    ⊎ (AppendsProperFront old new bytes × Rose before after)

@@ -45,12 +45,17 @@ pub record RefusedScript : Type 0 where
 -- the script, or its refusal with its number
 abbrev pub numbered : ℕ → Result ScriptValue Line → Result ScriptValue RefusedScript
 numbered number (Ok script) = Ok script
-numbered number (Err refusal) = Err (record { script = number; line = refusal.line; kind = refusal.kind })
+numbered number (Err refusal) =
+    Err (record { script = number; line = refusal.line; kind = refusal.kind })
 
--- what the bytes of scripts mean, behind these: all the scripts, or the first that is refused. The first of them is read in the one mode, the others in the other
-unfoldable pub scripts_from : Mode → Mode → List ScriptValue → List (List ℕ) → Result (List ScriptValue) RefusedScript
+-- what the bytes of scripts mean, behind these: all the scripts, or the first that is refused. The
+-- first of them is read in the one mode, the others in the other
+unfoldable pub scripts_from : Mode → Mode → List ScriptValue → List (List ℕ) →
+    Result (List ScriptValue) RefusedScript
 scripts_from mode later before [] = Ok before
-scripts_from mode later before (bytes ∷ others) = numbered (length before + 1) (script_in mode before bytes) >>= λ script. scripts_from later later (before ++ script ∷ []) others
+scripts_from mode later before (bytes ∷ others) =
+    numbered (length before + 1) (script_in mode before bytes) >>= λ script.
+    scripts_from later later (before ++ script ∷ []) others
 
 abbrev pub scripts_in : Modes → List (List ℕ) → Result (List ScriptValue) RefusedScript
 scripts_in modes contents = scripts_from modes.first modes.later [] contents
@@ -58,19 +63,23 @@ scripts_in modes contents = scripts_from modes.first modes.later [] contents
 -- the first file holds a core, and the others hold scripts
 abbrev pub IsJob : Modes → List (List ℕ) → Job → Type 0
 IsJob modes [] job = ⊥
-IsJob modes (core_bytes ∷ contents) job = IsCore core_bytes job.core × (scripts_in modes contents ≡ Ok job.scripts)
+IsJob modes (core_bytes ∷ contents) job = IsCore core_bytes job.core
+    × (scripts_in modes contents ≡ Ok job.scripts)
 
 -- what the bytes of scripts are refused for
 abbrev pub ScriptsMisread : Modes → List (List ℕ) → Refusal → Type 0
-ScriptsMisread modes contents (ScriptRefused script line kind) = scripts_in modes contents ≡ Err (record { script = script; line = line; kind = kind })
+ScriptsMisread modes contents (ScriptRefused script line kind) =
+    scripts_in modes contents ≡ Err (record { script = script; line = line; kind = kind })
 ScriptsMisread modes contents OutOfMemory = Unit {0}
 ScriptsMisread modes contents refusal = ⊥
 
--- what a core and scripts are refused for; the faults of the scripts count where the first file is a core
+-- what a core and scripts are refused for; the faults of the scripts count where the first file is
+-- a core
 abbrev pub JobMisread : Modes → List (List ℕ) → Refusal → Type 0
 JobMisread modes (core_bytes ∷ contents) (CoreRefused fault) = IsNoCore core_bytes fault
 JobMisread modes (core_bytes ∷ contents) (ScriptRefused script line kind) =
-    (core : Core) × IsCore core_bytes core × ScriptsMisread modes contents (ScriptRefused script line kind)
+    (core : Core) × IsCore core_bytes core
+    × ScriptsMisread modes contents (ScriptRefused script line kind)
 JobMisread modes (core_bytes ∷ contents) OutOfMemory = Unit {0}
 JobMisread modes contents refusal = ⊥
 
@@ -82,9 +91,11 @@ HasNoCore (core_bytes ∷ contents) = (fault : CoreFault) × IsNoCore core_bytes
 -- the first file is a core, and one of the others is no script
 abbrev pub HasNoScript : Modes → List (List ℕ) → Type 0
 HasNoScript modes [] = ⊥
-HasNoScript modes (core_bytes ∷ contents) = (core : Core) × IsCore core_bytes core × ((refused : RefusedScript) × (scripts_in modes contents ≡ Err refused))
+HasNoScript modes (core_bytes ∷ contents) = (core : Core) × IsCore core_bytes core
+    × ((refused : RefusedScript) × (scripts_in modes contents ≡ Err refused))
 
--- the threads of the core can be written, its memory is over bytes, and its scripts are within their limits
+-- the threads of the core can be written, its memory is over bytes, and its scripts are within
+-- their limits
 pub record IsLawfulJob (job : Job) : Type 0 where
   pub threads : AreThreads job.core.arch job.core.threads
   pub bytes : IsBytes job.core.memory.file

@@ -29,9 +29,11 @@ faulty (Err fault) = Some (fault_number fault)
 abbrev pub fault_at : Core → ℕ → Option ℕ
 fault_at core header = faulty (image_at core.memory core.arch header)
 
--- the bytes of a report with these images: that of the core's threads and memory, with the script's values
+-- the bytes of a report with these images: that of the core's threads and memory, with the script's
+-- values
 unfoldable pub report_bytes : Core → ScriptValue → List Listed → List ℕ
-report_bytes core script images = spelling_of (process_report (context_of script core.arch) core.threads core.memory images)
+report_bytes core script images =
+    spelling_of (process_report (context_of script core.arch) core.threads core.memory images)
 
 -- what the core means to the run of a script, where the values are those of this one
 abbrev pub meanings_of : Core → ScriptValue → Meanings

@@ -8,7 +8,8 @@ use Rattle.plcr_io.specs.Desk.{Told}
 abbrev pub DropsFront : List ℕ → Told → Told → Type 0
 DropsFront bytes old new =
     Gains old.dropped new.dropped []
-    ⊎ ((front : List ℕ) × (rest : List ℕ) × (bytes ≡ front ++ rest) × Gains old.dropped new.dropped (front ∷ []))
+    ⊎ ((front : List ℕ) × (rest : List ℕ) × (bytes ≡ front ++ rest)
+    × Gains old.dropped new.dropped (front ∷ []))
 
 -- the file was kept with these bytes
 pub record IsSaved (name bytes : List ℕ) (old new : Told) : Type 0 where
@@ -18,7 +19,8 @@ pub record IsSaved (name bytes : List ℕ) (old new : Told) : Type 0 where
 
 -- the file wasn't kept: its output wasn't made, or not written whole and given up, or not kept
 pub record IsUnsaved (name bytes : List ℕ) (old new : Told) : Type 0 where
-  pub outcome : (Gains old.made new.made [] × Gains old.dropped new.dropped []) ⊎ (Gains old.made new.made (name ∷ []) × DropsFront bytes old new)
+  pub outcome : (Gains old.made new.made [] × Gains old.dropped new.dropped [])
+      ⊎ (Gains old.made new.made (name ∷ []) × DropsFront bytes old new)
   pub kept : Gains old.kept new.kept []
   pub cause : Rose old.out_faults new.out_faults
 

@@ -2,7 +2,8 @@
 use Rattle.std.specs.Prelude.{ℕ, List, Option}
 use Rattle.plcr_io.specs.Desk.{Told}
 
--- what the desk tells, what the sink of the lines has written, where it tells that, and its count of faults
+-- what the desk tells, what the sink of the lines has written, where it tells that, and its count
+-- of faults
 pub record Seen : Type 0 where
   pub desk : Told
   pub lines : Option (List ℕ)

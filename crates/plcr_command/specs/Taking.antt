@@ -17,7 +17,8 @@ abbrev pub AreTaken : Told → List File → List (List ℕ) → Type 0
 AreTaken desk [] [] = ⊤
 AreTaken desk [] (bytes ∷ contents) = ⊥
 AreTaken desk (file ∷ files) [] = ⊥
-AreTaken desk (file ∷ files) (bytes ∷ contents) = IsTaken desk file bytes × AreTaken desk files contents
+AreTaken desk (file ∷ files) (bytes ∷ contents) = IsTaken desk file bytes
+    × AreTaken desk files contents
 
 -- all files were taken in their order; they have these bytes
 pub record TookAll (files : List File) (contents : List (List ℕ)) (old new : Told) : Type 0 where

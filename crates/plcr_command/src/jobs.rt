@@ -56,8 +56,10 @@ pub fn read_job<'a, D: Desk>(
 ) -> Result<Job, Refusal<'a>>
     requires { length scripts.now ≤ MOST_SCRIPTS }
     ensures read { MatchResult result
-        (IsRead (IsJob modes) (job_files core.now (texts scripts.now)) (D.told desk.old) (D.told desk.new))
-        (Refuses (JobMisread modes) (job_files core.now (texts scripts.now)) (D.told desk.old) (D.told desk.new)) }
+        (IsRead (IsJob modes) (job_files core.now (texts scripts.now)) (D.told desk.old)
+        (D.told desk.new))
+        (Refuses (JobMisread modes) (job_files core.now (texts scripts.now)) (D.told desk.old)
+        (D.told desk.new)) }
     ensures count { IfOk result (λ job. length job.scripts ≡ length scripts.now) }
     ensures lawful { IfOk result IsLawfulJob }
     ensures nothing { MadeNothing (D.told desk.old) (D.told desk.new) }
@@ -74,10 +76,12 @@ fn take_job<'a, D: Desk>(
     desk: &mut D,
 ) -> Result<JobFiles, Refusal<'a>>
     ensures taken { MatchResult result
-        (λ files. TookAll (job_files core.now (texts scripts.now)) (files.core ∷ files.scripts.items) (D.told desk.old) (D.told desk.new))
+        (λ files. TookAll (job_files core.now (texts scripts.now))
+        (files.core ∷ files.scripts.items) (D.told desk.old) (D.told desk.new))
         (Untaken (job_files core.now (texts scripts.now)) (D.told desk.old) (D.told desk.new)) }
     ensures count { IfOk result (λ files. vec_len files.scripts ≡ length scripts.now) }
-    ensures short { IfOk result (λ files. All (λ (bytes : List ℕ). length bytes < 2 ^ 32) files.scripts.items) }
+    ensures short { IfOk result
+        (λ files. All (λ (bytes : List ℕ). length bytes < 2 ^ 32) files.scripts.items) }
     ensures nothing { MadeNothing (D.told desk.old) (D.told desk.new) }
 {
     let core = take_file(alloc, core_file(core), desk)?;
@@ -92,10 +96,12 @@ fn take_scripts<'a, D: Desk>(
     desk: &mut D,
 ) -> Result<Vec<Bytes>, Refusal<'a>>
     ensures taken { MatchResult result
-        (λ taken. TookAll (map spec.script_file (texts scripts.now)) taken.items (D.told desk.old) (D.told desk.new))
+        (λ taken. TookAll (map spec.script_file (texts scripts.now)) taken.items (D.told desk.old)
+        (D.told desk.new))
         (Untaken (map spec.script_file (texts scripts.now)) (D.told desk.old) (D.told desk.new)) }
     ensures count { IfOk result (λ taken. vec_len taken ≡ length scripts.now) }
-    ensures short { IfOk result (λ taken. All (λ (bytes : List ℕ). length bytes < 2 ^ 32) taken.items) }
+    ensures short { IfOk result
+        (λ taken. All (λ (bytes : List ℕ). length bytes < 2 ^ 32) taken.items) }
     ensures nothing { MadeNothing (D.told desk.old) (D.told desk.new) }
 {
     let mut taken = Vec::new(alloc);
@@ -144,7 +150,8 @@ fn scripts_of<'a>(
 ) -> Result<Rows<Script>, Refusal<'a>>
     requires few { length contents.now ≤ MOST_SCRIPTS }
     requires short { All (λ (bytes : List ℕ). length bytes < 2 ^ 32) contents.now }
-    ensures read { MatchResult result (λ scripts. scripts_in modes contents.now ≡ Ok scripts) (ScriptsMisread modes contents.now) }
+    ensures read { MatchResult result (λ scripts. scripts_in modes contents.now ≡ Ok scripts)
+        (ScriptsMisread modes contents.now) }
     ensures count { IfOk result (λ scripts. length scripts ≡ length contents.now) }
     ensures lawful { IfOk result (λ scripts. All IsLawful scripts) }
 {

@@ -16,7 +16,8 @@ const PLACE_ROOM: usize = 64;
 
 /// Prints a line in three parts. Where the sink fails, the line ends there.
 pub fn print_line<L: Sink>(lines: &mut L, head: &[u8], middle: &[u8], tail: &[u8])
-    ensures printed { Prints (L.written lines.old) (L.written lines.new) (head.now ++ middle.now ++ tail.now) (L.faults lines.old) (L.faults lines.new) }
+    ensures printed { Prints (L.written lines.old) (L.written lines.new)
+        (head.now ++ middle.now ++ tail.now) (L.faults lines.old) (L.faults lines.new) }
     ensures later { L.faults lines.old ≤ L.faults lines.new }
     ensures mark { L.mark lines.new ≡ L.mark lines.old }
 {
@@ -25,7 +26,8 @@ pub fn print_line<L: Sink>(lines: &mut L, head: &[u8], middle: &[u8], tail: &[u8
 
 /// Prints that a file wasn't kept.
 pub fn print_unwritten<L: Sink>(lines: &mut L, name: &[u8])
-    ensures printed { Prints (L.written lines.old) (L.written lines.new) (cannot_write name.now) (L.faults lines.old) (L.faults lines.new) }
+    ensures printed { Prints (L.written lines.old) (L.written lines.new) (cannot_write name.now)
+        (L.faults lines.old) (L.faults lines.new) }
     ensures later { L.faults lines.old ≤ L.faults lines.new }
     ensures mark { L.mark lines.new ≡ L.mark lines.old }
 {
@@ -36,7 +38,8 @@ pub fn print_unwritten<L: Sink>(lines: &mut L, name: &[u8])
 /// a report's fault is one of its own. The lines of the others take no memory.
 pub fn refuse<'a, L: Sink>(alloc: Global, refusal: Refusal<'a>, lines: &mut L) -> Refusal<'a>
     ensures refusal { IsToldAs refusal.entry result }
-    ensures printed { Prints (L.written lines.old) (L.written lines.new) (refusal_line result) (L.faults lines.old) (L.faults lines.new) }
+    ensures printed { Prints (L.written lines.old) (L.written lines.new) (refusal_line result)
+        (L.faults lines.old) (L.faults lines.new) }
     ensures silent { result ≡ Refusal.OutOfMemory → L.faults lines.new ≡ L.faults lines.old }
     ensures later { L.faults lines.old ≤ L.faults lines.new }
     ensures mark { L.mark lines.new ≡ L.mark lines.old }
@@ -81,7 +84,8 @@ fn limit_text(limit: u64) -> ArrayVec<u8, LIMIT_ROOM>
 
 /// The numbers of a script, of a line and of a kind.
 fn place_text(script: u32, line: u32, kind: u8) -> ArrayVec<u8, PLACE_ROOM>
-    ensures { result.items ≡ decimal script ++ codes " " ++ decimal line ++ codes " " ++ decimal kind }
+    ensures { result.items ≡ decimal script ++ codes " " ++ decimal line ++ codes " "
+        ++ decimal kind }
 {
     let mut text = ArrayVec::new();
     add_decimal(&mut text, u64::from(script));

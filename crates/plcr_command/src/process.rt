@@ -22,7 +22,8 @@ impl Process for CoreProcess<'_> {
 
     ghost image_fault = { λ p header. fault_at p.core.now header };
 
-    ghost report = { λ p context images. spelling_of (process_report context p.core.now.threads p.core.now.memory images) };
+    ghost report = { λ p context images.
+        spelling_of (process_report context p.core.now.threads p.core.now.memory images) };
 
     ghost accepts = { λ p context. AreWhole context.arch p.core.now.threads × IsWritable context };
 

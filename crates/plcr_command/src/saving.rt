@@ -29,9 +29,14 @@ pub fn save_report<P: Process, I: Images, D: Desk>(
 ) -> Result<u64, Unsaved>
     requires context { P.accepts process.now context.now }
     requires images { AreNamable (I.images images.old) }
-    ensures length { IfOk result (λ n. n ≡ length (P.report process.now context.now (I.images images.old))) }
-    ensures saved { OnOk result (IsSaved name.now (P.report process.now context.now (I.images images.old)) (D.told desk.old) (D.told desk.new)) }
-    ensures unsaved { OnErr result (IsUnsaved name.now (P.report process.now context.now (I.images images.old)) (D.told desk.old) (D.told desk.new)) }
+    ensures length { IfOk result
+        (λ n. n ≡ length (P.report process.now context.now (I.images images.old))) }
+    ensures saved { OnOk result
+        (IsSaved name.now (P.report process.now context.now (I.images images.old)) (D.told desk.old)
+        (D.told desk.new)) }
+    ensures unsaved { OnErr result
+        (IsUnsaved name.now (P.report process.now context.now (I.images images.old))
+        (D.told desk.old) (D.told desk.new)) }
     ensures nothing { TookNothing (D.told desk.old) (D.told desk.new) }
     ensures same { I.images images.new ≡ I.images images.old }
     ensures follows { I.follows images.old images.new }
@@ -52,7 +57,8 @@ pub fn save_report<P: Process, I: Images, D: Desk>(
 /// `Unsaved` as of a report.
 pub fn save_bytes<D: Desk>(name: &str, bytes: &[u8], desk: &mut D) -> Result<(), Unsaved>
     ensures saved { OnOk result (IsSaved name.now bytes.now (D.told desk.old) (D.told desk.new)) }
-    ensures unsaved { OnErr result (IsUnsaved name.now bytes.now (D.told desk.old) (D.told desk.new)) }
+    ensures unsaved { OnErr result
+        (IsUnsaved name.now bytes.now (D.told desk.old) (D.told desk.new)) }
     ensures nothing { TookNothing (D.told desk.old) (D.told desk.new) }
 {
     match desk.make(name) {
@@ -73,7 +79,8 @@ fn settle<T: Drop, D: Desk>(
 ) -> Result<T, Unsaved>
     requires { HasOpen (D.told desk.old) }
     ensures value { IfOk result (λ value. written ≡ Ok value) }
-    ensures settles { Settles (D.Out.written out) (D.Out.faults out) name.now (D.told desk.old) (D.told desk.new) written result }
+    ensures settles { Settles (D.Out.written out) (D.Out.faults out) name.now (D.told desk.old)
+        (D.told desk.new) written result }
 {
     match written {
         Ok(value) => match desk.keep(name, out) {

@@ -1,4 +1,5 @@
--- The caller of a frame by the encoding of its function (compact_unwind_encoding.h). Where words stand on the stack is counted without modulo.
+-- The caller of a frame by the encoding of its function (compact_unwind_encoding.h). Where words
+-- stand on the stack is counted without modulo.
 use Rattle.std.specs.Prelude.{ℕ, ◌+◌, ◌-◌, ◌*◌, ◌%◌, ◌^◌, ℤ, pos, ◌+ℤ◌, ◌-ℤ◌, int_lt, unsigned_abs, nat_lt, Bool, true, false, ◌||◌, if◌then◌else◌, List, [], ◌∷◌, ◌++◌, length, codes, slice_set, Option, Some, None, option_map, unwrap_or, ok_or, Ok, Err}
 use Rattle.std.specs.List.{list_any}
 use Rattle.std.specs.Option.{option_map_or}
@@ -40,7 +41,8 @@ saved_place register = place_of X86_64 (saved_name register)
 abbrev pub saved_word : ℤ → ℕ → SavedWord
 saved_word at place = record { at = at; place = place }
 
--- what is known of a caller before the stack is read: its registers, its stack pointer, and the words that hold others
+-- what is known of a caller before the stack is read: its registers, its stack pointer, and the
+-- words that hold others
 pub record Caller : Type 0 where
   pub value : List (Option ℕ)
   pub stack : ℤ
@@ -57,13 +59,15 @@ kept_in frame = (kept_of frame.registers).value
 -- registers one behind the other from an address upwards
 abbrev pub register_words : ℤ → List SavedRegister → List SavedWord
 register_words at [] = []
-register_words at (register ∷ registers) = saved_word at (saved_place register) ∷ register_words (at +ℤ pos 8) registers
+register_words at (register ∷ registers) =
+    saved_word at (saved_place register) ∷ register_words (at +ℤ pos 8) registers
 
 -- the same, with words among them that hold none
 abbrev pub field_words : ℤ → List (Option SavedRegister) → List SavedWord
 field_words at [] = []
 field_words at (None ∷ registers) = field_words (at +ℤ pos 8) registers
-field_words at (Some register ∷ registers) = saved_word at (saved_place register) ∷ field_words (at +ℤ pos 8) registers
+field_words at (Some register ∷ registers) =
+    saved_word at (saved_place register) ∷ field_words (at +ℤ pos 8) registers
 
 -- the places of arm64's pairs of registers that functions save
 unfoldable pub pair_places : List (ℕ × ℕ)
@@ -74,17 +78,21 @@ pair_places =
     (place_of Arm64 (codes "x25"), place_of Arm64 (codes "x26")) ∷
     (place_of Arm64 (codes "x27"), place_of Arm64 (codes "x28")) ∷ []
 
--- the pairs that were saved, from an address downwards, the first register of each at the higher address
+-- the pairs that were saved, from an address downwards, the first register of each at the higher
+-- address
 abbrev pub pair_words : ℤ → List Bool → List (ℕ × ℕ) → List SavedWord
 pair_words top [] places = []
 pair_words top (saved ∷ pairs) [] = []
 pair_words top (false ∷ pairs) (place ∷ places) = pair_words top pairs places
 pair_words top (true ∷ pairs) (place ∷ places) =
-    saved_word top place.0 ∷ saved_word (top -ℤ pos 8) place.1 ∷ pair_words (top -ℤ pos 16) pairs places
+    saved_word top place.0 ∷ saved_word (top -ℤ pos 8) place.1 ∷ pair_words (top -ℤ pos 16) pairs
+    places
 
 -- the frame pointer and the return address that stand where the frame pointer leads
 abbrev pub frame_words : Arch → ℕ → List SavedWord
-frame_words arch pointer = saved_word (pos pointer) (fp_place arch) ∷ saved_word (pos pointer +ℤ pos 8) (pc_place arch) ∷ []
+frame_words arch pointer =
+    saved_word (pos pointer) (fp_place arch) ∷ saved_word (pos pointer +ℤ pos 8) (pc_place arch)
+    ∷ []
 
 -- the caller of a frame with a frame pointer, with these words besides
 abbrev pub framed : Frame → ℕ → List SavedWord → Caller
@@ -94,7 +102,8 @@ framed frame pointer words = record {
   words = words ++ frame_words frame.registers.arch pointer;
 }
 
--- the caller of a frame without one on x86-64: the return address stands at the end of the stack, and the registers below it
+-- the caller of a frame without one on x86-64: the return address stands at the end of the stack,
+-- and the registers below it
 abbrev pub frameless : Frame → ℕ → ℕ → List SavedRegister → Caller
 frameless frame pointer size registers =
     let stack = pos pointer +ℤ pos size in
@@ -109,7 +118,8 @@ frameless frame pointer size registers =
 unfoldable pub frameless_by : Frame → Option ℕ → Permutation → Answer Caller
 frameless_by frame size saved =
     ok_or (saved_registers saved) NO_REGISTERS >>= λ registers.
-    if option_map_or (λ s. nat_lt s (8 + 8 * length registers)) size false then Err NO_REGISTERS else
+    if option_map_or (λ s. nat_lt s (8 + 8 * length registers)) size false then Err NO_REGISTERS
+    else
     (needed frame (sp_place frame.registers.arch) >>= λ pointer.
     ok_or size NOT_MAPPED >>= λ s.
     Ok (frameless frame pointer s registers))
@@ -126,19 +136,23 @@ leaf frame pointer back size pairs =
 
 -- what lr has; x86-64 has no lr
 abbrev pub link : Frame → Option ℕ
-link frame = option_map_or (λ place. register_at frame.registers place) (lr_place frame.registers.arch) None
+link frame = option_map_or (λ place. register_at frame.registers place)
+    (lr_place frame.registers.arch) None
 
 -- the size that stands in the code so far from a function's start, and what is added to it
 abbrev pub size_at : Contents → ℕ → ℕ → ℕ → Option ℕ
-size_at memory start place adjust = option_map (λ size. size + adjust) (number_at 4 memory ((start + place) % 2 ^ 64))
+size_at memory start place adjust =
+    option_map (λ size. size + adjust) (number_at 4 memory ((start + place) % 2 ^ 64))
 
 -- the caller by an encoding of a function that starts at an address
 unfoldable pub caller_by : Contents → ℕ → Frame → Encoding → Answer Caller
 caller_by memory start frame (encodings.RbpFrame offset registers) =
     needed frame (fp_place frame.registers.arch) >>= λ pointer.
     Ok (framed frame pointer (field_words (pos pointer -ℤ pos offset) registers))
-caller_by memory start frame (encodings.StackImmediate size saved) = frameless_by frame (Some size) saved
-caller_by memory start frame (encodings.StackIndirect place adjust saved) = frameless_by frame (size_at memory start place adjust) saved
+caller_by memory start frame (encodings.StackImmediate size saved) =
+    frameless_by frame (Some size) saved
+caller_by memory start frame (encodings.StackIndirect place adjust saved) =
+    frameless_by frame (size_at memory start place adjust) saved
 caller_by memory start frame (encodings.Frameless size pairs) =
     needed frame (sp_place frame.registers.arch) >>= λ pointer.
     ok_or (link frame) OUT_OF_RANGE >>= λ back.
@@ -162,14 +176,17 @@ filled memory value (word ∷ words) =
 unfoldable pub frame_of : Frame → List (Option ℕ) → ℤ → Frame
 frame_of frame value stack =
     let arch = frame.registers.arch in
-    let pc = slice_set value (pc_place arch) (option_map (cut frame) (register_at (record { arch = arch; value = value }) (pc_place arch))) in
+    let pc = slice_set value (pc_place arch)
+    (option_map (cut frame)
+    (register_at (record { arch = arch; value = value }) (pc_place arch))) in
     let sp = slice_set pc (sp_place arch) (Some (unsigned_abs stack % 2 ^ 64)) in
     record { registers = record { arch = arch; value = sp }; exact = false; bits = frame.bits }
 
 -- the caller once the stack is read: no word and no stack pointer may pass the addresses of 64 bits
 unfoldable pub read_caller : Contents → Frame → Caller → Answer Frame
 read_caller memory frame caller =
-    if list_any is_outside caller.words || int_lt (pos (2 ^ 64)) caller.stack then Err OUT_OF_RANGE else
+    if list_any is_outside caller.words || int_lt (pos (2 ^ 64)) caller.stack then Err OUT_OF_RANGE
+    else
     (filled memory caller.value caller.words >>= λ value. Ok (frame_of frame value caller.stack))
 
 -- the caller of a frame by what its image's section says of it
@@ -190,4 +207,5 @@ offset_in image frame = unwrap_or (frame_lookup frame) 0 - image.header
 
 -- the caller of a frame by its image's compact unwind information
 unfoldable pub compact_frame : Contents → Image → Frame → Step
-compact_frame memory image frame = answered (found_at memory image (offset_in image frame) >>= caller_from memory image frame)
+compact_frame memory image frame =
+    answered (found_at memory image (offset_in image frame) >>= caller_from memory image frame)

@@ -41,7 +41,8 @@ permutation_of word = record {
   number = field word UNWIND_X86_64_FRAMELESS_STACK_REG_PERMUTATION;
 }
 
--- an encoding of x86-64; its offset, size and adjustment are told in words of 8 bytes, and the place of its size in bytes
+-- an encoding of x86-64; its offset, size and adjustment are told in words of 8 bytes, and the
+-- place of its size in bytes
 unfoldable pub x86_64_encoding : ℕ → Answer Encoding
 x86_64_encoding word =
     let mode = bit_and word UNWIND_X86_64_MODE_MASK in
@@ -49,15 +50,19 @@ x86_64_encoding word =
     (frame_registers FRAME_REGISTERS (field word UNWIND_X86_64_RBP_FRAME_REGISTERS) >>= λ registers.
     Ok (RbpFrame (8 * field word UNWIND_X86_64_RBP_FRAME_OFFSET) registers)) else
     if mode == UNWIND_X86_64_MODE_STACK_IMMD then
-    Ok (StackImmediate (8 * field word UNWIND_X86_64_FRAMELESS_STACK_SIZE) (permutation_of word)) else
+    Ok (StackImmediate (8 * field word UNWIND_X86_64_FRAMELESS_STACK_SIZE) (permutation_of word))
+    else
     if mode == UNWIND_X86_64_MODE_STACK_IND then
-    Ok (StackIndirect (field word UNWIND_X86_64_FRAMELESS_STACK_SIZE) (8 * field word UNWIND_X86_64_FRAMELESS_STACK_ADJUST) (permutation_of word)) else
+    Ok (StackIndirect (field word UNWIND_X86_64_FRAMELESS_STACK_SIZE)
+    (8 * field word UNWIND_X86_64_FRAMELESS_STACK_ADJUST) (permutation_of word)) else
     if mode == UNWIND_X86_64_MODE_DWARF then Err DWARF_MODE else Err UNKNOWN_MODE
 
--- the bits that tell of arm64's pairs of registers whether they were saved. Those of pairs of d registers aren't among them: these stand below all others, and aren't read
+-- the bits that tell of arm64's pairs of registers whether they were saved. Those of pairs of d
+-- registers aren't among them: these stand below all others, and aren't read
 abbrev pub pair_masks : List ℕ
 pair_masks =
-    UNWIND_ARM64_FRAME_X19_X20_PAIR ∷ UNWIND_ARM64_FRAME_X21_X22_PAIR ∷ UNWIND_ARM64_FRAME_X23_X24_PAIR ∷
+    UNWIND_ARM64_FRAME_X19_X20_PAIR ∷ UNWIND_ARM64_FRAME_X21_X22_PAIR
+    ∷ UNWIND_ARM64_FRAME_X23_X24_PAIR ∷
     UNWIND_ARM64_FRAME_X25_X26_PAIR ∷ UNWIND_ARM64_FRAME_X27_X28_PAIR ∷ []
 
 abbrev pub pairs_of : ℕ → List Bool

@@ -1,4 +1,5 @@
--- The registers that a function without a frame saved, by a number for their order (compact_unwind_encoding.h, UNWIND_X86_64_FRAMELESS_STACK_REG_PERMUTATION).
+-- The registers that a function without a frame saved, by a number for their order
+-- (compact_unwind_encoding.h, UNWIND_X86_64_FRAMELESS_STACK_REG_PERMUTATION).
 use Rattle.std.specs.Prelude.{ℕ, ◌/◌, ◌%◌, ◌==◌, if◌then◌else◌, List, [], ◌∷◌, slice_get, remove, Option, Some, None, option_map}
 use Rattle.std.specs.Option.{option_and_then}
 use Rattle.plcr_compact.specs.declared.encoding.SavedRegister.{SavedRegister}
@@ -25,12 +26,17 @@ abbrev pub digits : List ℕ → ℕ → List ℕ
 digits [] number = []
 digits (orders ∷ behind) number = number / orders ∷ digits behind (number % orders)
 
--- the registers that digits name: each the one at its place among those that aren't named yet, in rising order
+-- the registers that digits name: each the one at its place among those that aren't named yet, in
+-- rising order
 abbrev pub named : List SavedRegister → List ℕ → Option (List SavedRegister)
 named left [] = Some []
 named left (digit ∷ digits) =
-    option_and_then (λ register. option_map (λ registers. register ∷ registers) (named (remove left digit) digits)) (slice_get left digit)
+    option_and_then (λ register.
+    option_map (λ registers. register ∷ registers) (named (remove left digit) digits))
+    (slice_get left digit)
 
--- the registers of a permutation, in the order in which they stand on the stack from the lowest address up
+-- the registers of a permutation, in the order in which they stand on the stack from the lowest
+-- address up
 unfoldable pub saved_registers : Permutation → Option (List SavedRegister)
-saved_registers saved = option_and_then (λ orders. named all_registers (digits orders saved.number)) (followers saved.count)
+saved_registers saved = option_and_then (λ orders. named all_registers (digits orders saved.number))
+    (followers saved.count)

@@ -1,4 +1,6 @@
--- The section `__unwind_info` of an image (compact_unwind_encoding.h): a header, an index of functions by their offsets, and pages with their encodings. Places are counted from the section's start.
+-- The section `__unwind_info` of an image (compact_unwind_encoding.h): a header, an index of
+-- functions by their offsets, and pages with their encodings. Places are counted from the section's
+-- start.
 use Rattle.std.specs.Prelude.{ℕ, ◌+◌, ◌-◌, ◌*◌, ◌/◌, ◌^◌, ◌==◌, nat_lt, false, not, if◌then◌else◌, List, length, take, slice_get, Option, Some, None, ok_or, Ok, Err}
 use Rattle.std.specs.Option.{option_map_or}
 use Rattle.std.specs.Int.{w32, trailing_zeros}
@@ -42,7 +44,9 @@ header_in section =
     word section PERSONALITY_ARRAY_COUNT >>= λ personality.
     word section INDEX_SECTION_OFFSET >>= λ index_at.
     word section INDEX_COUNT >>= λ index.
-    if version == UNWIND_SECTION_VERSION then Ok (record { common = table common_at common; index = table index_at index }) else Err OTHER_VERSION
+    if version == UNWIND_SECTION_VERSION
+    then Ok (record { common = table common_at common; index = table index_at index })
+    else Err OTHER_VERSION
 
 -- an entry of the index: the offset of a function, and where its page stands
 unfoldable pub index_entry : Source → ℕ → Answer Entry
@@ -59,15 +63,20 @@ regular_entry section place =
     word section (place + ENCODING) >>= λ encoding.
     Ok (record { function = function; value = encoding })
 
--- an entry of a compressed page: the offset of a function, told from that of the page's entry in the index, and the number of its encoding
+-- an entry of a compressed page: the offset of a function, told from that of the page's entry in
+-- the index, and the number of its encoding
 unfoldable pub compressed_entry : ℕ → Source → ℕ → Answer Entry
 compressed_entry first section place =
     word section place >>= λ entry.
-    Ok (record { function = first + field entry UNWIND_INFO_COMPRESSED_ENTRY_FUNC_OFFSET; value = field entry UNWIND_INFO_COMPRESSED_ENTRY_ENCODING_INDEX })
+    Ok (record {
+      function = first + field entry UNWIND_INFO_COMPRESSED_ENTRY_FUNC_OFFSET;
+      value = field entry UNWIND_INFO_COMPRESSED_ENTRY_ENCODING_INDEX;
+    })
 
 -- the entries of the index
 unfoldable pub index_entries : Source → SectionHeader → Answer (List Entry)
-index_entries section header = entries_at (index_entry section) INDEX_ENTRY header.index.count header.index.at
+index_entries section header =
+    entries_at (index_entry section) INDEX_ENTRY header.index.count header.index.at
 
 -- a section whose index can be searched
 pub record Index : Type 0 where
@@ -87,11 +96,14 @@ sentinel es = slice_get es (length es - 1)
 abbrev pub before_sentinel : List Entry → List Entry
 before_sentinel es = take (length es - 1) es
 
--- the entry of the index for an offset, which has a page: the one chosen of those before the sentinel, which has to lie above the offset
+-- the entry of the index for an offset, which has a page: the one chosen of those before the
+-- sentinel, which has to lie above the offset
 unfoldable pub page_of : ℕ → List Entry → Answer Entry
 page_of offset es =
-    if not (option_map_or (λ e. nat_lt offset e.function) (sentinel es) false) then Err NO_ENTRY else
-    (ok_or (chosen offset (before_sentinel es)) NO_ENTRY >>= λ e. if e.value == 0 then Err NO_ENTRY else Ok e)
+    if not (option_map_or (λ e. nat_lt offset e.function) (sentinel es) false) then Err NO_ENTRY
+    else
+    (ok_or (chosen offset (before_sentinel es)) NO_ENTRY >>= λ e. if e.value == 0 then Err NO_ENTRY
+    else Ok e)
 
 -- the rest of the head of a page of either kind
 unfoldable pub regular_header : Source → ℕ → Answer PageHeader
@@ -118,8 +130,10 @@ page_header_in section page =
 
 -- the entries of a page, whose entry in the index has this offset
 unfoldable pub page_entries : Source → ℕ → PageHeader → Answer (List Entry)
-page_entries section first (Regular entries) = entries_at (regular_entry section) REGULAR_ENTRY entries.count entries.at
-page_entries section first (Compressed entries encodings) = entries_at (compressed_entry first section) COMPRESSED_ENTRY entries.count entries.at
+page_entries section first (Regular entries) =
+    entries_at (regular_entry section) REGULAR_ENTRY entries.count entries.at
+page_entries section first (Compressed entries encodings) =
+    entries_at (compressed_entry first section) COMPRESSED_ENTRY entries.count entries.at
 
 -- a page that can be searched
 pub record Page : Type 0 where
@@ -141,13 +155,15 @@ encoding_at section encodings number = word section (encodings.at + ENCODING_LEN
 unfoldable pub encoding_of : Source → Table → Table → ℕ → Answer ℕ
 encoding_of section common own number =
     if nat_lt number common.count then encoding_at section common number else
-    if nat_lt (number - common.count) own.count then encoding_at section own (number - common.count) else
+    if nat_lt (number - common.count) own.count then encoding_at section own (number - common.count)
+    else
     Err NO_ENCODING
 
 -- the encoding of a page's entry
 unfoldable pub encoding_in : Source → Table → PageHeader → ℕ → Answer ℕ
 encoding_in section common (Regular entries) value = Ok value
-encoding_in section common (Compressed entries encodings) value = encoding_of section common encodings value
+encoding_in section common (Compressed entries encodings) value =
+    encoding_of section common encodings value
 
 -- the entry of a page for an offset, with the word of its encoding
 unfoldable pub entry_of : Source → Table → ℕ → Page → Answer Found

@@ -141,7 +141,8 @@ fn needed(frame: &Frame, place: usize) -> Result<u64, u8>
 #[tactic(auto, using(std::proofs::lemmas::List::append_assoc))]
 fn framed(frame: &Frame, pointer: u64, words: &mut Words) -> Caller
     requires { length words.old.items + 2 ≤ MOST_WORDS }
-    ensures { caller_of frame.now words.new.items result ≡ framed frame.now pointer words.old.items }
+    ensures { caller_of frame.now words.new.items result
+        ≡ framed frame.now pointer words.old.items }
 {
     let arch = frame.registers.arch;
     let at = i128::from(pointer);
@@ -169,7 +170,8 @@ fn frameless(
 ) -> Caller
     requires room { length registers.now < MOST_WORDS }
     requires none { words.old.items ≡ [] }
-    ensures { caller_of frame.now words.new.items result ≡ frameless frame.now pointer size registers.now }
+    ensures { caller_of frame.now words.new.items result
+        ≡ frameless frame.now pointer size registers.now }
 {
     let stack = i128::from(pointer) + i128::from(size);
     let first = stack - SIGNED_WORD - SIGNED_WORD * registers.len() as i128;
@@ -190,7 +192,8 @@ fn frameless_by(
     words: &mut Words,
 ) -> Result<Caller, u8>
     requires { words.old.items ≡ [] }
-    ensures { result_map (caller_of frame.now words.new.items) result ≡ frameless_by frame.now size saved }
+    ensures { result_map (caller_of frame.now words.new.items) result
+        ≡ frameless_by frame.now size saved }
 {
     let registers = saved_registers(saved).ok_or(NO_REGISTERS)?;
     let least = WORD + WORD * registers.len() as u64;
@@ -220,7 +223,8 @@ fn leaf(
     words: &mut Words,
 ) -> Caller
     requires { words.old.items ≡ [] }
-    ensures { caller_of frame.now words.new.items result ≡ leaf frame.now pointer back size pairs.now }
+    ensures { caller_of frame.now words.new.items result
+        ≡ leaf frame.now pointer back size pairs.now }
 {
     let stack = i128::from(pointer) + i128::from(size);
     push_pairs(words, stack - SIGNED_WORD, pairs);

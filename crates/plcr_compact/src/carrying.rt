@@ -54,7 +54,8 @@ fn before(frame: &Frame, back: Option<u64>, room: &mut Registers)
 fn fill(memory: &Memory, registers: &mut Registers, words: &[SavedWord]) -> Result<(), u8>
     requires registers { AreRegisters words.now }
     requires inside { list_any is_outside words.now ≡ false }
-    ensures filled { result_map (λ _. registers.new.value) result ≡ filled memory.now registers.old.value words.now }
+    ensures filled { result_map (λ _. registers.new.value) result
+        ≡ filled memory.now registers.old.value words.now }
     ensures arch { registers.new.arch ≡ registers.old.arch }
 {
     for word in words {
@@ -70,7 +71,8 @@ fn fill(memory: &Memory, registers: &mut Registers, words: &[SavedWord]) -> Resu
 #[tactic(auto, unfolding(crate::specs::Callers::frame_of))]
 fn finish(frame: &Frame, registers: &mut Registers, stack: i128)
     requires { registers.old.arch ≡ frame.now.registers.arch }
-    ensures value { registers.new.value ≡ (frame_of frame.now registers.old.value stack).registers.value }
+    ensures value { registers.new.value
+        ≡ (frame_of frame.now registers.old.value stack).registers.value }
     ensures arch { registers.new.arch ≡ registers.old.arch }
 {
     let arch = frame.registers.arch;
@@ -90,7 +92,8 @@ pub fn read_caller(
     room: &mut Frame,
 ) -> Result<(), u8>
     requires { AreRegisters words.now }
-    ensures frame { result_map (λ _. room.new) result ≡ read_caller memory.now frame.now (caller_of frame.now words.now caller) }
+    ensures frame { result_map (λ _. room.new) result
+        ≡ read_caller memory.now frame.now (caller_of frame.now words.now caller) }
     ensures thread { IfOk result (λ _. IsOfThread frame.now room.new) }
 {
     if any_outside(words) || caller.stack > END {

@@ -55,7 +55,8 @@ fn caller_from(
     found: &Found,
     room: &mut Frame,
 ) -> Result<(), u8>
-    ensures frame { result_map (λ _. room.new) result ≡ caller_from memory.now image.now frame.now found.now }
+    ensures frame { result_map (λ _. room.new) result ≡ caller_from memory.now image.now frame.now
+        found.now }
     ensures thread { IfOk result (λ _. IsOfThread frame.now room.new) }
 {
     let encoding = encoding(frame.registers.arch, found.encoding)?;
@@ -73,7 +74,8 @@ pub fn step_from_into(
     found: &Found,
     room: &mut Frame,
 ) -> Outcome
-    ensures caller { step_in result room.new ≡ answered (caller_from memory.now image.now frame.now found.now) }
+    ensures caller { step_in result room.new
+        ≡ answered (caller_from memory.now image.now frame.now found.now) }
     ensures thread { IfFrame (step_in result room.new) (IsOfThread frame.now) }
 {
     match caller_from(memory, image, frame, found, room) {

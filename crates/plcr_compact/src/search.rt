@@ -41,7 +41,8 @@ fn zero_entries<C: SectionCells>(section: &C, table: &Table, index: u32) -> u32
     requires within { index < table.now.count }
     ensures most { index + result ≤ table.now.count }
     ensures empty { (k : ℕ) → k < result
-        → entry_by kinds.Index (C.cells section.now) (table.now.at + size_by kinds.Index * (index + k)) ≡ Ok empty }
+        → entry_by kinds.Index (C.cells section.now)
+        (table.now.at + size_by kinds.Index * (index + k)) ≡ Ok empty }
 {
     let count = table.count;
     let zeros = section.zeros(EntryKind::Index.place(table, index)) / INDEX_ENTRY;
@@ -52,7 +53,8 @@ fn zero_entries<C: SectionCells>(section: &C, table: &Table, index: u32) -> u32
 #[tactic(auto, using(crate::proofs::Searched::rest_start, crate::proofs::Searched::rest_more, crate::proofs::Searched::rest_bad, crate::proofs::Searched::rest_end, crate::proofs::Searched::checked_falls, crate::proofs::Searched::checked_rises, crate::proofs::Searched::checked_bad, crate::proofs::Emptied::rest_empty))]
 pub fn check_index<C: SectionCells>(section: &C, table: &Table) -> Result<(), u8>
     requires { IsNear table.now }
-    ensures { result ≡ result_map (λ _. tt) (lawful_in (C.cells section.now) kinds.Index table.now) }
+    ensures { result ≡ result_map (λ _. tt)
+        (lawful_in (C.cells section.now) kinds.Index table.now) }
 {
     let count = table.count;
     let mut fell = false;

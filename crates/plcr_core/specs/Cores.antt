@@ -1,4 +1,5 @@
--- A core file: its header, its load commands, and the regions and thread states that these give (loader.h).
+-- A core file: its header, its load commands, and the regions and thread states that these give
+-- (loader.h).
 use Rattle.std.specs.Prelude.{◌≤◌, ℕ, ◌==◌, nat_lt, if◌then◌else◌, List, All, length, filter_map, Option, None, Result, Ok, Err}
 use Rattle.plcr_base.specs.Chains.{◌>>=◌}
 use Rattle.plcr_memory.specs.declared.region.Region.{Region}
@@ -40,7 +41,8 @@ fault_of file_length (Absent place) = Truncated file_length
 -- the load commands of the file, or the first fault among them
 unfoldable pub commands_in : List ℕ → Header → Result (List Command) CoreFault
 commands_in file header =
-    faulted (fault_of (length file)) (commands_at (file_bytes file) (core_trouble (length file)) header.end header.commands 0 LENGTH)
+    faulted (fault_of (length file)) (commands_at (file_bytes file) (core_trouble (length file))
+    header.end header.commands 0 LENGTH)
 
 -- what a core gives before its memory is laid out
 pub record Parts : Type 0 where
@@ -58,9 +60,11 @@ parts_of arch cs =
 
 -- the parts of a core file, or its first fault
 unfoldable pub parts_in : List ℕ → Result Parts CoreFault
-parts_in file = header_in file >>= λ header. commands_in file header >>= λ cs. parts_of header.arch cs
+parts_in file = header_in file >>= λ header. commands_in file header >>= λ cs.
+    parts_of header.arch cs
 
--- the threads of a core: one or more but not too many, each in a state in which all registers are known
+-- the threads of a core: one or more but not too many, each in a state in which all registers are
+-- known
 pub record AreThreads (arch : Arch) (threads : List Registers) : Type 0 where
   pub each : All (IsWhole arch) threads
   pub some : 1 ≤ length threads

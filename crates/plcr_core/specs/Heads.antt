@@ -12,7 +12,8 @@ use Rattle.plcr_core.specs.declared.fault.CoreFault.TheVariants.{Truncated, NotC
 
 -- the architecture of a cputype that is read
 abbrev pub arch_of : ℕ → Option Arch
-arch_of cpu = if cpu == CPU_TYPE_X86_64 then Some X86_64 else if cpu == CPU_TYPE_ARM64 then Some Arm64 else None
+arch_of cpu = if cpu == CPU_TYPE_X86_64 then Some X86_64 else if cpu == CPU_TYPE_ARM64
+    then Some Arm64 else None
 
 -- the header of a 64-bit little-endian core
 abbrev pub is_core : List ℕ → Bool
@@ -24,5 +25,9 @@ header_in file =
     if nat_lt (length file) LENGTH then Err (Truncated (length file)) else
     if is_core file then
     (ok_or (arch_of (number CPUTYPE file)) (OtherCpu (number CPUTYPE file)) >>= λ arch.
-    Ok (record { arch = arch; commands = number NCMDS file; end = LENGTH + number SIZEOFCMDS file }))
+    Ok (record {
+      arch = arch;
+      commands = number NCMDS file;
+      end = LENGTH + number SIZEOFCMDS file;
+    }))
     else Err (NotCore (number MAGIC file) (number FILETYPE file))

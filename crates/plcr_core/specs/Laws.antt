@@ -1,4 +1,5 @@
--- What a core is, above the reading of its bytes: a header, the load commands that lie one after the other behind it, and what these give.
+-- What a core is, above the reading of its bytes: a header, the load commands that lie one after
+-- the other behind it, and what these give.
 use Rattle.std.specs.Prelude.{◌≡◌, ◌≤◌, ◌<◌, ◌+◌, ◌⊎◌, ℕ, List, [], length, filter_map, All, Some, None}
 use Rattle.plcr_memory.specs.declared.region.Region.{Region}
 use Rattle.plcr_memory.specs.Regions.{Ends, AreApart}
@@ -38,7 +39,8 @@ pub record AreSome (threads : List Registers) : Type 0 where
   pub some : 1 ≤ length threads
   pub few : length threads ≤ MOST_THREADS
 
--- the core is what the commands of the file give: its threads are some and not too many, and its regions end within the addresses and share none
+-- the core is what the commands of the file give: its threads are some and not too many, and its
+-- regions end within the addresses and share none
 pub record IsLaidOut (file : List ℕ) (core : Core) : Type 0 where
   pub header : Header
   pub commands : List Command
@@ -50,13 +52,16 @@ pub record IsLaidOut (file : List ℕ) (core : Core) : Type 0 where
   pub ends : All Ends core.memory.regions
   pub apart : AreApart core.memory.regions
 
--- what is wrong with the header: the file is too short for it, then its magic or its filetype, then its cputype
+-- what is wrong with the header: the file is too short for it, then its magic or its filetype, then
+-- its cputype
 abbrev pub IsHeaderFault : List ℕ → CoreFault → Type 0
 IsHeaderFault file (faults.Truncated at) = (at ≡ length file) × (length file < LENGTH)
 IsHeaderFault file (faults.NotCore magic filetype) =
-    (LENGTH ≤ length file) × (magic ≡ number MAGIC file) × (filetype ≡ number FILETYPE file) × ¬ ((magic ≡ MH_MAGIC_64) × (filetype ≡ MH_CORE))
+    (LENGTH ≤ length file) × (magic ≡ number MAGIC file) × (filetype ≡ number FILETYPE file)
+    × ¬ ((magic ≡ MH_MAGIC_64) × (filetype ≡ MH_CORE))
 IsHeaderFault file (faults.OtherCpu cpu) =
-    (LENGTH ≤ length file) × (number MAGIC file ≡ MH_MAGIC_64) × (number FILETYPE file ≡ MH_CORE) × (cpu ≡ number CPUTYPE file) × (arch_of cpu ≡ None)
+    (LENGTH ≤ length file) × (number MAGIC file ≡ MH_MAGIC_64) × (number FILETYPE file ≡ MH_CORE)
+    × (cpu ≡ number CPUTYPE file) × (arch_of cpu ≡ None)
 IsHeaderFault file fault = ⊥
 
 -- the header stands, and the fault is that of the first load command behind it that doesn't lie
@@ -64,15 +69,19 @@ pub record IsCommandFault (file : List ℕ) (fault : CoreFault) : Type 0 where
   pub header : Header
   pub trouble : Trouble
   pub stands : IsHeader file header
-  pub first : IsFirstTrouble (file_bytes file) (core_trouble (length file)) header.end header.commands 0 LENGTH trouble
+  pub first : IsFirstTrouble (file_bytes file) (core_trouble (length file)) header.end
+      header.commands 0 LENGTH trouble
   pub is : fault ≡ fault_of (length file) trouble
 
--- what is wrong with the threads and regions that commands give: the number of threads, then a region that wraps, then two that overlap
+-- what is wrong with the threads and regions that commands give: the number of threads, then a
+-- region that wraps, then two that overlap
 abbrev pub IsPartFault : List Registers → List Region → CoreFault → Type 0
 IsPartFault threads regions faults.NoThread = threads ≡ []
-IsPartFault threads regions (faults.TooManyThreads count) = (count ≡ length threads) × (MOST_THREADS < count)
+IsPartFault threads regions (faults.TooManyThreads count) = (count ≡ length threads)
+    × (MOST_THREADS < count)
 IsPartFault threads regions (faults.Wraps index) = AreSome threads × IsFirstWrap regions index
-IsPartFault threads regions (faults.Overlap first second) = AreSome threads × All Ends regions × IsFirstOverlap regions first second
+IsPartFault threads regions (faults.Overlap first second) = AreSome threads × All Ends regions
+    × IsFirstOverlap regions first second
 IsPartFault threads regions fault = ⊥
 
 -- all commands lie behind the header, and the fault is that of what they give
@@ -80,8 +89,11 @@ pub record IsGivenFault (file : List ℕ) (fault : CoreFault) : Type 0 where
   pub header : Header
   pub commands : List Command
   pub lie : AreCommands file header commands
-  pub is : IsPartFault (filter_map (thread_of header.arch) commands) (filter_map region_of commands) fault
+  pub is : IsPartFault (filter_map (thread_of header.arch) commands) (filter_map region_of commands)
+      fault
 
--- the fault is the first one there: of the header, then of the first command that doesn't lie, then of what the commands give
+-- the fault is the first one there: of the header, then of the first command that doesn't lie, then
+-- of what the commands give
 abbrev pub IsFirstFault : List ℕ → CoreFault → Type 0
-IsFirstFault file fault = IsHeaderFault file fault ⊎ IsCommandFault file fault ⊎ IsGivenFault file fault
+IsFirstFault file fault = IsHeaderFault file fault ⊎ IsCommandFault file fault
+    ⊎ IsGivenFault file fault

@@ -50,8 +50,10 @@ fn put_thread(
     index: u32,
 ) -> Result<(), Trouble>
     requires { LENGTH ≤ length command.now }
-    ensures thread { OnOk result (Ok room.new ≡ passed (thread_in arch command.now) (thread_trouble index command.now)) }
-    ensures trouble { IfErr result (λ t. Err t ≡ passed (thread_in arch command.now) (thread_trouble index command.now)) }
+    ensures thread { OnOk result
+        (Ok room.new ≡ passed (thread_in arch command.now) (thread_trouble index command.now)) }
+    ensures trouble { IfErr result
+        (λ t. Err t ≡ passed (thread_in arch command.now) (thread_trouble index command.now)) }
 {
     *room = thread_state(arch, command, index)?;
     Ok(())
@@ -65,8 +67,10 @@ fn put_gain(
     file_length: usize,
 ) -> Result<(), Trouble>
     requires { LENGTH ≤ length command.now.bytes.now }
-    ensures gain { OnOk result (Ok room.new ≡ gain_in arch file_length index (command_of command.now)) }
-    ensures trouble { IfErr result (λ t. Err t ≡ gain_in arch file_length index (command_of command.now)) }
+    ensures gain { OnOk result
+        (Ok room.new ≡ gain_in arch file_length index (command_of command.now)) }
+    ensures trouble { IfErr result
+        (λ t. Err t ≡ gain_in arch file_length index (command_of command.now)) }
     ensures size { OnOk result (room.new.size ≡ length command.now.bytes.now) }
     ensures backed { OnOk result (IfSome room.new.region (λ r.
         (r.from + r.len ≤ file_length) × (r.len ≤ r.size) × (1 ≤ r.size))) }
@@ -97,8 +101,12 @@ pub fn gain_at(
     index: u32,
     at: u64,
 ) -> Result<(), Trouble>
-    ensures gain { OnOk result (Ok room.new ≡ result_map (gain_of arch) (command_at (file_bytes file.now) (core_trouble (length file.now)) end index at)) }
-    ensures trouble { IfErr result (λ t. Err t ≡ result_map (gain_of arch) (command_at (file_bytes file.now) (core_trouble (length file.now)) end index at)) }
+    ensures gain { OnOk result
+        (Ok room.new ≡ result_map (gain_of arch)
+        (command_at (file_bytes file.now) (core_trouble (length file.now)) end index at)) }
+    ensures trouble { IfErr result
+        (λ t. Err t ≡ result_map (gain_of arch)
+        (command_at (file_bytes file.now) (core_trouble (length file.now)) end index at)) }
     ensures within { OnOk result (at + room.new.size ≤ length file.now) }
     ensures least { OnOk result (LENGTH ≤ room.new.size) }
     ensures backed { OnOk result (IfSome room.new.region (λ r.

@@ -56,7 +56,8 @@ fn add_region(regions: &mut Vec<Region>, region: Option<Region>) -> Result<(), A
 // Appends the thread where fewer than the most are kept.
 fn add_thread(threads: &mut Vec<Registers>, thread: &Option<Registers>) -> Result<(), AllocError>
     requires { length threads.old.items ≤ MOST_THREADS }
-    ensures { OnOk result (threads.new.items ≡ take MOST_THREADS (threads.old.items ++ option_to_list thread.now)) }
+    ensures { OnOk result
+        (threads.new.items ≡ take MOST_THREADS (threads.old.items ++ option_to_list thread.now)) }
 {
     let Some(thread) = thread else {
         return Ok(());

@@ -11,10 +11,12 @@ ghost use Rattle.plcr_core.specs.Reading.{IsAnswer};
 /// what these give.
 pub fn cores_lie()
     // A core that is answered lies so.
-    ensures found { (file : List ℕ) (core : Core) → IsAnswer file (parts_in file) (Ok core) → IsLaidOut file core }
+    ensures found { (file : List ℕ) (core : Core) → IsAnswer file (parts_in file) (Ok core) →
+        IsLaidOut file core }
 
     // A core that lies so is answered.
-    ensures only { (file : List ℕ) (core : Core) → IsLaidOut file core → IsAnswer file (parts_in file) (Ok core) }
+    ensures only { (file : List ℕ) (core : Core) → IsLaidOut file core →
+        IsAnswer file (parts_in file) (Ok core) }
 
     // Any other answer but want of memory is the first fault there.
     ensures first { (file : List ℕ) (fault : CoreFault) → fault ≢ faults.Memory →
@@ -24,6 +26,8 @@ pub fn cores_lie()
 /// The groups that are found in a thread command are the ones that stand in it, one after the
 /// other, and no others.
 pub fn groups_lie()
-    ensures found { (bytes : List ℕ) (groups : List Group) → groups_in bytes ≡ Some groups → AreGroups bytes groups }
-    ensures only { (bytes : List ℕ) (groups : List Group) → AreGroups bytes groups → groups_in bytes ≡ Some groups }
+    ensures found { (bytes : List ℕ) (groups : List Group) → groups_in bytes ≡ Some groups →
+        AreGroups bytes groups }
+    ensures only { (bytes : List ℕ) (groups : List Group) → AreGroups bytes groups →
+        groups_in bytes ≡ Some groups }
 {}

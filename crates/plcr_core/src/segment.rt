@@ -14,7 +14,8 @@ pub fn segment_region(
     index: u32,
     file_length: usize,
 ) -> Result<Option<Region>, Trouble>
-    ensures region { result ≡ passed (region_in command.now) (segment_trouble file_length index command.now) }
+    ensures region { result
+        ≡ passed (region_in command.now) (segment_trouble file_length index command.now) }
     ensures backed { IfOk result (λ region. IfSome region (λ r.
         (r.from + r.len ≤ file_length) × (r.len ≤ r.size) × (1 ≤ r.size))) }
 {

@@ -140,8 +140,8 @@ fn values_of(alloc: Global, file: Vec<u8>) -> Result<Option<[Option<u64>; 34]>, 
     Ok(core.threads.first().map(|thread| thread.value))
 }
 
-// A state in a wrapping state is that state, and cores whose states are those of another processor or
-// width.
+// A state in a wrapping state is that state, and cores whose states are those of another processor
+// or width.
 #[test]
 fn states_go_by_the_processor(rt: HostRuntime) -> Result<(), Fail> {
     let alloc = rt.alloc();

@@ -12,8 +12,11 @@ use Rattle.plcr_cursor.specs.Frames.{first_given, next_of}
 abbrev pub next_after : Contents → List Listed → Option Given → Option Given
 next_after memory images given = option_and_then (λ g. next_of memory images g.frame) given
 
--- the first frame is where the thread was stopped, behind each stands the next of it, where there is one, and they are at most so many
-pub record AreFrames (memory : Contents) (images : List Listed) (state : Registers) (bits : ℕ) (frames : List Given) : Type 0 where
+-- the first frame is where the thread was stopped, behind each stands the next of it, where there
+-- is one, and they are at most so many
+pub record AreFrames (memory : Contents) (images : List Listed) (state : Registers) (bits : ℕ)
+    (frames : List Given) : Type 0 where
   pub first : slice_get frames 0 ≡ Some (first_given state bits)
-  pub leads : (k : ℕ) → suc k < MOST_FRAMES → slice_get frames (suc k) ≡ next_after memory images (slice_get frames k)
+  pub leads : (k : ℕ) → suc k < MOST_FRAMES →
+      slice_get frames (suc k) ≡ next_after memory images (slice_get frames k)
   pub few : length frames ≤ MOST_FRAMES

@@ -33,10 +33,13 @@ located_at found = record { place = found.0; image = found.1 }
 -- the first image of the list that has the address by which a frame's function is looked up
 abbrev pub located_over : Contents → List Listed → Frame → Option Located
 located_over memory images frame =
-    option_and_then (λ address. option_map located_at (first_over memory frame.registers.arch address 0 images)) (frame_lookup frame)
+    option_and_then (λ address.
+    option_map located_at (first_over memory frame.registers.arch address 0 images))
+    (frame_lookup frame)
 
 abbrev pub image_over : Contents → List Listed → Frame → Option Image
-image_over memory images frame = option_map (λ found. found.image) (located_over memory images frame)
+image_over memory images frame =
+    option_map (λ found. found.image) (located_over memory images frame)
 
 -- what a reader answers, and which it is
 pub record Answer : Type 0 where
@@ -45,10 +48,12 @@ pub record Answer : Type 0 where
 
 -- the answer of each reader
 abbrev pub compact_answer : Contents → Frame → Image → Answer
-compact_answer memory frame image = record { step = compact_frame memory image frame; by = CompactUnwind }
+compact_answer memory frame image =
+    record { step = compact_frame memory image frame; by = CompactUnwind }
 
 abbrev pub call_frame_answer : Contents → Frame → Image → Answer
-call_frame_answer memory frame image = record { step = call_frame memory image frame; by = CallFrameInformation }
+call_frame_answer memory frame image =
+    record { step = call_frame memory image frame; by = CallFrameInformation }
 
 abbrev pub saved_answer : Contents → Frame → Answer
 saved_answer memory frame = record { step = saved_frame memory frame; by = FramePointer }
@@ -56,11 +61,13 @@ saved_answer memory frame = record { step = saved_frame memory frame; by = Frame
 -- the answers of the readers of an image's tables; they aren't asked where no image has the address
 abbrev pub image_answers : Contents → Frame → Option Image → List Answer
 image_answers memory frame None = []
-image_answers memory frame (Some image) = compact_answer memory frame image ∷ call_frame_answer memory frame image ∷ []
+image_answers memory frame (Some image) =
+    compact_answer memory frame image ∷ call_frame_answer memory frame image ∷ []
 
 -- the answers of the readers, in the order in which they are asked
 abbrev pub answers : Contents → List Listed → Frame → List Answer
-answers memory images frame = image_answers memory frame (image_over memory images frame) ++ saved_answer memory frame ∷ []
+answers memory images frame = image_answers memory frame (image_over memory images frame)
+    ++ saved_answer memory frame ∷ []
 
 -- the reader can't tell
 abbrev pub is_bad : Step → Bool
@@ -79,9 +86,12 @@ given_in answer = given_by answer.by answer.step
 
 -- the caller of a frame, by the first answer that isn't Bad
 unfoldable pub caller_in : Contents → List Listed → Frame → Option Given
-caller_in memory images frame = option_and_then given_in (find (λ answer. not (is_bad answer.step)) (answers memory images frame))
+caller_in memory images frame =
+    option_and_then given_in
+    (find (λ answer. not (is_bad answer.step)) (answers memory images frame))
 
--- a frame is listed where its pc is known and, without signature, above the first address behind the page at 0
+-- a frame is listed where its pc is known and, without signature, above the first address behind
+-- the page at 0
 abbrev pub is_listed : Frame → Bool
 is_listed frame = option_map_or (λ pc. nat_lt NULL_PAGE pc) (frame_pc frame) false
 
@@ -97,15 +107,18 @@ next_of memory images frame = listed (caller_in memory images frame)
 abbrev pub frames_from : Contents → List Listed → ℕ → Option Given → List Given
 frames_from memory images zero given = []
 frames_from memory images (suc left) None = []
-frames_from memory images (suc left) (Some given) = given ∷ frames_from memory images left (next_of memory images given.frame)
+frames_from memory images (suc left) (Some given) =
+    given ∷ frames_from memory images left (next_of memory images given.frame)
 
 -- the frame at which a thread in this state was stopped
 abbrev pub first_given : Registers → ℕ → Given
-first_given state bits = record { frame = record { registers = state; exact = true; bits = bits }; by = ThreadState }
+first_given state bits =
+    record { frame = record { registers = state; exact = true; bits = bits }; by = ThreadState }
 
 -- the frames of a thread in this state, under which so many low bits of an address of code count
 unfoldable pub frames_of : Contents → List Listed → Registers → ℕ → List Given
-frames_of memory images state bits = frames_from memory images MOST_FRAMES (Some (first_given state bits))
+frames_of memory images state bits =
+    frames_from memory images MOST_FRAMES (Some (first_given state bits))
 
 -- the address by which the function of a frame is looked up
 abbrev pub lookup_of : Option Given → Option ℕ

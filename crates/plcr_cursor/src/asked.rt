@@ -27,14 +27,16 @@ pub trait Asked {
     /// Puts the caller of a frame into room, by its image's compact unwind information.
     fn compact(&mut self, place: usize, image: &Image, frame: &Frame, room: &mut Frame) -> Outcome
         requires { IsSomeAnd (frame_lookup frame.now) (λ address. image.now.header ≤ address) }
-        ensures caller { step_in result room.new ≡ compact_frame (memory self.old) image.now frame.now }
+        ensures caller { step_in result room.new ≡ compact_frame (memory self.old) image.now
+            frame.now }
         ensures thread { IfFrame (step_in result room.new) (IsOfThread frame.now) }
         ensures same { memory self.new ≡ memory self.old };
 
     /// Puts it there by its image's call frame information.
     fn call_frame(&mut self, image: &Image, frame: &Frame, room: &mut Frame) -> Outcome
         requires { IsSome (frame_lookup frame.now) }
-        ensures caller { step_in result room.new ≡ call_frame (memory self.old) image.now frame.now }
+        ensures caller { step_in result room.new ≡ call_frame (memory self.old) image.now
+            frame.now }
         ensures thread { IfFrame (step_in result room.new) (IsOfThread frame.now) }
         ensures same { memory self.new ≡ memory self.old };
 

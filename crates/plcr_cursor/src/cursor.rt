@@ -52,7 +52,8 @@ impl Cursor {
         requires known { IsSome (register_at state.now (pc_place state.now.arch)) }
         requires bits { (32 ≤ bits) × (bits ≤ 64) }
         ensures start { result ≡ start state.now bits }
-        ensures frames { (memory : Contents) (images : List Listed) → coming memory images result ≡ frames_of memory images state.now bits }
+        ensures frames { (memory : Contents) (images : List Listed) →
+            coming memory images result ≡ frames_of memory images state.now bits }
     {
         let frame = Frame {
             registers: *state,
@@ -69,8 +70,10 @@ impl Cursor {
 
     // The image that has the address by which the function of the frame given last is looked up.
     fn over<A: Asked, I: Images>(&self, asked: &mut A, images: &mut I) -> Option<Located>
-        requires index { IsIndex (A.memory asked.old) (arch_of self.now) (I.images images.old) (I.extents images.old) }
-        ensures located { result ≡ located_last (A.memory asked.old) (I.images images.old) self.now }
+        requires index { IsIndex (A.memory asked.old) (arch_of self.now) (I.images images.old)
+            (I.extents images.old) }
+        ensures located { result ≡ located_last (A.memory asked.old) (I.images images.old)
+            self.now }
         ensures memory { A.memory asked.new ≡ A.memory asked.old }
         ensures same { I.images images.new ≡ I.images images.old }
         ensures index { I.extents images.new ≡ I.extents images.old }
@@ -85,10 +88,15 @@ impl Cursor {
 
     // The pc of the next frame, where this is the image of the one given last.
     fn advance<A: Asked>(&mut self, asked: &mut A, over: &Option<Located>) -> Option<u64>
-        requires { (images : List Listed) × (over.now ≡ located_last (A.memory asked.old) images self.old) }
-        ensures gives { (images : List Listed) → over.now ≡ located_last (A.memory asked.old) images self.old →
-            Gives (coming (A.memory asked.old) images self.old) (coming (A.memory asked.old) images self.new) (given_last self.old) (given_last self.new) result }
-        ensures ended { IfNone result ((memory : Contents) (images : List Listed) → coming memory images self.new ≡ []) }
+        requires { (images : List Listed)
+            × (over.now ≡ located_last (A.memory asked.old) images self.old) }
+        ensures gives { (images : List Listed) →
+            over.now ≡ located_last (A.memory asked.old) images self.old →
+            Gives (coming (A.memory asked.old) images self.old)
+            (coming (A.memory asked.old) images self.new) (given_last self.old)
+            (given_last self.new) result }
+        ensures ended { IfNone result ((memory : Contents) (images : List Listed) →
+            coming memory images self.new ≡ []) }
         ensures arch { arch_of self.new ≡ arch_of self.old }
         ensures memory { A.memory asked.new ≡ A.memory asked.old }
     {
@@ -113,9 +121,13 @@ impl Cursor {
     /// it is called with. The images have to be indexed for this memory and the thread's
     /// architecture.
     pub fn next<I: Images>(&mut self, memory: &Memory, images: &mut I) -> Option<u64>
-        requires index { IsIndex memory.now (arch_of self.old) (I.images images.old) (I.extents images.old) }
-        ensures gives { Gives (coming memory.now (I.images images.old) self.old) (coming memory.now (I.images images.old) self.new) (given_last self.old) (given_last self.new) result }
-        ensures ended { IfNone result ((memory : Contents) (images : List Listed) → coming memory images self.new ≡ []) }
+        requires index { IsIndex memory.now (arch_of self.old) (I.images images.old)
+            (I.extents images.old) }
+        ensures gives { Gives (coming memory.now (I.images images.old) self.old)
+            (coming memory.now (I.images images.old) self.new) (given_last self.old)
+            (given_last self.new) result }
+        ensures ended { IfNone result ((memory : Contents) (images : List Listed) →
+            coming memory images self.new ≡ []) }
         ensures arch { arch_of self.new ≡ arch_of self.old }
         ensures same { I.images images.new ≡ I.images images.old }
         ensures index { I.extents images.new ≡ I.extents images.old }
@@ -129,7 +141,8 @@ impl Cursor {
     /// The image that has the address by which the function of the frame given last is looked up:
     /// the first of the list. None before the first frame, and where no image has the address.
     pub fn locate<I: Images>(&self, known: &mut Known, images: &mut I) -> Option<Located>
-        requires index { IsIndex known.old (arch_of self.now) (I.images images.old) (I.extents images.old) }
+        requires index { IsIndex known.old (arch_of self.now) (I.images images.old)
+            (I.extents images.old) }
         ensures located { result ≡ located_last known.old (I.images images.old) self.now }
         ensures memory { known.new ≡ known.old }
         ensures same { I.images images.new ≡ I.images images.old }
@@ -142,10 +155,13 @@ impl Cursor {
     /// What `next` says, of a memory of which something may be kept, and where more of it is kept
     /// then. `over` is what `locate` gives of the frame given last, so that this is located once.
     pub fn next_over(&mut self, known: &mut Known, over: &Option<Located>) -> Option<u64>
-        requires located { (images : List Listed) × (over.now ≡ located_last known.old images self.old) }
+        requires located { (images : List Listed)
+            × (over.now ≡ located_last known.old images self.old) }
         ensures gives { (images : List Listed) → over.now ≡ located_last known.old images self.old →
-            Gives (coming known.old images self.old) (coming known.old images self.new) (given_last self.old) (given_last self.new) result }
-        ensures ended { IfNone result ((memory : Contents) (images : List Listed) → coming memory images self.new ≡ []) }
+            Gives (coming known.old images self.old) (coming known.old images self.new)
+            (given_last self.old) (given_last self.new) result }
+        ensures ended { IfNone result ((memory : Contents) (images : List Listed) →
+            coming memory images self.new ≡ []) }
         ensures arch { arch_of self.new ≡ arch_of self.old }
         ensures memory { known.new ≡ known.old }
     {
@@ -154,9 +170,13 @@ impl Cursor {
 
     /// What `next` says, of a memory of which something may be kept.
     pub fn next_with<I: Images>(&mut self, known: &mut Known, images: &mut I) -> Option<u64>
-        requires index { IsIndex known.old (arch_of self.old) (I.images images.old) (I.extents images.old) }
-        ensures gives { Gives (coming known.old (I.images images.old) self.old) (coming known.old (I.images images.old) self.new) (given_last self.old) (given_last self.new) result }
-        ensures ended { IfNone result ((memory : Contents) (images : List Listed) → coming memory images self.new ≡ []) }
+        requires index { IsIndex known.old (arch_of self.old) (I.images images.old)
+            (I.extents images.old) }
+        ensures gives { Gives (coming known.old (I.images images.old) self.old)
+            (coming known.old (I.images images.old) self.new) (given_last self.old)
+            (given_last self.new) result }
+        ensures ended { IfNone result ((memory : Contents) (images : List Listed) →
+            coming memory images self.new ≡ []) }
         ensures arch { arch_of self.new ≡ arch_of self.old }
         ensures memory { known.new ≡ known.old }
         ensures same { I.images images.new ≡ I.images images.old }

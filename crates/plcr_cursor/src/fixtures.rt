@@ -96,8 +96,8 @@ pub const COMPACT_BYTES: u32 = 92;
 // Call frame information, which lies at 0x10164. A common information entry, by which the canonical
 // frame address is rsp + 8 and the return address stands below it, and the functions at 0x400,
 // 0x500, 0x600 and 0x700: the canonical frame address of that at 0x600, of 0x80 bytes, is an
-// expression that goes back by its own length for ever, and the last has no return address; then the
-// same entry of signal frames, and the function at 0x780, of 0x80 bytes.
+// expression that goes back by its own length for ever, and the last has no return address; then
+// the same entry of signal frames, and the function at 0x780, of 0x80 bytes.
 const CALL_FRAMES: [u32; 45] = [
     16,
     0,

@@ -56,7 +56,8 @@ impl Told {
 
     /// What told the frame that stands in the room, where one does.
     pub fn giver(&self) -> Option<Reader>
-        ensures { (room : Frame) → option_map (given_as room) result ≡ given_in (answer_in self.now room) }
+        ensures { (room : Frame) →
+            option_map (given_as room) result ≡ given_in (answer_in self.now room) }
     {
         match self.outcome {
             Outcome::Caller => Some(self.by),

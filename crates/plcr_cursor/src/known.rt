@@ -80,7 +80,8 @@ impl<'m> Model for Known<'m> {
 
     ghost view = { λ k. k.memory.now };
 
-    ghost invariant = { λ k. All (Holds k.memory.now) k.images × (k.sections ≡ k.memory.now) × (k.descriptions ≡ k.memory.now) };
+    ghost invariant = { λ k. All (Holds k.memory.now) k.images × (k.sections ≡ k.memory.now)
+        × (k.descriptions ≡ k.memory.now) };
 }
 
 impl<'m> Known<'m> {

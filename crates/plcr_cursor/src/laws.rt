@@ -11,6 +11,7 @@ ghost use Rattle.plcr_cursor.specs.Frames.{frames_of};
 pub fn frames_lead()
     ensures lead { (memory : Contents) (images : List Listed) (state : Registers) (bits : ℕ) →
         AreFrames memory images state bits (frames_of memory images state bits) }
-    ensures only { (memory : Contents) (images : List Listed) (state : Registers) (bits : ℕ) (frames : List Given) →
+    ensures only { (memory : Contents) (images : List Listed) (state : Registers) (bits : ℕ)
+        (frames : List Given) →
         AreFrames memory images state bits frames → frames ≡ frames_of memory images state bits }
 {}

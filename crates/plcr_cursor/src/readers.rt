@@ -21,7 +21,8 @@ pub fn locate_over<A: Asked, I: Images>(
     images: &mut I,
     frame: &Frame,
 ) -> Option<Located>
-    requires { IsIndex (A.memory asked.old) frame.now.registers.arch (I.images images.old) (I.extents images.old) }
+    requires { IsIndex (A.memory asked.old) frame.now.registers.arch (I.images images.old)
+        (I.extents images.old) }
     ensures located { result ≡ located_over (A.memory asked.old) (I.images images.old) frame.now }
     ensures memory { A.memory asked.new ≡ A.memory asked.old }
     ensures same { I.images images.new ≡ I.images images.old }
@@ -46,7 +47,9 @@ fn by_tables<A: Asked>(
     room: &mut Frame,
 ) -> Told
     requires { IsSomeAnd (frame_lookup frame.now) (λ address. image.now.header ≤ address) }
-    ensures answer { answer_in result room.new ≡ or_next (compact_answer (A.memory asked.old) frame.now image.now) (call_frame_answer (A.memory asked.old) frame.now image.now) }
+    ensures answer { answer_in result room.new
+        ≡ or_next (compact_answer (A.memory asked.old) frame.now image.now)
+        (call_frame_answer (A.memory asked.old) frame.now image.now) }
     ensures memory { A.memory asked.new ≡ A.memory asked.old }
     ensures thread { IfFrame (step_in result.outcome room.new) (IsOfThread frame.now) }
 {
@@ -77,7 +80,8 @@ fn by_saved_frame<A: Asked>(asked: &mut A, frame: &Frame, room: &mut Frame) -> T
 // The answer that counts, where this is the image.
 fn answer<A: Asked>(asked: &mut A, over: &Option<Located>, frame: &Frame, room: &mut Frame) -> Told
     requires { IsBelow frame.now over.now }
-    ensures answer { answer_in result room.new ≡ answer_by (A.memory asked.old) frame.now (image_in over.now) }
+    ensures answer { answer_in result room.new ≡ answer_by (A.memory asked.old) frame.now
+        (image_in over.now) }
     ensures thread { IfFrame (step_in result.outcome room.new) (IsOfThread frame.now) }
     ensures memory { A.memory asked.new ≡ A.memory asked.old }
 {
@@ -102,7 +106,8 @@ fn caller<A: Asked>(
     room: &mut Frame,
 ) -> Option<Reader>
     requires { IsBelow frame.now over.now }
-    ensures caller { (images : List Listed) → over.now ≡ located_over (A.memory asked.old) images frame.now →
+    ensures caller { (images : List Listed) →
+        over.now ≡ located_over (A.memory asked.old) images frame.now →
         option_map (given_as room.new) result ≡ caller_in (A.memory asked.old) images frame.now }
     ensures thread { IfSome result (λ _. IsOfThread frame.now room.new) }
     ensures memory { A.memory asked.new ≡ A.memory asked.old }
@@ -120,7 +125,8 @@ pub fn next_frame<A: Asked>(
     room: &mut Frame,
 ) -> Option<Reader>
     requires { IsBelow frame.now over.now }
-    ensures next { (images : List Listed) → over.now ≡ located_over (A.memory asked.old) images frame.now →
+    ensures next { (images : List Listed) →
+        over.now ≡ located_over (A.memory asked.old) images frame.now →
         option_map (given_as room.new) result ≡ next_of (A.memory asked.old) images frame.now }
     ensures thread { IfSome result (λ _. IsOfThread frame.now room.new) }
     ensures known { IfSome result (λ _. IsSome (frame_pc room.new)) }

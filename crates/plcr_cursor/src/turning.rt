@@ -59,7 +59,8 @@ impl Turning {
     /// by which the frame's function is looked up. Gives what told the next.
     pub fn turn<A: Asked>(&mut self, asked: &mut A, over: &Option<Located>) -> Option<Reader>
         requires { IsBelow self.old over.now }
-        ensures next { (images : List Listed) → over.now ≡ located_over (A.memory asked.old) images self.old →
+        ensures next { (images : List Listed) →
+            over.now ≡ located_over (A.memory asked.old) images self.old →
             option_map (given_as self.new) result ≡ next_of (A.memory asked.old) images self.old }
         ensures stays { IfNone result (self.new ≡ self.old) }
         ensures thread { IfSome result (λ _. IsOfThread self.old self.new) }

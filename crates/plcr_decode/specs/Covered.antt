@@ -9,8 +9,10 @@ use Rattle.plcr_decode.specs.Scan.{scan}
 -- the bytes are those of these fields, one after the other, and nothing else
 abbrev pub AreFieldsOf : List Field → List ℕ → Type 0
 AreFieldsOf [] bytes = bytes ≡ []
-AreFieldsOf (f ∷ fs) bytes = (rest : List ℕ) × (field_at (length bytes) bytes ≡ Ok (f, rest)) × AreFieldsOf fs rest
+AreFieldsOf (f ∷ fs) bytes = (rest : List ℕ) × (field_at (length bytes) bytes ≡ Ok (f, rest))
+    × AreFieldsOf fs rest
 
 -- where a message has no fault in reading order, its fields are all its bytes
 abbrev pub FieldsCover : Type 0
-FieldsCover = (kind : Kind) (end : ℕ) (bytes : List ℕ) → scan kind end bytes ≡ Ok tt → AreFieldsOf (fields_of bytes) bytes
+FieldsCover = (kind : Kind) (end : ℕ) (bytes : List ℕ) → scan kind end bytes ≡ Ok tt →
+    AreFieldsOf (fields_of bytes) bytes

@@ -1,4 +1,5 @@
--- How a fault of a report is written: its name in lower case, then its message and its numbers in decimal, separated by spaces.
+-- How a fault of a report is written: its name in lower case, then its message and its numbers in
+-- decimal, separated by spaces.
 use Rattle.std.specs.Prelude.{ℕ, List, ◌++◌, codes, decimal}
 use Rattle.plcr_report.specs.declared.kinds.Kind.{Kind}
 use Rattle.plcr_report.specs.declared.kinds.Kind.TheVariants as kinds
@@ -27,5 +28,6 @@ fault_text (Truncated at) = codes "truncated " ++ decimal at
 fault_text (BadVarint at) = codes "badvarint " ++ decimal at
 fault_text (BadTag at) = codes "badtag " ++ decimal at
 fault_text (WrongWire field at) = codes "wrongwire " ++ decimal field ++ codes " " ++ decimal at
-fault_text (Missing message field) = codes "missing " ++ kind_text message ++ codes " " ++ decimal field
+fault_text (Missing message field) =
+    codes "missing " ++ kind_text message ++ codes " " ++ decimal field
 fault_text Memory = codes "memory"

@@ -1,4 +1,5 @@
--- A message as the whole list of its fields, and what stands in it (Protocol Buffers documentation, "Encoding").
+-- A message as the whole list of its fields, and what stands in it (Protocol Buffers documentation,
+-- "Encoding").
 use Rattle.std.specs.Prelude.{ℕ, zero, suc, ◌==◌, Bool, true, false, List, [], ◌∷◌, ◌++◌, length, Option, Some, None, Result, Ok, Err, if◌then◌else◌}
 use Rattle.plcr_wire.specs.Message.{Value, Number, Fixed64, Bytes, Fixed32, Field, value_bytes}
 use Rattle.plcr_wire.specs.Reading.{field_at}
@@ -21,7 +22,8 @@ fields_of bytes = fields_within (length bytes) bytes
 -- the messages that stand in the fields of this number, each as its own fields
 abbrev pub messages_in : ℕ → List Field → List (List Field)
 messages_in n [] = []
-messages_in n (f ∷ fs) = if f.number == n then fields_of (value_bytes f.value) ∷ messages_in n fs else messages_in n fs
+messages_in n (f ∷ fs) = if f.number == n then fields_of (value_bytes f.value) ∷ messages_in n fs
+    else messages_in n fs
 
 -- lists of fields, one after the other
 abbrev pub together : List (List Field) → List Field

@@ -1,4 +1,5 @@
--- The report that the bytes of a file spell, or their first fault (PLCrashReporter's crash_report.proto; Protocol Buffers documentation, "Encoding").
+-- The report that the bytes of a file spell, or their first fault (PLCrashReporter's
+-- crash_report.proto; Protocol Buffers documentation, "Encoding").
 use Rattle.std.specs.Prelude.{ℕ, ◌==◌, List, [], ◌∷◌, length, Result, Ok, Err, if◌then◌else◌}
 use Rattle.plcr_base.specs.Chains.{◌>>=◌}
 use Rattle.plcr_report.specs.declared.kinds.Kind.TheVariants as kinds
@@ -24,4 +25,6 @@ root_of bytes = behind magic (length bytes) bytes
 
 -- first the faults of its bytes in reading order, then the first field that lacks, then the report
 unfoldable pub reads : List ℕ → Result Report DecodeFault
-reads bytes = root_of bytes >>= λ root. (scan kinds.Root (length bytes) root >>= λ u. (whole kinds.Root (fields_of root) >>= λ u. Ok (report_of (fields_of root))))
+reads bytes = root_of bytes >>= λ root.
+    (scan kinds.Root (length bytes) root >>= λ u.
+    (whole kinds.Root (fields_of root) >>= λ u. Ok (report_of (fields_of root))))

@@ -1,4 +1,5 @@
--- The first fault of a message's bytes, in reading order, with each known submessage read where it stands.
+-- The first fault of a message's bytes, in reading order, with each known submessage read where it
+-- stands.
 use Rattle.std.specs.Prelude.{◌≡◌, ◌<◌, ℕ, zero, suc, ◌-◌, ◌==◌, Bool, true, List, [], ◌∷◌, length, Option, Some, None, Result, Ok, Err, if◌then◌else◌}
 use Rattle.plcr_wire.specs.Message.{Value, wire_type, value_bytes}
 use Rattle.plcr_base.specs.Chains.{◌>>=◌}
@@ -35,7 +36,8 @@ abbrev pub fits : Option Holds → Value → Bool
 fits None v = true
 fits (Some h) v = wire_of h == wire_type v
 
--- What is read after a field's own bytes: first the message in it, then the rest of the message around it.
+-- What is read after a field's own bytes: first the message in it, then the rest of the message
+-- around it.
 pub record Step : Type 0 where
   pub kind : Kind
   pub text : List ℕ
@@ -46,9 +48,11 @@ abbrev pub inside : Kind → Option Holds → Value → List ℕ → Step
 inside kind None v rest = record { kind = kind; text = []; rest = rest }
 inside kind (Some holds.Number) v rest = record { kind = kind; text = []; rest = rest }
 inside kind (Some holds.Text) v rest = record { kind = kind; text = []; rest = rest }
-inside kind (Some (holds.Message inner)) v rest = record { kind = inner; text = value_bytes v; rest = rest }
+inside kind (Some (holds.Message inner)) v rest =
+    record { kind = inner; text = value_bytes v; rest = rest }
 
--- the field that a message's bytes begin with, and what is read after it; its wire type is tested last
+-- the field that a message's bytes begin with, and what is read after it; its wire type is tested
+-- last
 unfoldable pub step_at : Kind → ℕ → List ℕ → Result Step DecodeFault
 step_at kind end bytes = lifted (field_at end bytes) >>= λ f.
     (if fits (rule kind f.0.number) f.0.value
@@ -65,8 +69,11 @@ scan_within (suc k) kind end (b ∷ bs) = step_at kind end (b ∷ bs) >>= λ s.
 unfoldable pub scan : Kind → ℕ → List ℕ → Result (Unit {0}) DecodeFault
 scan kind end bytes = scan_within (length bytes) kind end bytes
 
--- a message's scan by the scans of its parts: its first field, the message within that, and what is left; no part of it is cut off
+-- a message's scan by the scans of its parts: its first field, the message within that, and what is
+-- left; no part of it is cut off
 pub record ScanByParts : Type 0 where
   pub none : (kind : Kind) (end : ℕ) → scan kind end [] ≡ Ok tt
   pub step : (kind : Kind) (end : ℕ) (bytes : List ℕ) → 0 < length bytes
-      → scan kind end bytes ≡ (step_at kind end bytes >>= λ s. (scan s.kind (end - length s.rest) s.text >>= λ u. scan kind end s.rest))
+      → scan kind end bytes
+      ≡ (step_at kind end bytes >>= λ s.
+      (scan s.kind (end - length s.rest) s.text >>= λ u. scan kind end s.rest))

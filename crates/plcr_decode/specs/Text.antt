@@ -67,14 +67,16 @@ abbrev pub version_line : List ℕ
 version_line = line (codes "report") (decimal version ∷ [])
 
 abbrev pub system_line : System → List ℕ
-system_line s = line (codes "system") (decimal s.operating_system ∷ shown s.os_version ∷ decimal s.architecture ∷ signed_decimal s.timestamp ∷ [])
+system_line s = line (codes "system") (decimal s.operating_system ∷ shown s.os_version
+    ∷ decimal s.architecture ∷ signed_decimal s.timestamp ∷ [])
 
 abbrev pub application_line : Application → List ℕ
 application_line a = line (codes "application") (shown a.identifier ∷ shown a.version ∷ [])
 
 abbrev pub frame_line : ℕ → ℕ → Option Symbol → List ℕ
 frame_line n pc None = line (codes "frame") (decimal n ∷ address pc ∷ [])
-frame_line n pc (Some s) = line (codes "frame") (decimal n ∷ address pc ∷ shown s.name ∷ address s.start_address ∷ [])
+frame_line n pc (Some s) =
+    line (codes "frame") (decimal n ∷ address pc ∷ shown s.name ∷ address s.start_address ∷ [])
 
 abbrev pub register_line : Register → List ℕ
 register_line r = line (codes "register") (shown r.name ∷ address r.value ∷ [])
@@ -85,7 +87,9 @@ thread_line n false = line (codes "thread") (decimal n ∷ [])
 thread_line n true = line (codes "thread") (decimal n ∷ codes "crashed" ∷ [])
 
 unfoldable pub thread_text : Thread → List ℕ
-thread_text t = thread_line t.thread_number t.crashed ++ (all_from (λ n f. frame_line n f.pc f.symbol) 0 t.frames ++ all_from (λ n r. register_line r) 0 t.registers)
+thread_text t = thread_line t.thread_number t.crashed
+    ++ (all_from (λ n f. frame_line n f.pc f.symbol) 0 t.frames ++ all_from (λ n r. register_line r)
+    0 t.registers)
 
 -- the type and subtype of an image's processor
 abbrev pub code_words : Option Processor → List (List ℕ)
@@ -93,14 +97,17 @@ code_words None = codes "-" ∷ codes "-" ∷ []
 code_words (Some p) = decimal p.cpu ∷ decimal p.subtype ∷ []
 
 abbrev pub image_line : Image → List ℕ
-image_line i = line (codes "image") (address i.base_address ∷ decimal i.size ∷ shown i.name ∷ or_dash bytes_text i.uuid ∷ code_words i.code_type)
+image_line i = line (codes "image") (address i.base_address ∷ decimal i.size ∷ shown i.name
+    ∷ or_dash bytes_text i.uuid ∷ code_words i.code_type)
 
 abbrev pub signal_line : Signal → List ℕ
 signal_line s = line (codes "signal") (shown s.name ∷ shown s.code ∷ address s.address ∷ [])
 
 abbrev pub process_line : Option Process → List ℕ
 process_line None = []
-process_line (Some p) = line (codes "process") (or_dash shown p.name ∷ decimal p.id ∷ decimal p.parent_id ∷ flag p.native ∷ [])
+process_line (Some p) =
+    line (codes "process") (or_dash shown p.name ∷ decimal p.id ∷ decimal p.parent_id
+    ∷ flag p.native ∷ [])
 
 abbrev pub info_line : Option Info → List ℕ
 info_line None = []
@@ -109,5 +116,7 @@ info_line (Some i) = line (codes "info") (flag i.user_requested ∷ [])
 -- the text of a report: its version, and then each part that is there, in the order of its fields
 unfoldable pub text_of : Report → List ℕ
 text_of r =
-    version_line ++ (system_line r.system_info ++ (application_line r.application_info ++ (all_from (λ n t. thread_text t) 0 r.threads
-    ++ (all_from (λ n i. image_line i) 0 r.binary_images ++ (signal_line r.signal ++ (process_line r.process_info ++ info_line r.report_info))))))
+    version_line ++ (system_line r.system_info
+    ++ (application_line r.application_info ++ (all_from (λ n t. thread_text t) 0 r.threads
+    ++ (all_from (λ n i. image_line i) 0 r.binary_images
+    ++ (signal_line r.signal ++ (process_line r.process_info ++ info_line r.report_info))))))

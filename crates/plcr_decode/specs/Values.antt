@@ -1,4 +1,5 @@
--- The value of a message that has all that it has to have: what a field that lacks would be is never asked.
+-- The value of a message that has all that it has to have: what a field that lacks would be is
+-- never asked.
 use Rattle.std.specs.Prelude.{ℕ, ◌%◌, ◌^◌, ◌==◌, Bool, true, false, not, List, map, Option, Some, None}
 use Rattle.std.specs.Int.{w64, cast_signed}
 use Rattle.plcr_wire.specs.Message.{Field}
@@ -41,7 +42,11 @@ abbrev pub one_in : {A : Type 0} → (List Field → A) → ℕ → List Field �
 one_in value n fs = where_there (has n fs) (value (joined n fs))
 
 unfoldable pub symbol_of : List Field → Symbol
-symbol_of fs = record { name = text 1 fs; start_address = number 2 fs; end_address = number_in 3 fs }
+symbol_of fs = record {
+  name = text 1 fs;
+  start_address = number 2 fs;
+  end_address = number_in 3 fs;
+}
 
 unfoldable pub frame_of : List Field → Frame
 frame_of fs = record { pc = number 3 fs; symbol = one_in symbol_of 6 fs }

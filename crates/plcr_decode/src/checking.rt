@@ -59,9 +59,11 @@ fn pass(seen: &mut Seen, kind: Kind, bytes: &[u8], end: usize) -> Result<(), Dec
 fn take(marks: &mut Marks, kind: Kind, step: Step<'_>, end: usize) -> Result<(), DecodeFault>
     requires within { value_slice_len step.piece.value ≤ end }
     requires known { step.holds ≡ rule kind step.piece.number }
-    ensures exact { result ≡ spec.scan (step_view kind step.entry).kind end (step_view kind step.entry).text }
+    ensures exact { result ≡ spec.scan (step_view kind step.entry).kind end
+        (step_view kind step.entry).text }
     ensures real { IfErr result (λ e. e ≢ DecodeFault.Memory) }
-    ensures marks { IfOk result (λ u. Takes kind (field_slice step.entry.piece).0 marks.old marks.new) }
+    ensures marks { IfOk result
+        (λ u. Takes kind (field_slice step.entry.piece).0 marks.old marks.new) }
 {
     marks.fields.note(step.piece.number);
     match step.holds {
@@ -95,8 +97,10 @@ fn take_message(
     ensures exact { result ≡ spec.scan kind end text.now }
     ensures real { IfErr result (λ e. e ≢ DecodeFault.Memory) }
     ensures fields { marks.new.fields ≡ marks.old.fields }
-    ensures others { IfOk result (λ u. (n : ℕ) → n < NUMBERS → n ≢ number → (part marks.new n ≡ part marks.old n) × (lack marks.new n ≡ lack marks.old n)) }
-    ensures here { IfOk result (λ u. MessageTakes (view.is_joined kind) kind number text.now marks.old marks.new) }
+    ensures others { IfOk result (λ u. (n : ℕ) → n < NUMBERS → n ≢ number →
+        (part marks.new n ≡ part marks.old n) × (lack marks.new n ≡ lack marks.old n)) }
+    ensures here { IfOk result
+        (λ u. MessageTakes (view.is_joined kind) kind number text.now marks.old marks.new) }
 {
     let place = number as usize;
     if is_joined(kind) {
@@ -133,7 +137,8 @@ fn pass_field<'a>(
     ensures fault { IfErr result (λ e. spec.scan kind end bytes.now ≡ Err e) }
     ensures real { IfErr result (λ e. e ≢ DecodeFault.Memory) }
     ensures more { IfOk result (λ p. spec.scan kind end bytes.now ≡ spec.scan kind end p.rest.now) }
-    ensures field { IfOk result (λ p. fields_of bytes.now ≡ (field_slice p).0 ∷ fields_of p.rest.now) }
+    ensures field { IfOk result (λ p. fields_of bytes.now ≡ (field_slice p).0
+        ∷ fields_of p.rest.now) }
     ensures shorter { IfOk result (λ p. length p.rest.now < length bytes.now) }
     ensures marks { IfOk result (λ p. Takes kind (field_slice p).0 marks.old marks.new) }
 {
@@ -166,7 +171,9 @@ fn check(kind: Kind, bytes: &[u8], end: usize) -> Result<Option<Lack>, DecodeFau
 /// fields have: of each number the last value and how many there are.
 pub(crate) fn check_root<'a>(bytes: &'a [u8], end: usize) -> Result<Found<'a>, DecodeFault>
     requires { length bytes.now ≤ end }
-    ensures fault { IfErr result (λ e. before (spec.scan kinds.Root end bytes.now) (whole kinds.Root (fields_of bytes.now)) ≡ Err e) }
+    ensures fault { IfErr result
+        (λ e. before (spec.scan kinds.Root end bytes.now) (whole kinds.Root (fields_of bytes.now))
+        ≡ Err e) }
     ensures real { IfErr result (λ e. e ≢ DecodeFault.Memory) }
     ensures none { IfOk result (λ f. spec.scan kinds.Root end bytes.now ≡ Ok tt) }
     ensures whole { IfOk result (λ f. whole kinds.Root (fields_of bytes.now) ≡ Ok tt) }

@@ -23,8 +23,10 @@ pub(crate) struct Fields<'a> {
 #[inline(always)]
 #[tactic(auto, using(crate::proofs::Listed::fields_step))]
 pub(crate) fn first(bytes: &[u8]) -> Option<FieldSlice<'_>>
-    ensures first { MatchOption result (fields_of bytes.now ≡ []) (λ p. fields_of bytes.now ≡ (field_slice p).0 ∷ fields_of p.rest.now) }
-    ensures shorter { IfSome result (λ p. value_slice_len p.value + length p.rest.now < length bytes.now) }
+    ensures first { MatchOption result (fields_of bytes.now ≡ [])
+        (λ p. fields_of bytes.now ≡ (field_slice p).0 ∷ fields_of p.rest.now) }
+    ensures shorter { IfSome result (λ p. value_slice_len p.value + length p.rest.now
+        < length bytes.now) }
 {
     match field_of(bytes, bytes.len()) {
         Ok(piece) => Some(piece),
@@ -35,7 +37,8 @@ pub(crate) fn first(bytes: &[u8]) -> Option<FieldSlice<'_>>
 /// What stands in a field, if it is of this number.
 #[inline(always)]
 fn part_of<'a>(piece: FieldSlice<'a>, number: u32) -> &'a [u8]
-    ensures part { result.now ≡ (if piece.entry.number == number then value_bytes (value_slice piece.entry.value) else []) }
+    ensures part { result.now ≡ (if piece.entry.number == number
+        then value_bytes (value_slice piece.entry.value) else []) }
     ensures within { length result.now ≤ value_slice_len piece.entry.value }
 {
     if piece.number == number {
@@ -90,7 +93,8 @@ impl<'a> Fields<'a> {
     /// The next field.
     #[inline(always)]
     pub(crate) fn next(&mut self) -> Option<FieldSlice<'a>>
-        ensures next { MatchOption result (left self.old ≡ []) (λ p. left self.old ≡ (field_slice p).0 ∷ left self.new) }
+        ensures next { MatchOption result (left self.old ≡ [])
+            (λ p. left self.old ≡ (field_slice p).0 ∷ left self.new) }
         ensures smaller { IfSome result (λ p. size self.new < size self.old) }
     {
         loop {

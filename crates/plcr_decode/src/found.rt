@@ -70,7 +70,9 @@ pub(crate) fn keep_none<'a>() -> [Kept<'a>; NUMBERS]
 #[tactic(auto, using(crate::proofs::Kept::kept_new, crate::proofs::Kept::kept_same))]
 pub(crate) fn keep<'a>(kept: &mut [Kept<'a>; NUMBERS], piece: FieldSlice<'a>)
     requires { (n : ℕ) → n < NUMBERS → (under kept.old n).count < 2 ^ 64 - 1 }
-    ensures { (n : ℕ) → n < NUMBERS → under kept.new n ≡ (if piece.entry.number == n then again (under kept.old n) piece.entry.value else under kept.old n) }
+    ensures { (n : ℕ) → n < NUMBERS →
+        under kept.new n ≡ (if piece.entry.number == n
+        then again (under kept.old n) piece.entry.value else under kept.old n) }
 {
     let number = piece.number as usize;
     if number < NUMBERS {

@@ -155,7 +155,8 @@ fn put_bytes<W: Ink>(ink: &mut W, bytes: &[u8])
 }
 
 fn put_hex_bytes<W: Ink>(ink: &mut W, bytes: &[u8])
-    ensures { Wrote (W.pen ink.old) (W.pen ink.new) (spec.all_from (λ n b. spec.hex 2 b) 0 bytes.now) }
+    ensures { Wrote (W.pen ink.old) (W.pen ink.new)
+        (spec.all_from (λ n b. spec.hex 2 b) 0 bytes.now) }
 {
     for i in 0..bytes.len() {
         ink.raw(&hex_pair(bytes[i]));
@@ -191,7 +192,8 @@ impl<'a> Written for Word<'a> {
 /// Writes what follows the first word of a line: the others, a space before each, and a newline.
 #[tactic(auto, using(plcr_wire::proofs::Writing::wrote_twice))]
 fn put_words<W: Ink>(ink: &mut W, words: &[Word<'_>])
-    ensures { Wrote (W.pen ink.old) (W.pen ink.new) (spec.all_from (λ n word. codes " " ++ word) 0 (map word_text words.now) ++ codes "\n") }
+    ensures { Wrote (W.pen ink.old) (W.pen ink.new)
+        (spec.all_from (λ n word. codes " " ++ word) 0 (map word_text words.now) ++ codes "\n") }
 {
     put_each(ink, words);
     ink.raw(b"\n");
@@ -201,7 +203,8 @@ fn put_words<W: Ink>(ink: &mut W, words: &[Word<'_>])
 #[inline(always)]
 #[tactic(auto, using(plcr_wire::proofs::Writing::wrote_twice))]
 pub(crate) fn put_line<W: Ink>(ink: &mut W, first: &[u8], words: &[Word<'_>])
-    ensures { Wrote (W.pen ink.old) (W.pen ink.new) (spec.line first.now (map word_text words.now)) }
+    ensures { Wrote (W.pen ink.old) (W.pen ink.new)
+        (spec.line first.now (map word_text words.now)) }
 {
     ink.raw(first);
     put_words(ink, words);

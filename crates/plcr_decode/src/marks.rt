@@ -51,7 +51,8 @@ impl Seen {
     #[inline(always)]
     #[tactic(auto, using(crate::proofs::Marked::seen_new, crate::proofs::Marked::seen_same))]
     pub(crate) fn note(&mut self, number: u32)
-        ensures { (n : ℕ) → n < NUMBERS → seen self.new n ≡ (if number == n then true else seen self.old n) }
+        ensures { (n : ℕ) → n < NUMBERS →
+            seen self.new n ≡ (if number == n then true else seen self.old n) }
     {
         let place = number as usize;
         if place < NUMBERS {
@@ -146,7 +147,8 @@ impl Marks {
     #[inline(always)]
     fn lack_in(&self, entry: Entry) -> Option<Lack>
         requires { Small (row_of entry) }
-        ensures { told_lack result ≡ held_by self.now (row_of entry).holds (row_of entry).label (row_of entry).number }
+        ensures { told_lack result ≡ held_by self.now (row_of entry).holds (row_of entry).label
+            (row_of entry).number }
     {
         match entry {
             Entry::Required(number, Holds::Message(kind)) => self.lack_joined(number, kind),

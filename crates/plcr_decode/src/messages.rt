@@ -60,9 +60,12 @@ fn build_row<T: Row + Drop>(
     number: u32,
     piece: FieldSlice<'_>,
 ) -> Result<(), AllocError>
-    requires { vec_len rows.old + length (messages_in number ((field_slice piece).0 ∷ [])) ≤ vec_capacity rows.old }
-    ensures rows { IfOk result (λ u. rows.new.items ≡ rows.old.items ++ map T.value (messages_in number ((field_slice piece.entry).0 ∷ []))) }
-    ensures len { IfOk result (λ u. vec_len rows.new ≡ vec_len rows.old + length (messages_in number ((field_slice piece.entry).0 ∷ []))) }
+    requires { vec_len rows.old + length (messages_in number ((field_slice piece).0 ∷ []))
+        ≤ vec_capacity rows.old }
+    ensures rows { IfOk result (λ u. rows.new.items ≡ rows.old.items
+        ++ map T.value (messages_in number ((field_slice piece.entry).0 ∷ []))) }
+    ensures len { IfOk result (λ u. vec_len rows.new
+        ≡ vec_len rows.old + length (messages_in number ((field_slice piece.entry).0 ∷ []))) }
     ensures room { IfOk result (λ u. vec_capacity rows.new ≡ vec_capacity rows.old) }
 {
     if piece.number == number {
@@ -83,8 +86,10 @@ fn build_each<A: Row + Drop, B: Row + Drop>(
 ) -> Result<(Rows<A>, Rows<B>), AllocError>
     requires first { counts.0 ≡ length (messages_in numbers.0 (fields_of bytes.now)) }
     requires second { counts.1 ≡ length (messages_in numbers.1 (fields_of bytes.now)) }
-    ensures first { IfOk result (λ r. r.0 ≡ map A.value (messages_in numbers.0 (fields_of bytes.now))) }
-    ensures second { IfOk result (λ r. r.1 ≡ map B.value (messages_in numbers.1 (fields_of bytes.now))) }
+    ensures first { IfOk result
+        (λ r. r.0 ≡ map A.value (messages_in numbers.0 (fields_of bytes.now))) }
+    ensures second { IfOk result
+        (λ r. r.1 ≡ map B.value (messages_in numbers.1 (fields_of bytes.now))) }
 {
     let mut ones = Vec::with_capacity(alloc, counts.0)?;
     let mut others = Vec::with_capacity(alloc, counts.1)?;
@@ -107,8 +112,10 @@ pub(crate) fn build_rows<A: Row + Drop, B: Row + Drop>(
 ) -> Result<(Rows<A>, Rows<B>), AllocError>
     requires within { (numbers.0 < NUMBERS) × (numbers.1 < NUMBERS) }
     requires whole { found.now ≡ fields_of bytes.now }
-    ensures first { IfOk result (λ r. r.0 ≡ map A.value (messages_in numbers.0 (fields_of bytes.now))) }
-    ensures second { IfOk result (λ r. r.1 ≡ map B.value (messages_in numbers.1 (fields_of bytes.now))) }
+    ensures first { IfOk result
+        (λ r. r.0 ≡ map A.value (messages_in numbers.0 (fields_of bytes.now))) }
+    ensures second { IfOk result
+        (λ r. r.1 ≡ map B.value (messages_in numbers.1 (fields_of bytes.now))) }
 {
     let counts = (found.count(numbers.0), found.count(numbers.1));
     if counts.0 == 0 && counts.1 == 0 {

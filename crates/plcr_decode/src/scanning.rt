@@ -50,8 +50,10 @@ pub(crate) fn text_of(value: ValueSlice<'_>) -> &[u8]
 fn piece_of(bytes: &[u8], end: usize) -> Result<FieldSlice<'_>, DecodeFault>
     requires { length bytes.now ≤ end }
     ensures reads { Returns field_slice result (spec.lifted (field_at end bytes.now)) }
-    ensures field { IfOk result (λ p. fields_of bytes.now ≡ (field_slice p).0 ∷ fields_of p.rest.now) }
-    ensures shorter { IfOk result (λ p. value_slice_len p.value + length p.rest.now < length bytes.now) }
+    ensures field { IfOk result (λ p. fields_of bytes.now ≡ (field_slice p).0
+        ∷ fields_of p.rest.now) }
+    ensures shorter { IfOk result (λ p. value_slice_len p.value + length p.rest.now
+        < length bytes.now) }
     ensures real { IfErr result (λ e. e ≢ DecodeFault.Memory) }
 {
     match field_of(bytes, end) {
@@ -67,8 +69,10 @@ pub(crate) fn step_of(kind: Kind, bytes: &[u8], end: usize) -> Result<Step<'_>, 
     requires { length bytes.now ≤ end }
     ensures reads { Returns (step_view kind) result (spec.step_at kind end bytes.now) }
     ensures known { IfOk result (λ s. s.holds ≡ rule kind s.piece.number) }
-    ensures field { IfOk result (λ s. fields_of bytes.now ≡ (field_slice s.piece).0 ∷ fields_of s.piece.rest.now) }
-    ensures shorter { IfOk result (λ s. value_slice_len s.piece.value + length s.piece.rest.now < length bytes.now) }
+    ensures field { IfOk result (λ s. fields_of bytes.now ≡ (field_slice s.piece).0
+        ∷ fields_of s.piece.rest.now) }
+    ensures shorter { IfOk result (λ s. value_slice_len s.piece.value + length s.piece.rest.now
+        < length bytes.now) }
     ensures real { IfErr result (λ e. e ≢ DecodeFault.Memory) }
 {
     let piece = piece_of(bytes, end)?;

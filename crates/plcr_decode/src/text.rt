@@ -200,8 +200,10 @@ fn put_report<W: Ink>(ink: &mut W, report: &Report)
 ///
 /// `PutFailed` where the sink didn't take the whole text. A front of it was then written.
 pub fn write_text<K: Sink>(report: &Report, sink: &mut K) -> Result<(), PutFailed>
-    ensures written { OnOk result (K.written sink.new ≡ append_known (K.written sink.old) (text_of report.now)) }
-    ensures err { OnErr result (AppendsProperFront (K.written sink.old) (K.written sink.new) (text_of report.now)) }
+    ensures written { OnOk result
+        (K.written sink.new ≡ append_known (K.written sink.old) (text_of report.now)) }
+    ensures err { OnErr result
+        (AppendsProperFront (K.written sink.old) (K.written sink.new) (text_of report.now)) }
     ensures cause { OnErr result (Rose (K.faults sink.old) (K.faults sink.new)) }
     ensures later { K.faults sink.old ≤ K.faults sink.new }
     ensures mark { K.mark sink.new ≡ K.mark sink.old }

@@ -1,4 +1,5 @@
--- The caller by a row: DWARF 4, section 6.4.4; which registers a function keeps say the ABI supplements of both architectures.
+-- The caller by a row: DWARF 4, section 6.4.4; which registers a function keeps say the ABI
+-- supplements of both architectures.
 use Rattle.std.specs.Prelude.{ℕ, ◌+◌, ◌%◌, ◌^◌, ◌==◌, nat_lt, Bool, true, false, if◌then◌else◌, List, [], ◌∷◌, length, slice_set, Option, Some, None, ok_or, unwrap_or, Result, Ok, Err}
 use Rattle.plcr_base.specs.Chains.{◌>>=◌}
 use Rattle.plcr_memory.specs.Regions.{Contents, number_at}
@@ -39,9 +40,11 @@ abbrev pub expressed : Result ℕ ExprFault → Result ℕ CallFrameFault
 expressed (Ok value) = Ok value
 expressed (Err fault) = Err (faults.Expression fault)
 
--- the value of an expression over the present registers, with a value on the stack where one is given
+-- the value of an expression over the present registers, with a value on the stack where one is
+-- given
 abbrev pub value_in : Contents → Registers → Block → Option ℕ → Result ℕ CallFrameFault
-value_in memory state block start = expressed (value_of (setting_at memory state block.at block.size) start)
+value_in memory state block start =
+    expressed (value_of (setting_at memory state block.at block.size) start)
 
 abbrev pub word_at : Contents → ℕ → Result ℕ CallFrameFault
 word_at memory at = ok_or (number_at 8 memory at) faults.Unmapped
@@ -54,7 +57,9 @@ present state number = ok_or (dwarf_register state number) faults.UnknownRegiste
 abbrev pub cfa_of : Contents → Registers → Option CfaRule → Result ℕ CallFrameFault
 cfa_of memory state None = Err faults.CfaRule
 cfa_of memory state (Some (cfas.RegisterOffset register offset)) =
-    if nat_lt register (register_numbers state.arch) then (present state register >>= λ value. Ok ((value + offset) % 2 ^ 64)) else Err faults.CfaRegister
+    if nat_lt register (register_numbers state.arch)
+    then (present state register >>= λ value. Ok ((value + offset) % 2 ^ 64))
+    else Err faults.CfaRegister
 cfa_of memory state (Some (cfas.Expression block)) = value_in memory state block None
 
 -- the word at an expression's value
@@ -69,11 +74,13 @@ known (Err fault) = Err fault
 abbrev pub value_by : Contents → Registers → ℕ → ℕ → RegisterRule → Result (Option ℕ) CallFrameFault
 value_by memory state cfa number rules.Undefined = Ok None
 value_by memory state cfa number rules.SameValue = Ok (dwarf_register state number)
-value_by memory state cfa number (rules.Offset offset) = known (word_at memory ((cfa + offset) % 2 ^ 64))
+value_by memory state cfa number (rules.Offset offset) =
+    known (word_at memory ((cfa + offset) % 2 ^ 64))
 value_by memory state cfa number (rules.ValOffset offset) = Ok (Some ((cfa + offset) % 2 ^ 64))
 value_by memory state cfa number (rules.Register other) = known (present state other)
 value_by memory state cfa number (rules.Expression block) = known (word_by memory state cfa block)
-value_by memory state cfa number (rules.ValExpression block) = known (value_in memory state block (Some cfa))
+value_by memory state cfa number (rules.ValExpression block) =
+    known (value_in memory state block (Some cfa))
 
 -- the register with a number takes a value
 abbrev pub with_value : Option ℕ → List (Option ℕ) → Option ℕ → List (Option ℕ)
@@ -81,33 +88,47 @@ with_value None values value = values
 with_value (Some place) values value = slice_set values place value
 
 -- rules replace values, by rising register numbers
-abbrev pub replaced_by : Contents → Registers → ℕ → ℕ → Option RegisterRule → List (Option ℕ) → Result (List (Option ℕ)) CallFrameFault
+abbrev pub replaced_by : Contents → Registers → ℕ → ℕ → Option RegisterRule → List (Option ℕ) →
+    Result (List (Option ℕ)) CallFrameFault
 replaced_by memory state cfa number None values = Ok values
 replaced_by memory state cfa number (Some rule) values =
-    value_by memory state cfa number rule >>= λ value. Ok (with_value (dwarf_place state.arch number) values value)
+    value_by memory state cfa number rule >>= λ value.
+    Ok (with_value (dwarf_place state.arch number) values value)
 
-abbrev pub replaced : Contents → Registers → ℕ → ℕ → List (Option RegisterRule) → List (Option ℕ) → Result (List (Option ℕ)) CallFrameFault
+abbrev pub replaced : Contents → Registers → ℕ → ℕ → List (Option RegisterRule) → List (Option ℕ) →
+    Result (List (Option ℕ)) CallFrameFault
 replaced memory state cfa number [] values = Ok values
-replaced memory state cfa number (rule ∷ rest) values = replaced_by memory state cfa number rule values >>= λ next. replaced memory state cfa (number + 1) rest next
+replaced memory state cfa number (rule ∷ rest) values =
+    replaced_by memory state cfa number rule values >>= λ next.
+    replaced memory state cfa (number + 1) rest next
 
--- where no rule says otherwise, the registers that a function keeps stay, and the stack pointer is the canonical frame address
+-- where no rule says otherwise, the registers that a function keeps stay, and the stack pointer is
+-- the canonical frame address
 abbrev pub at_call : Registers → ℕ → List (Option ℕ)
 at_call state cfa = slice_set (kept_of state).value (sp_place state.arch) (Some cfa)
 
--- whether a column is the link register, whose present value stands for a return address without a rule
+-- whether a column is the link register, whose present value stands for a return address without a
+-- rule
 abbrev pub is_link : Arch → ℕ → Bool
 is_link X86_64 column = false
 is_link Arm64 column = column == LINK_REGISTER
 
 -- the return address: the value of its column
-abbrev pub by_column : Registers → List (Option ℕ) → ℕ → Option RegisterRule → Result ℕ CallFrameFault
-by_column state values column None = if is_link state.arch column then present state column else Err faults.UnknownRegister
-by_column state values column (Some rule) = ok_or (dwarf_register (record { arch = state.arch; value = values }) column) faults.UnknownRegister
+abbrev pub by_column : Registers → List (Option ℕ) → ℕ → Option RegisterRule →
+    Result ℕ CallFrameFault
+by_column state values column None = if is_link state.arch column then present state column
+    else Err faults.UnknownRegister
+by_column state values column (Some rule) =
+    ok_or (dwarf_register (record { arch = state.arch; value = values }) column)
+    faults.UnknownRegister
 
 -- the frame of the caller; that of a signal frame's caller is exact
 abbrev pub frame_at : Frame → Bool → List (Option ℕ) → ℕ → Frame
 frame_at frame exact values back = record {
-  registers = record { arch = frame.registers.arch; value = slice_set values (pc_place frame.registers.arch) (Some (cut frame back)) };
+  registers = record {
+    arch = frame.registers.arch;
+    value = slice_set values (pc_place frame.registers.arch) (Some (cut frame back));
+  };
   exact = exact;
   bits = frame.bits;
 }
@@ -116,7 +137,8 @@ abbrev pub called : Contents → Frame → CommonInformation → Row → Result 
 called memory frame c row =
     cfa_of memory frame.registers row.cfa >>= λ cfa.
     replaced memory frame.registers cfa 0 row.rules (at_call frame.registers cfa) >>= λ values.
-    by_column frame.registers values c.return_address_register (rule_at row c.return_address_register) >>= λ back.
+    by_column frame.registers values c.return_address_register
+    (rule_at row c.return_address_register) >>= λ back.
     Ok (steps.Frame (frame_at frame c.signal_frame values back))
 
 -- a function whose return address is undefined has no caller
@@ -131,7 +153,8 @@ is_undefined (Some (rules.Expression block)) = false
 is_undefined (Some (rules.ValExpression block)) = false
 
 unfoldable pub caller_by : Contents → Frame → CommonInformation → Row → Result Step CallFrameFault
-caller_by memory frame c row = if is_undefined (rule_at row c.return_address_register) then Ok steps.End else called memory frame c row
+caller_by memory frame c row = if is_undefined (rule_at row c.return_address_register)
+    then Ok steps.End else called memory frame c row
 
 -- a fault is told by its number
 abbrev pub told : Result Step CallFrameFault → Step
@@ -140,7 +163,8 @@ told (Err fault) = steps.Bad (fault_number fault)
 
 -- the caller of a frame by a frame description entry of a section
 unfoldable pub caller_from : Section → Frame → ℕ → FrameDescription → Result Step CallFrameFault
-caller_from s frame address d = row_at s (register_numbers frame.registers.arch) d address >>= λ row. caller_by s.memory frame d.common row
+caller_from s frame address d = row_at s (register_numbers frame.registers.arch) d address
+    >>= λ row. caller_by s.memory frame d.common row
 
 -- the address that is looked up
 abbrev pub looked_for : Frame → ℕ
@@ -153,7 +177,8 @@ caller_in s frame found = told (found >>= λ d. caller_from s frame (looked_for 
 abbrev pub by_section : Contents → Frame → Option Part → Step
 by_section memory frame None = steps.Bad (fault_number faults.NoSection)
 by_section memory frame (Some part) =
-    let s = section_at memory part.at part.size in caller_in s frame (description_for s (looked_for frame))
+    let s = section_at memory part.at part.size
+    in caller_in s frame (description_for s (looked_for frame))
 
 -- the caller of a frame by the call frame information of its image
 unfoldable pub call_frame : Contents → Image → Frame → Step

@@ -1,4 +1,5 @@
--- The entries of `__eh_frame`: Linux Standard Base Core, "The .eh_frame section"; DWARF 4, section 6.4.1.
+-- The entries of `__eh_frame`: Linux Standard Base Core, "The .eh_frame section"; DWARF 4, section
+-- 6.4.1.
 use Rattle.std.specs.Prelude.{ℕ, ◌+◌, ◌-◌, ◌==◌, ◌&&◌, ◌||◌, nat_le, nat_lt, Bool, true, false, if◌then◌else◌, List, [], ◌∷◌, length, Option, Some, None, ok_or, Result, Ok, Err}
 use Rattle.std.specs.List.{list_all}
 use Rattle.plcr_base.specs.Chains.{◌>>=◌}
@@ -25,14 +26,16 @@ use Rattle.plcr_dwarf_cfi.specs.Lists.{Listed, Step, ended, fold_until, listed}
 use Rattle.plcr_dwarf_cfi.specs.Pointers.{encoding_of, number_of, pointer_at}
 use Rattle.plcr_dwarf_cfi.specs.Sections.{Section, byte, fixed, passed_over, signed, unsigned, within}
 
--- what stands behind an entry's length: as many bytes as it says. A length of 32 bits with all bits set is followed by one of 64 bits
+-- what stands behind an entry's length: as many bytes as it says. A length of 32 bits with all bits
+-- set is followed by one of 64 bits
 abbrev pub extent_of : ℕ → ℕ → Extent
 extent_of start length = record { start = start; end = start + length }
 
 unfoldable pub extent_at : Section → ℕ → Result Extent CallFrameFault
 extent_at s place =
     fixed 4 s.cells place >>= λ length.
-    if length == EXTENDED_LENGTH then (fixed 8 s.cells (place + 4) >>= λ long. Ok (extent_of (place + 12) long)) else
+    if length == EXTENDED_LENGTH
+    then (fixed 8 s.cells (place + 4) >>= λ long. Ok (extent_of (place + 12) long)) else
     Ok (extent_of (place + 4) length)
 
 -- the id of an entry
@@ -45,21 +48,24 @@ version_of n = if n == 1 then Some One else if n == 3 then Some Three else None
 
 -- augmentation texts: letters, ended by a byte 0
 abbrev pub letter_at : Source → Step ℕ
-letter_at source place = byte source place >>= λ letter. Ok (if letter == 0 then None else Some (letter, place + 1))
+letter_at source place = byte source place >>= λ letter.
+    Ok (if letter == 0 then None else Some (letter, place + 1))
 
 pub record Text : Type 0 where
   pub letters : List ℕ
   pub next : ℕ
 
 abbrev pub text_of : ℕ → Listed ℕ → Result Text CallFrameFault
-text_of place list = ended list.fault (record { letters = list.items; next = place + length list.items + 1 })
+text_of place list =
+    ended list.fault (record { letters = list.items; next = place + length list.items + 1 })
 
 -- the text at a place, whole
 abbrev pub text_at : Section → ℕ → Result Text CallFrameFault
 text_at s place = text_of place (listed (letter_at s.cells) s.size place)
 
 abbrev pub is_letter : ℕ → Bool
-is_letter letter = (letter == POINTER_ENCODING) || (letter == LANGUAGE_DATA) || (letter == PERSONALITY) || (letter == SIGNAL_FRAME)
+is_letter letter = (letter == POINTER_ENCODING) || (letter == LANGUAGE_DATA)
+    || (letter == PERSONALITY) || (letter == SIGNAL_FRAME)
 
 -- the texts that are accepted: none, or z and letters that are known
 abbrev pub is_accepted : List ℕ → Bool
@@ -97,25 +103,29 @@ abbrev pub personality_read : Section → Augmentation → Result Augmentation C
 personality_read s a =
     byte s.cells a.place >>= λ n.
     if n == DW_EH_PE_omit then Ok (moved_to (a.place + 1) a) else
-    (encoding_of n >>= λ encoding. number_of encoding.format s.cells (a.place + 1) >>= λ number. Ok (moved_to number.next a))
+    (encoding_of n >>= λ encoding. number_of encoding.format s.cells (a.place + 1) >>= λ number.
+    Ok (moved_to number.next a))
 
 unfoldable pub letter_read : Section → ℕ → Augmentation → Result Augmentation CallFrameFault
 letter_read s letter a =
     if letter == POINTER_ENCODING then pointers_read s a else
     if letter == LANGUAGE_DATA then language_read s a else
     if letter == PERSONALITY then personality_read s a else
-    if letter == SIGNAL_FRAME then Ok (record { place = a.place; signal_frame = true; pointers = a.pointers }) else Ok a
+    if letter == SIGNAL_FRAME
+    then Ok (record { place = a.place; signal_frame = true; pointers = a.pointers }) else Ok a
 
 abbrev pub never : {S : Type 0} → S → Bool
 never state = false
 
 abbrev pub augmentation_from : Section → List ℕ → ℕ → Result Augmentation CallFrameFault
 augmentation_from s letters place =
-    fold_until (letter_read s) never letters None (record { place = place; signal_frame = false; pointers = plain_pointers })
+    fold_until (letter_read s) never letters None
+    (record { place = place; signal_frame = false; pointers = plain_pointers })
 
 -- the column of the return address: one byte in version 1, a LEB128 number in version 3
 abbrev pub return_register : Version → Source → ℕ → Result Number CallFrameFault
-return_register One source place = byte source place >>= λ n. Ok (record { value = n; next = place + 1 })
+return_register One source place = byte source place >>= λ n.
+    Ok (record { value = n; next = place + 1 })
 return_register Three source place = unsigned source place
 
 -- the numbers of a common information entry
@@ -124,15 +134,32 @@ numbers_at version source place =
     unsigned source place >>= λ code.
     signed source code.next >>= λ factor.
     return_register version source factor.next >>= λ column.
-    Ok (record { code_factor = code.value; data_factor = factor.value; column = column.value; next = column.next })
+    Ok (record {
+      code_factor = code.value;
+      data_factor = factor.value;
+      column = column.value;
+      next = column.next;
+    })
 
--- the augmentation of a common information entry, and where its instructions stand: behind the augmentation data as its length tells, whatever the letters read
+-- the augmentation of a common information entry, and where its instructions stand: behind the
+-- augmentation data as its length tells, whatever the letters read
 abbrev pub rest_at : Section → Extent → List ℕ → ℕ → Result Rest CallFrameFault
-rest_at s e [] place = Ok (record { augmented = false; signal_frame = false; pointers = plain_pointers; instructions = place })
+rest_at s e [] place =
+    Ok (record {
+      augmented = false;
+      signal_frame = false;
+      pointers = plain_pointers;
+      instructions = place;
+    })
 rest_at s e (letter ∷ letters) place =
     passed_over s e place >>= λ bytes.
     augmentation_from s (letter ∷ letters) bytes.value >>= λ a.
-    Ok (record { augmented = true; signal_frame = a.signal_frame; pointers = a.pointers; instructions = bytes.next })
+    Ok (record {
+      augmented = true;
+      signal_frame = a.signal_frame;
+      pointers = a.pointers;
+      instructions = bytes.next;
+    })
 
 abbrev pub common_of : Extent → Numbers → Rest → CommonInformation
 common_of e numbers rest = record {
@@ -163,8 +190,10 @@ common_at s place = extent_at s place >>= λ e. id_of s e >>= λ id. common_in (
 abbrev pub common_before : Section → ℕ → ℕ → Result CommonInformation CallFrameFault
 common_before s place id = if nat_lt place id then Err Truncated else common_at s (place - id)
 
--- a frame description entry through its range, which is a number of the same format as the pointer before it
-unfoldable pub description_in : Section → Extent → CommonInformation → Result FrameDescription CallFrameFault
+-- a frame description entry through its range, which is a number of the same format as the pointer
+-- before it
+unfoldable pub description_in : Section → Extent → CommonInformation →
+    Result FrameDescription CallFrameFault
 description_in s e common =
     pointer_at s common.pointers (e.start + 4) >>= λ start.
     number_of common.pointers.format s.cells start.next >>= λ range.
@@ -176,13 +205,16 @@ description_in s e common =
     })
 
 abbrev pub description_at : Section → Extent → ℕ → Result Entry CallFrameFault
-description_at s e id = common_before s e.start id >>= λ common. description_in (within s e) e common >>= λ d. Ok (Description d)
+description_at s e id = common_before s e.start id >>= λ common.
+    description_in (within s e) e common >>= λ d. Ok (Description d)
 
 -- the entry of an extent: one with an id of 0 is a common information entry
 abbrev pub entry_of : Section → Extent → ℕ → Result Entry CallFrameFault
-entry_of s e id = if id == 0 then (common_in (within s e) e >>= λ c. Ok (Common c)) else description_at s e id
+entry_of s e id = if id == 0 then (common_in (within s e) e >>= λ c. Ok (Common c))
+    else description_at s e id
 
--- the entry at a place, and the place of the next one; a length of 0 ends the list, and so does the section's end
+-- the entry at a place, and the place of the next one; a length of 0 ends the list, and so does the
+-- section's end
 unfoldable pub entry_at : Section → Step Entry
 entry_at s place =
     if nat_le s.size place then Ok None else
@@ -203,7 +235,8 @@ description_over a (Common c) = None
 description_over a (Description d) = if covers d a then Some d else None
 
 -- the first that covers the address, where no bad entry stands before it
-abbrev pub or_behind : Option FrameDescription → Result FrameDescription CallFrameFault → Result FrameDescription CallFrameFault
+abbrev pub or_behind : Option FrameDescription → Result FrameDescription CallFrameFault →
+    Result FrameDescription CallFrameFault
 or_behind (Some d) rest = Ok d
 or_behind None rest = rest
 
@@ -211,9 +244,11 @@ abbrev pub at_end : Option CallFrameFault → Result FrameDescription CallFrameF
 at_end None = Err NotCovered
 at_end (Some fault) = Err fault
 
-abbrev pub first_over : ℕ → List Entry → Option CallFrameFault → Result FrameDescription CallFrameFault
+abbrev pub first_over : ℕ → List Entry → Option CallFrameFault →
+    Result FrameDescription CallFrameFault
 first_over a [] fault = at_end fault
-first_over a (entry ∷ entries) fault = or_behind (description_over a entry) (first_over a entries fault)
+first_over a (entry ∷ entries) fault =
+    or_behind (description_over a entry) (first_over a entries fault)
 
 abbrev pub found_in : ℕ → Listed Entry → Result FrameDescription CallFrameFault
 found_in a list = first_over a list.items list.fault

@@ -1,4 +1,5 @@
--- The instructions that bytes spell: DWARF 4, sections 6.4.2 and 7.23 (figure 40); Linux Standard Base Core, "DWARF Extensions".
+-- The instructions that bytes spell: DWARF 4, sections 6.4.2 and 7.23 (figure 40); Linux Standard
+-- Base Core, "DWARF Extensions".
 use Rattle.std.specs.Prelude.{ℕ, ◌+◌, ◌-◌, ◌%◌, ◌^◌, ◌==◌, nat_lt, if◌then◌else◌, List, [], ◌∷◌, Some, None, is_some, unwrap_or, Result, Ok, Err}
 use Rattle.plcr_base.specs.Chains.{◌>>=◌}
 use Rattle.plcr_dwarf_expr.specs.Decoding.{among, row, Row}
@@ -47,11 +48,13 @@ signed_number make s encoding place = signed s.cells place >>= λ n. decoded (ma
 
 -- an unsigned LEB128 number and another one
 abbrev pub two_numbers : (ℕ → ℕ → Instruction) → Reading
-two_numbers make s encoding place = unsigned s.cells place >>= λ n. number (make n.value) s encoding n.next
+two_numbers make s encoding place = unsigned s.cells place >>= λ n.
+    number (make n.value) s encoding n.next
 
 -- an unsigned LEB128 number and a signed one
 abbrev pub number_signed : (ℕ → ℕ → Instruction) → Reading
-number_signed make s encoding place = unsigned s.cells place >>= λ n. signed_number (make n.value) s encoding n.next
+number_signed make s encoding place = unsigned s.cells place >>= λ n.
+    signed_number (make n.value) s encoding n.next
 
 -- section 7.5.4: a block has its length, a LEB128 number, and so many bytes, all of which are there
 abbrev pub block_at : Section → ℕ → ℕ → Block
@@ -60,13 +63,15 @@ block_at s place size = record { at = (s.at + place) % 2 ^ 64; size = size }
 abbrev pub block_read : Section → ℕ → Result (Block × ℕ) CallFrameFault
 block_read s place =
     unsigned s.cells place >>= λ size.
-    if is_some (s.cells size.next size.value) then Ok (block_at s size.next size.value, size.next + size.value) else Err Truncated
+    if is_some (s.cells size.next size.value)
+    then Ok (block_at s size.next size.value, size.next + size.value) else Err Truncated
 
 abbrev pub block : (Block → Instruction) → Reading
 block make s encoding place = block_read s place >>= λ b. decoded (make b.0) b.1
 
 abbrev pub number_block : (ℕ → Block → Instruction) → Reading
-number_block make s encoding place = unsigned s.cells place >>= λ n. block (make n.value) s encoding n.next
+number_block make s encoding place = unsigned s.cells place >>= λ n.
+    block (make n.value) s encoding n.next
 
 -- the rows of figure 40 by their groups in section 6.4.2
 abbrev pub creation_rows : List (Row Reading)
@@ -127,25 +132,30 @@ among_or opcode rows other = unwrap_or (among opcode rows) other
 
 abbrev pub extended_reading : ℕ → Reading
 extended_reading opcode =
-    among_or opcode creation_rows (among_or opcode cfa_rows (among_or opcode register_rows (among_or opcode offset_rows
+    among_or opcode creation_rows
+    (among_or opcode cfa_rows (among_or opcode register_rows (among_or opcode offset_rows
     (among_or opcode expression_rows (among_or opcode other_rows unknown)))))
 
 -- what each opcode reads; of the three with the highest bits the low six bits are an operand
 unfoldable pub reading_of : ℕ → Reading
 reading_of opcode =
     if nat_lt opcode DW_CFA_advance_loc then extended_reading opcode else
-    if nat_lt opcode DW_CFA_offset then plain (Creation (creation.AdvanceLoc (opcode - DW_CFA_advance_loc))) else
-    if nat_lt opcode DW_CFA_restore then number (λ n. Rule (rules.Offset (opcode - DW_CFA_offset) n)) else
+    if nat_lt opcode DW_CFA_offset
+    then plain (Creation (creation.AdvanceLoc (opcode - DW_CFA_advance_loc))) else
+    if nat_lt opcode DW_CFA_restore
+    then number (λ n. Rule (rules.Offset (opcode - DW_CFA_offset) n)) else
     plain (Rule (rules.Restore (opcode - DW_CFA_restore)))
 
 -- the instruction at a place
 abbrev pub instruction_at : Reading
-instruction_at s encoding place = byte s.cells place >>= λ opcode. reading_of opcode s encoding (place + 1)
+instruction_at s encoding place = byte s.cells place >>= λ opcode.
+    reading_of opcode s encoding (place + 1)
 
 -- the instruction at a place and the place of the next one, up to where the instructions end
 unfoldable pub instruction_before : Section → Encoding → ℕ → Step Instruction
 instruction_before s encoding end place =
-    if place == end then Ok None else (instruction_at s encoding place >>= λ d. Ok (Some (d.instruction, d.next)))
+    if place == end then Ok None
+    else (instruction_at s encoding place >>= λ d. Ok (Some (d.instruction, d.next)))
 
 -- the instructions from a place on. Each takes some of the section's bytes
 unfoldable pub instructions_in : Section → Encoding → Extent → Listed Instruction

@@ -36,12 +36,17 @@ format_bits n = n % DW_EH_PE_pcrel
 abbrev pub application_bits : ℕ → ℕ
 application_bits n = n % DW_EH_PE_indirect - format_bits n
 
--- the encoding in a byte; one that counts from elsewhere than 0 or the pointer's own address isn't accepted
+-- the encoding in a byte; one that counts from elsewhere than 0 or the pointer's own address isn't
+-- accepted
 unfoldable pub encoding_of : ℕ → Result Encoding CallFrameFault
 encoding_of n =
     ok_or (among (format_bits n) formats) UnknownEncoding >>= λ format.
     if (application_bits n == DW_EH_PE_absptr) || (application_bits n == DW_EH_PE_pcrel) then
-    Ok (record { format = format; relative = application_bits n == DW_EH_PE_pcrel; indirect = nat_le DW_EH_PE_indirect n })
+    Ok (record {
+      format = format;
+      relative = application_bits n == DW_EH_PE_pcrel;
+      indirect = nat_le DW_EH_PE_indirect n;
+    })
     else Err UnknownEncoding
 
 -- the number of a pointer, modulo 2^64, and the place behind it
@@ -70,5 +75,6 @@ held_pointer s false address = Ok address
 unfoldable pub pointer_at : Section → Encoding → ℕ → Result Number CallFrameFault
 pointer_at s encoding place =
     number_of encoding.format s.cells place >>= λ number.
-    held_pointer s encoding.indirect (told_address s encoding.relative place number.value) >>= λ pointer.
+    held_pointer s encoding.indirect (told_address s encoding.relative place number.value)
+    >>= λ pointer.
     Ok (record { value = pointer; next = number.next })

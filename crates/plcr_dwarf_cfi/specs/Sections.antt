@@ -1,4 +1,5 @@
--- What is read of a section of call frame information: numbers at places, which count from the section's start.
+-- What is read of a section of call frame information: numbers at places, which count from the
+-- section's start.
 use Rattle.std.specs.Prelude.{ℕ, ◌+◌, nat_le, ◌&&◌, Bool, if◌then◌else◌, None, ok_or, Result, Ok, Err}
 use Rattle.plcr_base.specs.Chains.{◌>>=◌}
 use Rattle.plcr_memory.specs.Regions.{Contents}
@@ -19,7 +20,8 @@ pub record Section : Type 0 where
 
 -- the section that stands in memory
 abbrev pub section_at : Contents → ℕ → ℕ → Section
-section_at memory at size = record { cells = piece_bytes memory at size; at = at; size = size; memory = memory }
+section_at memory at size =
+    record { cells = piece_bytes memory at size; at = at; size = size; memory = memory }
 
 -- the bytes that end by a place
 unfoldable pub front_of : ℕ → Source → Source
@@ -49,9 +51,11 @@ signed source place = whole (signed_at (bytes_of source) place)
 
 -- a number of a fixed size and the place behind it
 abbrev pub sized : ℕ → Source → ℕ → (ℕ → ℕ) → Result Number CallFrameFault
-sized size source place value = fixed size source place >>= λ n. Ok (record { value = value n; next = place + size })
+sized size source place value = fixed size source place >>= λ n.
+    Ok (record { value = value n; next = place + size })
 
--- bytes that are passed over, which aren't read: the place behind them is neither past the entry nor past the section
+-- bytes that are passed over, which aren't read: the place behind them is neither past the entry
+-- nor past the section
 abbrev pub fits : Section → Extent → ℕ → Bool
 fits s e place = nat_le place e.end && nat_le place s.size
 
@@ -59,4 +63,6 @@ fits s e place = nat_le place e.end && nat_le place s.size
 abbrev pub passed_over : Section → Extent → ℕ → Result Number CallFrameFault
 passed_over s e place =
     unsigned s.cells place >>= λ length.
-    if fits s e (length.next + length.value) then Ok (record { value = length.next; next = length.next + length.value }) else Err Truncated
+    if fits s e (length.next + length.value)
+    then Ok (record { value = length.next; next = length.next + length.value })
+    else Err Truncated

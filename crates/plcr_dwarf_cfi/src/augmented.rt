@@ -108,7 +108,8 @@ pub fn text_at<C: Cells>(
     around: &Surroundings<'_>,
     start: u64,
 ) -> Result<Summary, CallFrameFault>
-    ensures { result ≡ result_map summary (augmentation_text (section (C.cells cells.now) around.now) start) }
+    ensures { result ≡ result_map summary
+        (augmentation_text (section (C.cells cells.now) around.now) start) }
 {
     let mut form = TextForm::Empty;
     let mut place = start;
@@ -211,7 +212,8 @@ pub fn augmentation_from<C: Cells>(
     text: u64,
     data_at: u64,
 ) -> Result<Augmentation, CallFrameFault>
-    ensures { result ≡ augmentation_from (section (C.cells cells.now) around.now) (listed (letter_at (C.cells cells.now)) around.now.size text).items data_at }
+    ensures { result ≡ augmentation_from (section (C.cells cells.now) around.now)
+        (listed (letter_at (C.cells cells.now)) around.now.size text).items data_at }
 {
     let mut place = text;
     let mut a = Augmentation {

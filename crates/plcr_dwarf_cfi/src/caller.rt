@@ -117,7 +117,8 @@ fn replace(
     rule: &Option<RegisterRule>,
     values: &mut [Option<u64>; MOST_REGISTERS],
 ) -> Result<(), CallFrameFault>
-    ensures { result_map (λ _. values.new) result ≡ replaced_by memory.now state.now cfa number rule.now values.old }
+    ensures { result_map (λ _. values.new) result ≡ replaced_by memory.now state.now cfa number
+        rule.now values.old }
 {
     let Some(rule) = rule else {
         return Ok(());
@@ -138,7 +139,8 @@ fn replace_all(
     row: &Row,
     values: &mut [Option<u64>; MOST_REGISTERS],
 ) -> Result<(), CallFrameFault>
-    ensures { result_map (λ _. values.new) result ≡ replaced memory.now state.now cfa 0 row.now.rules values.old }
+    ensures { result_map (λ _. values.new) result ≡ replaced memory.now state.now cfa 0
+        row.now.rules values.old }
 {
     for number in 0..MOST_RULES {
         match replace(
@@ -220,7 +222,8 @@ fn called(
     row: &Row,
     room: &mut Frame,
 ) -> Result<(), CallFrameFault>
-    ensures frame { result_map (λ _. steps.Frame room.new) result ≡ called memory.now frame.now common.now row.now }
+    ensures frame { result_map (λ _. steps.Frame room.new) result
+        ≡ called memory.now frame.now common.now row.now }
     ensures thread { IfOk result (λ _. IsOfThread frame.now room.new) }
 {
     let state = &frame.registers;
@@ -242,8 +245,10 @@ pub fn caller_by(
     row: &Row,
     room: &mut Frame,
 ) -> Result<Outcome, CallFrameFault>
-    ensures caller { result_map (λ outcome. step_in outcome room.new) result ≡ caller_by memory.now frame.now common.now row.now }
-    ensures thread { IfOk result (λ outcome. IfFrame (step_in outcome room.new) (IsOfThread frame.now)) }
+    ensures caller { result_map (λ outcome. step_in outcome room.new) result
+        ≡ caller_by memory.now frame.now common.now row.now }
+    ensures thread { IfOk result (λ outcome.
+        IfFrame (step_in outcome room.new) (IsOfThread frame.now)) }
 {
     if is_undefined(row.rule(common.return_address_register)) {
         return Ok(Outcome::End);

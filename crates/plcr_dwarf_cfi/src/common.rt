@@ -129,7 +129,8 @@ fn rest_at<C: Cells>(
     augmented: bool,
     at: u64,
 ) -> Result<Rest, CallFrameFault>
-    ensures { result ≡ rest_by (section (C.cells cells.now) around.now) extent augmented (listed (letter_at (C.cells cells.now)) around.now.size text).items at }
+    ensures { result ≡ rest_by (section (C.cells cells.now) around.now) extent augmented
+        (listed (letter_at (C.cells cells.now)) around.now.size text).items at }
 {
     if !augmented {
         return Ok(Rest {

@@ -60,7 +60,8 @@ fn other<C: Cells>(
     opcode: u8,
     at: u64,
 ) -> Result<Decoded, CallFrameFault>
-    ensures { result ≡ among_or opcode other_rows unknown (section (C.cells cells.now) around.now) encoding at }
+    ensures { result ≡ among_or opcode other_rows unknown (section (C.cells cells.now) around.now)
+        encoding at }
 {
     match opcode {
         DW_CFA_remember_state => Ok(Instruction::State(RowState::RememberState).until(at)),
@@ -82,7 +83,8 @@ fn rule_by_expression<C: Cells>(
     opcode: u8,
     at: u64,
 ) -> Result<Decoded, CallFrameFault>
-    ensures { result ≡ among_or opcode expression_rows (among_or opcode other_rows unknown) (section (C.cells cells.now) around.now) encoding at }
+    ensures { result ≡ among_or opcode expression_rows (among_or opcode other_rows unknown)
+        (section (C.cells cells.now) around.now) encoding at }
 {
     let (rule, next) = match opcode {
         DW_CFA_expression => {
@@ -108,7 +110,9 @@ fn rule_by_offset<C: Cells>(
     opcode: u8,
     at: u64,
 ) -> Result<Decoded, CallFrameFault>
-    ensures { result ≡ among_or opcode offset_rows (among_or opcode expression_rows (among_or opcode other_rows unknown)) (section (C.cells cells.now) around.now) encoding at }
+    ensures { result ≡ among_or opcode offset_rows
+        (among_or opcode expression_rows (among_or opcode other_rows unknown))
+        (section (C.cells cells.now) around.now) encoding at }
 {
     let (rule, next) = match opcode {
         DW_CFA_offset_extended => {
@@ -156,7 +160,10 @@ fn rule_of_register<C: Cells>(
     opcode: u8,
     at: u64,
 ) -> Result<Decoded, CallFrameFault>
-    ensures { result ≡ among_or opcode register_rows (among_or opcode offset_rows (among_or opcode expression_rows (among_or opcode other_rows unknown))) (section (C.cells cells.now) around.now) encoding at }
+    ensures { result ≡ among_or opcode register_rows
+        (among_or opcode offset_rows
+        (among_or opcode expression_rows (among_or opcode other_rows unknown)))
+        (section (C.cells cells.now) around.now) encoding at }
 {
     let (rule, next) = match opcode {
         DW_CFA_undefined => {
@@ -189,7 +196,11 @@ fn definition<C: Cells>(
     opcode: u8,
     at: u64,
 ) -> Result<Decoded, CallFrameFault>
-    ensures { result ≡ among_or opcode cfa_rows (among_or opcode register_rows (among_or opcode offset_rows (among_or opcode expression_rows (among_or opcode other_rows unknown)))) (section (C.cells cells.now) around.now) encoding at }
+    ensures { result ≡ among_or opcode cfa_rows
+        (among_or opcode register_rows
+        (among_or opcode offset_rows
+        (among_or opcode expression_rows (among_or opcode other_rows unknown))))
+        (section (C.cells cells.now) around.now) encoding at }
 {
     let (cfa, next) = match opcode {
         DW_CFA_def_cfa => {
@@ -231,7 +242,8 @@ fn extended<C: Cells>(
     opcode: u8,
     at: u64,
 ) -> Result<Decoded, CallFrameFault>
-    ensures { result ≡ extended_reading opcode (section (C.cells cells.now) around.now) encoding at }
+    ensures { result ≡ extended_reading opcode (section (C.cells cells.now) around.now) encoding
+        at }
 {
     let (creation, next) = match opcode {
         DW_CFA_set_loc => {
@@ -283,7 +295,8 @@ pub fn decode_before<C: Cells>(
     end: u128,
     place: u64,
 ) -> Result<Option<(Instruction, u64)>, CallFrameFault>
-    ensures { result ≡ instruction_before (section (C.cells cells.now) around.now) encoding end place }
+    ensures { result ≡ instruction_before (section (C.cells cells.now) around.now) encoding end
+        place }
 {
     if u128::from(place) == end {
         return Ok(None);

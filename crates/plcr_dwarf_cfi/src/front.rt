@@ -146,7 +146,8 @@ fn grown<C: Cells>(
     next: u128,
 ) -> Option<Run>
     requires growing { IsGrowing (section (C.cells _cells.now) _around.now) run _place }
-    requires entry { entry_at (section (C.cells _cells.now) _around.now) _place ≡ Ok (Some (entry.now, next)) }
+    requires entry { entry_at (section (C.cells _cells.now) _around.now) _place
+        ≡ Ok (Some (entry.now, next)) }
     ensures { IsGrowing (section (C.cells _cells.now) _around.now) result next }
 {
     let run = run?;
@@ -167,7 +168,8 @@ fn grown_over<C: Cells>(
     passed: &Passed,
 ) -> Option<Run>
     requires growing { IsGrowing (section (C.cells _cells.now) _around.now) run _place }
-    requires passed { IsPassed (section (C.cells _cells.now) _around.now) _place _address passed.now }
+    requires passed { IsPassed (section (C.cells _cells.now) _around.now) _place _address
+        passed.now }
     ensures { IsGrowing (section (C.cells _cells.now) _around.now) result passed.now.next }
 {
     let run = run?;

@@ -115,7 +115,8 @@ fn find_with(
 // Whether the front that is kept is that of a section.
 fn is_front(_memory: &Memory, front: &KnownFront, part: Part) -> bool
     requires { FrontHolds _memory.now front.now }
-    ensures { OnTrue result (All (IsRun (section_at _memory.now part.at part.size)) front.now.runs) }
+    ensures { OnTrue result
+        (All (IsRun (section_at _memory.now part.at part.size)) front.now.runs) }
 {
     front.part.at == part.at && front.part.size == part.size
 }

@@ -33,7 +33,8 @@ pub struct Passed {
 impl Code {
     // Whether an address is one of the code.
     fn has(&self, address: u64) -> bool
-        ensures { result ≡ (nat_le self.now.start address && nat_lt (address - self.now.start) self.now.range) }
+        ensures { result ≡ (nat_le self.now.start address
+            && nat_lt (address - self.now.start) self.now.range) }
     {
         self.start <= address && address - self.start < self.range
     }
@@ -48,7 +49,8 @@ pub fn code_in<C: Cells>(
     common: &CommonInformation,
 ) -> Result<Code, CallFrameFault>
     requires { extent.start + 4 < 2 ^ 64 }
-    ensures { result_map (described extent common.now) result ≡ description_in (section (C.cells cells.now) around.now) extent common.now }
+    ensures { result_map (described extent common.now) result
+        ≡ description_in (section (C.cells cells.now) around.now) extent common.now }
 {
     let start = pointer_at(cells, around, common.pointers, extent.start + 4)?;
     let range = number_of(cells, common.pointers.format, start.next)?;
@@ -63,7 +65,8 @@ pub fn code_in<C: Cells>(
 // its id.
 #[tactic(auto)]
 fn named_at<C: Cells>(cells: &C, around: &Surroundings<'_>, place: u128) -> Option<(Extent, u32)>
-    ensures named { IfSome result (λ named. IsNamed (section (C.cells cells.now) around.now) place named.0 named.1) }
+    ensures named { IfSome result
+        (λ named. IsNamed (section (C.cells cells.now) around.now) place named.0 named.1) }
     ensures within { IfSome result (λ named. named.0.start + 4 < 2 ^ 64) }
 {
     if place >= u128::from(around.size) {
@@ -93,7 +96,8 @@ fn recent_before<'a, C: Cells>(
     recent: &'a Option<Recent>,
 ) -> Option<&'a CommonInformation>
     requires { IsRecent (section (C.cells _cells.now) _around.now) recent.now }
-    ensures { IfSome result (λ common. common_before (section (C.cells _cells.now) _around.now) place id ≡ Ok common.now) }
+    ensures { IfSome result (λ common. common_before (section (C.cells _cells.now) _around.now)
+        place id ≡ Ok common.now) }
 {
     let Some(last) = recent else {
         return None;

@@ -136,7 +136,8 @@ impl Row {
         initial: &Option<Row>,
     ) -> Result<(), CallFrameFault>
         requires { count ≤ MOST_RULES }
-        ensures { result_map (λ _. self.new) result ≡ ruled common.now count definition initial.now self.old }
+        ensures { result_map (λ _. self.new) result ≡ ruled common.now count definition initial.now
+            self.old }
     {
         let (register, rule) = match definition {
             RuleDefinition::Undefined(r) => (r, RegisterRule::Undefined),

@@ -26,7 +26,8 @@ pub fn find(
     section: &Part,
     address: u64,
 ) -> Result<FrameDescription, CallFrameFault>
-    ensures { result ≡ description_for (section_at memory.now section.now.at section.now.size) address }
+    ensures { result ≡ description_for (section_at memory.now section.now.at section.now.size)
+        address }
 {
     let around = Surroundings {
         memory,
@@ -52,7 +53,9 @@ fn row_for(
     address: u64,
     table: &mut RowTable,
 ) -> Result<(), CallFrameFault>
-    ensures { result_map (λ _. table.new.row) result ≡ row_at (section_at memory.now section.now.at section.now.size) (register_numbers frame.now.registers.arch) description.now address }
+    ensures { result_map (λ _. table.new.row) result
+        ≡ row_at (section_at memory.now section.now.at section.now.size)
+        (register_numbers frame.now.registers.arch) description.now address }
 {
     let count = register_numbers(frame.registers.arch);
     let around = Surroundings {
@@ -79,8 +82,11 @@ fn caller_from(
     table: &mut RowTable,
     room: &mut Frame,
 ) -> Result<Outcome, CallFrameFault>
-    ensures caller { result_map (λ outcome. step_in outcome room.new) result ≡ caller_from (section_at memory.now section.now.at section.now.size) frame.now address description.now }
-    ensures thread { IfOk result (λ outcome. IfFrame (step_in outcome room.new) (IsOfThread frame.now)) }
+    ensures caller { result_map (λ outcome. step_in outcome room.new) result
+        ≡ caller_from (section_at memory.now section.now.at section.now.size) frame.now address
+        description.now }
+    ensures thread { IfOk result (λ outcome.
+        IfFrame (step_in outcome room.new) (IsOfThread frame.now)) }
 {
     row_for(memory, section, frame, description, address, table)?;
     caller_by(memory, frame, &description.common, table.row(), room)
@@ -97,7 +103,8 @@ pub fn step_with(
     room: &mut Frame,
 ) -> Outcome
     requires { IsSome (frame_lookup frame.now) }
-    ensures caller { step_in result room.new ≡ caller_in (section_at memory.now section.now.at section.now.size) frame.now found.now }
+    ensures caller { step_in result room.new
+        ≡ caller_in (section_at memory.now section.now.at section.now.size) frame.now found.now }
     ensures thread { IfFrame (step_in result room.new) (IsOfThread frame.now) }
 {
     let Some(address) = frame.lookup() else {
@@ -133,7 +140,8 @@ pub fn step_from(
     found: &Result<FrameDescription, CallFrameFault>,
 ) -> Step
     requires { IsSome (frame_lookup frame.now) }
-    ensures caller { result ≡ caller_in (section_at memory.now section.now.at section.now.size) frame.now found.now }
+    ensures caller { result ≡ caller_in (section_at memory.now section.now.at section.now.size)
+        frame.now found.now }
     ensures thread { IfFrame result (IsOfThread frame.now) }
 {
     let mut table = RowTable::new();

@@ -29,7 +29,13 @@ impl Model for RowTable {
 
     ghost Value = { Table };
 
-    ghost view = { λ t. record { row = t.row; initial = t.initial; remembered = reverse t.remembered.items; location = t.location } };
+    ghost view = { λ t. record {
+      row = t.row;
+      initial = t.initial;
+      remembered =
+          reverse t.remembered.items;
+      location = t.location;
+    } };
 
     ghost invariant = { λ t. length t.remembered.items ≤ MOST_REMEMBERED };
 }
@@ -86,7 +92,8 @@ impl RowTable {
 
     // Moves the location, but not before there is an initial row.
     fn create(&mut self, common: &CommonInformation, creation: RowCreation)
-        ensures { self.new ≡ moved (created common.now creation self.old.location) self.old.initial self.old }
+        ensures { self.new ≡ moved (created common.now creation self.old.location) self.old.initial
+            self.old }
     {
         if self.initial.is_some() {
             self.location = created(common, creation, self.location);
@@ -98,7 +105,8 @@ impl RowTable {
         common: &CommonInformation,
         definition: CfaDefinition,
     ) -> Result<(), CallFrameFault>
-        ensures { result_map (λ _. self.new) result ≡ with_definition common.now definition self.old }
+        ensures { result_map (λ _. self.new) result ≡ with_definition common.now definition
+            self.old }
     {
         let cfa = defined(common, definition, self.row.cfa)?;
         self.row.cfa = Some(cfa);
@@ -112,7 +120,8 @@ impl RowTable {
         definition: RuleDefinition,
     ) -> Result<(), CallFrameFault>
         requires { count ≤ MOST_RULES }
-        ensures { result_map (λ _. self.new) result ≡ with_ruling common.now count definition self.old }
+        ensures { result_map (λ _. self.new) result ≡ with_ruling common.now count definition
+            self.old }
     {
         self.row
             .define_rule(common, count, definition, &self.initial)
@@ -131,7 +140,8 @@ impl RowTable {
 
     #[tactic(auto, using(crate::proofs::Tables::reverse_more, crate::proofs::Tables::height))]
     fn take_back(&mut self) -> Result<(), CallFrameFault>
-        ensures { result_map (λ _. self.new) result ≡ taken_back self.old.initial self.old.location self.old.remembered }
+        ensures { result_map (λ _. self.new) result ≡ taken_back self.old.initial self.old.location
+            self.old.remembered }
     {
         let Some(row) = self.remembered.pop() else {
             return Err(CallFrameFault::RememberedRows);
@@ -148,7 +158,8 @@ impl RowTable {
         instruction: Instruction,
     ) -> Result<(), CallFrameFault>
         requires { count ≤ MOST_RULES }
-        ensures { result_map (λ _. self.new) result ≡ applied common.now count instruction self.old }
+        ensures { result_map (λ _. self.new) result ≡ applied common.now count instruction
+            self.old }
     {
         match instruction {
             Instruction::Creation(creation) => {

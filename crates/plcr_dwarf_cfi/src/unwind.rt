@@ -24,7 +24,9 @@ fn instruct<C: Cells>(
     table: &mut RowTable,
 ) -> Result<(), CallFrameFault>
     requires { count ≤ MOST_RULES }
-    ensures { result_map (λ _. table.new) result ≡ instructed (section (C.cells cells.now) around.now) common.now count address extent table.old }
+    ensures { result_map (λ _. table.new) result
+        ≡ instructed (section (C.cells cells.now) around.now) common.now count address extent
+        table.old }
 {
     let entry = Within::new(cells, extent);
     let mut place = extent.start;
@@ -76,7 +78,8 @@ pub fn row_at<C: Cells>(
     table: &mut RowTable,
 ) -> Result<(), CallFrameFault>
     requires { count ≤ MOST_RULES }
-    ensures { result_map (λ _. table.new.row) result ≡ row_at (section (C.cells cells.now) around.now) count description.now address }
+    ensures { result_map (λ _. table.new.row) result
+        ≡ row_at (section (C.cells cells.now) around.now) count description.now address }
 {
     let own = own_instructions(cells, around, description)?;
     let common = &description.common;

@@ -1,4 +1,5 @@
--- The operations that bytes of code spell: DWARF 4, section 7.7.1 and figure 24. LEB128 numbers are those of section 7.6.
+-- The operations that bytes of code spell: DWARF 4, section 7.7.1 and figure 24. LEB128 numbers are
+-- those of section 7.6.
 use Rattle.std.specs.Prelude.{ℕ, ◌+◌, ◌-◌, ◌==◌, Bool, ◌&&◌, nat_le, if◌then◌else◌, List, [], ◌∷◌, Option, Some, None, ok_or, option_map, unwrap_or, Result, Ok, Err}
 use Rattle.std.specs.Int.{w8, w16, w32, w64, cast_signed}
 use Rattle.plcr_base.specs.Chains.{◌>>=◌}
@@ -41,7 +42,8 @@ abbrev pub whole : Result Number Leb128Fault → Result Number ExprFault
 whole (Ok number) = Ok number
 whole (Err fault) = Err Truncated
 
--- no operands; one byte; a number of two, four or eight bytes; a LEB128 number without and with a sign
+-- no operands; one byte; a number of two, four or eight bytes; a LEB128 number without and with a
+-- sign
 abbrev pub plain : Operation → Reading
 plain operation code at = decoded operation at
 
@@ -52,14 +54,16 @@ abbrev pub more : ℕ → (ℕ → Operation) → Reading
 more size make code at = fixed size code at >>= λ n. decoded (make n) (at + size)
 
 abbrev pub unsigned : (ℕ → Operation) → Reading
-unsigned make code at = whole (unsigned_at (bytes_of code) at) >>= λ n. decoded (make n.value) n.next
+unsigned make code at = whole (unsigned_at (bytes_of code) at) >>= λ n.
+    decoded (make n.value) n.next
 
 abbrev pub signed : (ℕ → Operation) → Reading
 signed make code at = whole (signed_at (bytes_of code) at) >>= λ n. decoded (make n.value) n.next
 
 -- an unsigned LEB128 number and a signed one behind it
 abbrev pub unsigned_signed : (ℕ → ℕ → Operation) → Reading
-unsigned_signed make code at = whole (unsigned_at (bytes_of code) at) >>= λ n. signed (make n.value) code n.next
+unsigned_signed make code at = whole (unsigned_at (bytes_of code) at) >>= λ n.
+    signed (make n.value) code n.next
 
 -- how many bytes DW_OP_deref_size reads: 1, 2, 4 or 8
 abbrev pub width_of : ℕ → Option Width
@@ -70,7 +74,8 @@ width_of size =
     if size == 8 then Some Eight else None
 
 abbrev pub sized : Reading
-sized code at = byte code at >>= λ size. ok_or (width_of size) (Unknown DW_OP_deref_size) >>= λ width. decoded (Memory (DerefSize width)) (at + 1)
+sized code at = byte code at >>= λ size. ok_or (width_of size) (Unknown DW_OP_deref_size)
+    >>= λ width. decoded (Memory (DerefSize width)) (at + 1)
 
 -- an opcode and what it stands for
 pub record Row (A : Type 0) : Type 0 where
@@ -151,7 +156,8 @@ unknown opcode code at = Err (Unknown opcode)
 
 -- what an opcode with operands reads
 abbrev pub operands_of : ℕ → Reading
-operands_of opcode = unwrap_or (among opcode constant_rows) (unwrap_or (among opcode operand_rows) (unknown opcode))
+operands_of opcode =
+    unwrap_or (among opcode constant_rows) (unwrap_or (among opcode operand_rows) (unknown opcode))
 
 -- the opcodes of one kind of operation that stand in a row
 abbrev pub is_between : ℕ → ℕ → ℕ → Bool
@@ -160,9 +166,12 @@ is_between first opcode last = nat_le first opcode && nat_le opcode last
 -- what each opcode reads
 unfoldable pub reading_of : ℕ → Reading
 reading_of opcode =
-    if is_between DW_OP_lit0 opcode DW_OP_lit31 then plain (Literal (Lit (opcode - DW_OP_lit0))) else
-    if is_between DW_OP_reg0 opcode DW_OP_reg31 then plain (Register (Reg (opcode - DW_OP_reg0))) else
-    if is_between DW_OP_breg0 opcode DW_OP_breg31 then signed (λ n. Register (Breg (opcode - DW_OP_breg0) n)) else
+    if is_between DW_OP_lit0 opcode DW_OP_lit31 then plain (Literal (Lit (opcode - DW_OP_lit0)))
+    else
+    if is_between DW_OP_reg0 opcode DW_OP_reg31 then plain (Register (Reg (opcode - DW_OP_reg0)))
+    else
+    if is_between DW_OP_breg0 opcode DW_OP_breg31
+    then signed (λ n. Register (Breg (opcode - DW_OP_breg0) n)) else
     unwrap_or (option_map plain (among opcode plain_rows)) (operands_of opcode)
 
 -- the operation at a place

@@ -45,7 +45,8 @@ unary_value (PlusUconst n) a = (a + n) % 2 ^ 64
 
 -- the signed quotient, towards 0; that of -2^63 by -1 has the word of -2^63
 abbrev pub quotient : ℕ → ℕ → Result ℕ ExprFault
-quotient left right = if right == 0 then Err DivideByZero else Ok (word (int_div (signed left) (signed right)))
+quotient left right = if right == 0 then Err DivideByZero
+    else Ok (word (int_div (signed left) (signed right)))
 
 -- the unsigned rest
 abbrev pub rest : ℕ → ℕ → Result ℕ ExprFault
@@ -58,7 +59,8 @@ shifted_left left right = if nat_lt right 64 then (left * 2 ^ right) % 2 ^ 64 el
 abbrev pub shifted_right : ℕ → ℕ → ℕ
 shifted_right left right = if nat_lt right 64 then left / 2 ^ right else 0
 
--- the shift that keeps the sign: the quotient by a power of two, downwards; one by 64 or more leaves the sign in all bits
+-- the shift that keeps the sign: the quotient by a power of two, downwards; one by 64 or more
+-- leaves the sign in all bits
 abbrev pub shifted_signed : ℕ → ℕ → ℕ
 shifted_signed left right =
     if nat_lt right 64 then word (int_div_euclid (signed left) (pos (2 ^ right))) else

@@ -15,7 +15,8 @@ use crate::unary::changed;
 use plcr_memory::Memory;
 use plcr_regs::Registers;
 
-/// What an expression is evaluated over, beside its code: the memory, the registers, and how many bytes the code has.
+/// What an expression is evaluated over, beside its code: the memory, the registers, and how many
+/// bytes the code has.
 #[derive(Clone, Copy)]
 pub struct Surroundings<'a> {
     pub memory: &'a Memory,
@@ -163,7 +164,8 @@ pub fn apply(
     decoded: Decoded,
 ) -> Result<u64, ExprFault>
     ensures { result_map (λ place. moment place stack.new) result
-        ≡ applied around.now.memory.now around.now.registers.now around.now.size decoded.next decoded.operation stack.old }
+        ≡ applied around.now.memory.now around.now.registers.now around.now.size decoded.next
+        decoded.operation stack.old }
 {
     match decoded.operation {
         Operation::Literal(constant) => stack.try_push(value_of(constant))?,

@@ -110,7 +110,8 @@ fn constant<C: Cells>(code: &C, opcode: u8, at: u64) -> Result<Decoded, ExprFaul
 
 // Another operation with operands.
 fn with_operands<C: Cells>(code: &C, opcode: u8, at: u64) -> Result<Decoded, ExprFault>
-    ensures { result ≡ unwrap_or (among opcode operand_rows) (unknown opcode) (C.cells code.now) at }
+    ensures { result ≡ unwrap_or (among opcode operand_rows) (unknown opcode) (C.cells code.now)
+        at }
 {
     match opcode {
         DW_OP_pick => {

@@ -50,9 +50,10 @@ fn run<C: Cells>(code: &C, around: &Surroundings<'_>, start: Option<u64>) -> Res
     }
 }
 
-/// The value of the expression whose code is the `code_len` bytes at `code_at`, with `start` on the stack where it is
-/// given (DWARF 4, section 2.5): the top of the stack at the end of the code, or the fault of the operation at which
-/// the run stops. It carries out at most 1,000 operations with at most 64 values. Registers go by their DWARF numbers.
+/// The value of the expression whose code is the `code_len` bytes at `code_at`, with `start` on the
+/// stack where it is given (DWARF 4, section 2.5): the top of the stack at the end of the code, or
+/// the fault of the operation at which the run stops. It carries out at most 1,000 operations with
+/// at most 64 values. Registers go by their DWARF numbers.
 #[tactic(auto, using(crate::proofs::Running::stored_value))]
 pub fn eval(
     memory: &Memory,

@@ -1,9 +1,11 @@
 ghost use Rattle.std.specs.Prelude.{◌≡◌};
 
-/// Why an expression has no value. Within one operation `Budget` comes first, then the others in this order.
+/// Why an expression has no value. Within one operation `Budget` comes first, then the others in
+/// this order.
 #[derive(Clone, Copy, Debug, PartialEq, Eq)]
 pub enum ExprFault {
-    /// An operation or an operand passes the code or isn't mapped, or a LEB128 number has more than ten bytes.
+    /// An operation or an operand passes the code or isn't mapped, or a LEB128 number has more than
+    /// ten bytes.
     Truncated,
     /// No operation has this opcode, or DW_OP_deref_size has another size than 1, 2, 4 or 8 bytes.
     Unknown { op: u8 },

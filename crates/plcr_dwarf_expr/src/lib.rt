@@ -1,5 +1,5 @@
-//! DWARF expressions (DWARF 4, section 2.5), as call frame information has them: the value of an expression over memory
-//! and registers, or the fault at which it stops.
+//! DWARF expressions (DWARF 4, section 2.5), as call frame information has them: the value of an
+//! expression over memory and registers, or the fault at which it stops.
 #![tactic(auto)]
 
 mod apply;

@@ -1,4 +1,5 @@
-//! Operations with their operands, by their names in the standard without DW_OP_ (DWARF 4, sections 2.5.1,
+//! Operations with their operands, by their names in the standard without DW_OP_ (DWARF 4, sections
+//! 2.5.1,
 //! 2.6.1.1.2 and 7.7.1).
 
 /// A constant to be pushed: a literal encoding.
@@ -21,8 +22,8 @@ pub enum Constant {
     Lit(u8),
 }
 
-/// The value of a register by its DWARF number (section 2.6.1.1.2), or the sum of it and an offset in two's complement modulo
-/// 2^64 (section 2.5.1.2).
+/// The value of a register by its DWARF number (section 2.6.1.1.2), or the sum of it and an offset
+/// in two's complement modulo 2^64 (section 2.5.1.2).
 #[derive(Clone, Copy)]
 pub enum RegisterValue {
     Reg(u8),
@@ -67,7 +68,8 @@ pub enum UnaryOperation {
     PlusUconst(u64),
 }
 
-/// Arithmetic and comparisons of the two values at the top of the stack, of which the second is the left one.
+/// Arithmetic and comparisons of the two values at the top of the stack, of which the second is the
+/// left one.
 #[derive(Clone, Copy)]
 pub enum BinaryOperation {
     And,

@@ -55,7 +55,8 @@ fn memory_of(alloc: Global, at: u64, pieces: &[&[u8]]) -> Result<Memory, MemoryF
     }
 }
 
-// The answer for the code, which is the same where the code stands in one region and where it stands in two.
+// The answer for the code, which is the same where the code stands in one region and where it
+// stands in two.
 fn answer(
     alloc: Global,
     code: &[u8],

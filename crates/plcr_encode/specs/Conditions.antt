@@ -12,7 +12,8 @@ pub record AreWhole (arch : Arch) (states : List Registers) : Type 0 where
   pub each : All (IsWhole arch) states
   pub few : length states < 2 ^ 32
 
--- a context whose system is known, whose time is no negative number, whose texts have fewer than 2^32 bytes, and of whose addresses of code 32 to 64 bits count
+-- a context whose system is known, whose time is no negative number, whose texts have fewer than
+-- 2^32 bytes, and of whose addresses of code 32 to 64 bits count
 pub record IsWritable (context : Context) : Type 0 where
   pub os : context.os ≤ 2
   pub timestamp : context.timestamp < 2 ^ 63

@@ -14,7 +14,8 @@ use Rattle.plcr_cursor.specs.Frames.{frames_of}
 use Rattle.plcr_report.specs.declared.messages.Frame.{Frame}
 use Rattle.plcr_report.specs.declared.messages.Symbol.{Symbol}
 
--- the address of a frame's code, without signature, as a word of 64 bits; in each frame of a thread it is known
+-- the address of a frame's code, without signature, as a word of 64 bits; in each frame of a thread
+-- it is known
 abbrev pub pc_of : Given → ℕ
 pc_of given = unwrap_or (frame_pc given.frame) 0 % 2 ^ 64
 
@@ -24,7 +25,9 @@ lookup_in given = unwrap_or (frame_lookup given.frame) 0
 
 -- the symbol of an address: that in the first image of the list that has the address
 abbrev pub symbol_over : Contents → Arch → List Listed → ℕ → Option SymbolAt
-symbol_over memory arch listed address = option_and_then (λ found. symbol_at memory found.1 address) (first_over memory arch address 0 listed)
+symbol_over memory arch listed address =
+    option_and_then (λ found. symbol_at memory found.1 address)
+    (first_over memory arch address 0 listed)
 
 -- the name of a symbol; the bytes of each symbol's name are mapped
 abbrev pub name_of : Contents → SymbolAt → List ℕ
@@ -32,12 +35,20 @@ name_of memory symbol = unwrap_or (bytes_at memory symbol.name_at symbol.name_le
 
 -- a symbol by its name and its address; where it ends isn't told
 abbrev pub symbol_of : Contents → SymbolAt → Symbol
-symbol_of memory symbol = record { name = name_of memory symbol; start_address = symbol.value; end_address = None }
+symbol_of memory symbol =
+    record { name = name_of memory symbol; start_address = symbol.value; end_address = None }
 
--- a frame by the address of its code, with the symbol of the address by which its function is looked up
+-- a frame by the address of its code, with the symbol of the address by which its function is
+-- looked up
 abbrev pub frame_of : Contents → Arch → List Listed → Given → Frame
-frame_of memory arch listed given = record { pc = pc_of given; symbol = option_map (symbol_of memory) (symbol_over memory arch listed (lookup_in given)) }
+frame_of memory arch listed given =
+    record {
+      pc = pc_of given;
+      symbol = option_map (symbol_of memory) (symbol_over memory arch listed (lookup_in given));
+    }
 
--- the frames of a thread that was stopped in this state, in a process with this memory and these loaded images, where so many low bits of an address of code count
+-- the frames of a thread that was stopped in this state, in a process with this memory and these
+-- loaded images, where so many low bits of an address of code count
 abbrev pub thread_frames : Contents → List Listed → ℕ → Registers → List Frame
-thread_frames memory listed bits state = map (frame_of memory state.arch listed) (frames_of memory listed state bits)
+thread_frames memory listed bits state =
+    map (frame_of memory state.arch listed) (frames_of memory listed state bits)

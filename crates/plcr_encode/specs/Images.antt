@@ -1,4 +1,5 @@
--- The images of a report: those of the list of loaded images, in its order, each with what the memory holds of it.
+-- The images of a report: those of the list of loaded images, in its order, each with what the
+-- memory holds of it.
 use Rattle.std.specs.Prelude.{ℕ, List, map, Some, None, Result, Ok, Err}
 use Rattle.plcr_memory.specs.Regions.{Contents}
 use Rattle.plcr_regs.specs.declared.arch.Arch.{Arch}
@@ -13,7 +14,8 @@ use Rattle.plcr_report.specs.declared.messages.Processor.{Processor}
 abbrev pub processor_of : ℕ → ℕ → Processor
 processor_of cpu subtype = record { encoding = 1; cpu = cpu; subtype = subtype }
 
--- what is written of a listed image, by what stands at its header; of one that doesn't parse no more is known than its place in the list tells
+-- what is written of a listed image, by what stands at its header; of one that doesn't parse no
+-- more is known than its place in the list tells
 abbrev pub image_with : Listed → Result macho.Image ImageFault → Image
 image_with listed (Ok image) = record {
   base_address = listed.header;

@@ -21,7 +21,8 @@ use Rattle.plcr_encode.specs.declared.context.Context.{Context}
 use Rattle.plcr_encode.specs.Frames.{thread_frames}
 use Rattle.plcr_encode.specs.Images.{images_of}
 
--- the number by which crash_report.proto names an architecture; it has none for arm64, which is written as 6
+-- the number by which crash_report.proto names an architecture; it has none for arm64, which is
+-- written as 6
 abbrev pub architecture_number : Arch → ℕ
 architecture_number X86_64 = 1
 architecture_number Arm64 = 6
@@ -32,13 +33,15 @@ value_at state i = unwrap_or (slice_index_or state.value i None) 0
 
 -- register i of a state, with its name
 abbrev pub register_at : Registers → ℕ → Register
-register_at state i = record { name = slice_index_or (register_names state.arch) i []; value = value_at state i }
+register_at state i =
+    record { name = slice_index_or (register_names state.arch) i []; value = value_at state i }
 
 -- the registers of a state, in the order of the thread state
 abbrev pub registers_of : Registers → List Register
 registers_of state = map (register_at state) (range_with_len 0 (register_count state.arch))
 
--- a thread by its number, its frames and its state, where `crashed` is the number of the thread that crashed
+-- a thread by its number, its frames and its state, where `crashed` is the number of the thread
+-- that crashed
 abbrev pub thread_with : ℕ → ℕ → List Frame → Registers → Thread
 thread_with crashed number frames state = record {
   thread_number = number;
@@ -49,11 +52,14 @@ thread_with crashed number frames state = record {
 
 -- a thread by its number and its state, in a process with this memory and these loaded images
 abbrev pub thread_of : Contents → List Listed → Context → ℕ × Registers → Thread
-thread_of memory listed context thread = thread_with context.crashed thread.0 (thread_frames memory listed context.bits thread.1) thread.1
+thread_of memory listed context thread =
+    thread_with context.crashed thread.0 (thread_frames memory listed context.bits thread.1)
+    thread.1
 
 -- the threads in these states, numbered from 0
 abbrev pub threads_of : Contents → List Listed → Context → List Registers → List Thread
-threads_of memory listed context states = map (thread_of memory listed context) (enumerate_from 0 states)
+threads_of memory listed context states =
+    map (thread_of memory listed context) (enumerate_from 0 states)
 
 abbrev pub system_of : Context → System
 system_of context = record {
@@ -65,10 +71,15 @@ system_of context = record {
 }
 
 abbrev pub application_of : Context → Application
-application_of context = record { identifier = context.identifier.now; version = context.version.now }
+application_of context =
+    record { identifier = context.identifier.now; version = context.version.now }
 
 abbrev pub signal_of : Context → Signal
-signal_of context = record { name = context.signal.now; code = context.code.now; address = context.address }
+signal_of context = record {
+  name = context.signal.now;
+  code = context.code.now;
+  address = context.address;
+}
 
 abbrev pub process_of : Context → Process
 process_of context = record {
@@ -97,4 +108,6 @@ report_of context threads images = record {
 
 -- the report of a process with threads in these states, this memory and these loaded images
 abbrev pub process_report : Context → List Registers → Contents → List Listed → Report
-process_report context states memory listed = report_of context (threads_of memory listed context states) (images_of memory context.arch listed)
+process_report context states memory listed =
+    report_of context (threads_of memory listed context states)
+    (images_of memory context.arch listed)

@@ -25,7 +25,8 @@ fn answer_run<I: Images>(
     requires within { IfSome position (λ i. i < length (I.images images.old)) }
     requires rising { IsNonDecreasing addresses.now }
     requires room { length found.old ≡ length addresses.now }
-    ensures found { found.new ≡ map (symbol_by memory.now arch (I.images images.old) position) addresses.now }
+    ensures found { found.new ≡ map (symbol_by memory.now arch (I.images images.old) position)
+        addresses.now }
     ensures same { I.images images.new ≡ I.images images.old }
     ensures index { I.extents images.new ≡ I.extents images.old }
     ensures follows { I.follows images.old images.new }
@@ -51,7 +52,8 @@ fn answer_all<I: Images>(
     requires within { All (IsWithin (I.images images.old)) lookups.now }
     requires addresses { addresses.now ≡ map address_of lookups.now }
     requires room { length found.old ≡ length lookups.now }
-    ensures found { found.new ≡ map (answer (symbol_by memory.now arch (I.images images.old))) lookups.now }
+    ensures found { found.new ≡ map (answer (symbol_by memory.now arch (I.images images.old)))
+        lookups.now }
     ensures same { I.images images.new ≡ I.images images.old }
     ensures index { I.extents images.new ≡ I.extents images.old }
     ensures follows { I.follows images.old images.new }
@@ -77,7 +79,8 @@ fn answer_all<I: Images>(
 fn give_symbols(rows: &mut [FrameRow], lookups: &[Lookup], found: &[Option<SymbolAt>])
     requires lookups { IsPermutation (lookups_for rows.old) lookups.now }
     requires room { length found.now ≡ length lookups.now }
-    ensures { (symbol : Option ℕ → ℕ → Option SymbolAt) → found.now ≡ map (answer symbol) lookups.now → rows.new ≡ map (answered symbol) rows.old }
+    ensures { (symbol : Option ℕ → ℕ → Option SymbolAt) →
+        found.now ≡ map (answer symbol) lookups.now → rows.new ≡ map (answered symbol) rows.old }
 {
     for (i, lookup) in lookups.iter().enumerate() {
         rows[lookup.frame].symbol = found[i];
@@ -98,7 +101,8 @@ fn answer_rows<I: Images>(
     requires lookups { IsPermutation (lookups_for rows.old) lookups.now }
     requires addresses { addresses.now ≡ map address_of lookups.now }
     requires room { length found.old ≡ length lookups.now }
-    ensures found { rows.new ≡ map (answered (symbol_by memory.now arch (I.images images.old))) rows.old }
+    ensures found { rows.new ≡ map (answered (symbol_by memory.now arch (I.images images.old)))
+        rows.old }
     ensures same { I.images images.new ≡ I.images images.old }
     ensures index { I.extents images.new ≡ I.extents images.old }
     ensures follows { I.follows images.old images.new }
@@ -115,12 +119,13 @@ fn are_bare(rows: &[FrameRow]) -> bool
 }
 
 /// Finds the symbols of the rows of threads' frames. The lookups are sorted by image and address,
-/// so that the table of each image is gone through once, and the rows keep their order. Where no image
-/// with a symbol table has an address of the rows, nothing is looked for.
+/// so that the table of each image is gone through once, and the rows keep their order. Where no
+/// image with a symbol table has an address of the rows, nothing is looked for.
 pub(crate) fn find_symbols<I: Images>(room: &mut Room, images: &mut I, memory: &Memory, arch: Arch)
     requires { All (IsPlaced (I.images images.old)) room.old.rows.items }
     ensures counts { room.new.counts.items ≡ room.old.counts.items }
-    ensures found { room.new.rows.items ≡ map (answered (symbol_by memory.now arch (I.images images.old))) room.old.rows.items }
+    ensures found { room.new.rows.items
+        ≡ map (answered (symbol_by memory.now arch (I.images images.old))) room.old.rows.items }
     ensures same { I.images images.new ≡ I.images images.old }
     ensures index { I.extents images.new ≡ I.extents images.old }
     ensures follows { I.follows images.old images.new }

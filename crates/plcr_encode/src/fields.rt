@@ -62,7 +62,8 @@ pub(crate) fn flag_len(field: u32, value: bool) -> u64
 pub(crate) fn put_flag<W: Ink>(ink: &mut W, field: u32, value: bool)
     requires some { 0 < field }
     requires within { field < 2 ^ 29 }
-    ensures { Wrote (W.pen ink.old) (W.pen ink.new) (field_spelling (number_field field (if value then 1 else 0))) }
+    ensures { Wrote (W.pen ink.old) (W.pen ink.new)
+        (field_spelling (number_field field (if value then 1 else 0))) }
 {
     put_number(ink, field, if value { 1 } else { 0 });
 }
@@ -71,7 +72,8 @@ pub(crate) fn put_flag<W: Ink>(ink: &mut W, field: u32, value: bool)
 #[tactic(auto, using(crate::proofs::Lengths::bytes_length))]
 pub(crate) fn bytes_len(field: u32, count: u64) -> u64
     requires { count < 2 ^ 63 }
-    ensures size { (bytes : List ℕ) → length bytes ≡ count → result ≡ length (field_spelling (bytes_field field bytes)) }
+    ensures size { (bytes : List ℕ) → length bytes ≡ count →
+        result ≡ length (field_spelling (bytes_field field bytes)) }
     ensures short { result ≤ FIELD_BYTES + count }
 {
     tag_len(field, Wire::Bytes) + varint_len(count) + count
@@ -109,7 +111,8 @@ pub(crate) fn put_message<M: Message, W: Ink>(ink: &mut W, field: u32, message: 
     requires some { 0 < field }
     requires within { field < 2 ^ 29 }
     requires fits { M.fits message.now }
-    ensures wrote { Wrote (W.pen ink.old) (W.pen ink.new) (field_spelling (message_field field (M.fields message.now))) }
+    ensures wrote { Wrote (W.pen ink.old) (W.pen ink.new)
+        (field_spelling (message_field field (M.fields message.now))) }
     ensures size { result ≡ length (field_spelling (message_field field (M.fields message.now))) }
     ensures short { result ≤ FIELD_BYTES + M.most }
 {

@@ -21,7 +21,9 @@ use plcr_wire::Ink;
 /// Writes the name that stands at an address, through a buffer of its length.
 fn put_name<W: Ink>(ink: &mut W, memory: &Memory, at: u64, buffer: &mut [u8])
     requires { IsSome (bytes_at memory.now at (length buffer.old)) }
-    ensures { Wrote (W.pen ink.old) (W.pen ink.new) (field_spelling (bytes_field Symbol.NAME (unwrap_or (bytes_at memory.now at (length buffer.old)) []))) }
+    ensures { Wrote (W.pen ink.old) (W.pen ink.new)
+        (field_spelling (bytes_field Symbol.NAME
+        (unwrap_or (bytes_at memory.now at (length buffer.old)) []))) }
 {
     if !memory.copy(at, buffer) {
         unreachable!();
@@ -112,7 +114,9 @@ impl Message for FramePart<'_> {
 pub(crate) fn frames_len(memory: &Memory, rows: &[FrameRow]) -> u64
     requires few { length rows.now ≤ MOST_FRAMES }
     requires named { All (IsNamedIn memory.now) rows.now }
-    ensures size { result ≡ length (spelling (message_fields Thread.FRAMES frame_message (map (frame_in memory.now) rows.now))) }
+    ensures size { result
+        ≡ length (spelling (message_fields Thread.FRAMES frame_message
+        (map (frame_in memory.now) rows.now))) }
     ensures short { result ≤ (FIELD_BYTES + FRAME_BYTES) * MOST_FRAMES }
 {
     let mut length = 0;
@@ -126,7 +130,9 @@ pub(crate) fn frames_len(memory: &Memory, rows: &[FrameRow]) -> u64
 pub(crate) fn put_frames<W: Ink>(ink: &mut W, memory: &Memory, rows: &[FrameRow])
     requires few { length rows.now ≤ MOST_FRAMES }
     requires named { All (IsNamedIn memory.now) rows.now }
-    ensures { Wrote (W.pen ink.old) (W.pen ink.new) (spelling (message_fields Thread.FRAMES frame_message (map (frame_in memory.now) rows.now))) }
+    ensures { Wrote (W.pen ink.old) (W.pen ink.new)
+        (spelling (message_fields Thread.FRAMES frame_message
+        (map (frame_in memory.now) rows.now))) }
 {
     for row in rows {
         put_message(ink, Thread::FRAMES, &FramePart { memory, row });

@@ -45,7 +45,8 @@ fn walk_frames<I: Images>(
     requires bits { (32 ≤ bits) × (bits ≤ 64) }
     requires room { array_vec_len rows.old ≤ MOST_FRAMES }
     requires index { IsIndex known.old state.now.arch (I.images images.old) (I.extents images.old) }
-    ensures found { rows.new.items ≡ rows.old.items ++ walked known.old (I.images images.old) bits state.now }
+    ensures found { rows.new.items ≡ rows.old.items ++ walked known.old (I.images images.old) bits
+        state.now }
     ensures memory { known.new ≡ known.old }
     ensures same { I.images images.new ≡ I.images images.old }
     ensures index { I.extents images.new ≡ I.extents images.old }
@@ -78,11 +79,14 @@ fn walk_threads<I: Images>(
     bits: u8,
 ) -> usize
     requires bits { (32 ≤ bits) × (bits ≤ 64) }
-    requires index { (arch : arch.Arch) × All (IsWhole arch) states.now × IsIndex known.old arch (I.images images.old) (I.extents images.old) }
+    requires index { (arch : arch.Arch) × All (IsWhole arch) states.now
+        × IsIndex known.old arch (I.images images.old) (I.extents images.old) }
     ensures some { 0 < length states.now → 1 ≤ result }
     ensures within { result ≤ length states.now }
-    ensures rows { rows.new.items ≡ flat_map (walked known.old (I.images images.old) bits) (take result states.now) }
-    ensures counts { counts.new.items ≡ map (count_of (walked known.old (I.images images.old) bits)) (take result states.now) }
+    ensures rows { rows.new.items ≡ flat_map (walked known.old (I.images images.old) bits)
+        (take result states.now) }
+    ensures counts { counts.new.items ≡ map (count_of (walked known.old (I.images images.old) bits))
+        (take result states.now) }
     ensures memory { known.new ≡ known.old }
     ensures same { I.images images.new ≡ I.images images.old }
     ensures index { I.extents images.new ≡ I.extents images.old }
@@ -105,8 +109,8 @@ fn walk_threads<I: Images>(
 }
 
 /// Finds the frames of threads that were stopped in these states, from the first thread on, as long
-/// as their frames are few enough, with their symbols, and keeps them in place of those before. Gives
-/// how many threads these are.
+/// as their frames are few enough, with their symbols, and keeps them in place of those before.
+/// Gives how many threads these are.
 pub(crate) fn find_frames<I: Images>(
     room: &mut Room,
     images: &mut I,
@@ -122,7 +126,8 @@ pub(crate) fn find_frames<I: Images>(
     requires index { IsIndex memory.now arch (I.images images.old) (I.extents images.old) }
     ensures some { 0 < length states.now → 1 ≤ result }
     ensures within { result ≤ length states.now }
-    ensures rows { AreRowsOf (thread_frames memory.now (I.images images.old) bits) memory.now room.new.rows.items room.new.counts.items (take result states.now) }
+    ensures rows { AreRowsOf (thread_frames memory.now (I.images images.old) bits) memory.now
+        room.new.rows.items room.new.counts.items (take result states.now) }
     ensures named { All (IsNamedIn memory.now) room.new.rows.items }
     ensures memory { known.new ≡ known.old }
     ensures same { I.images images.new ≡ I.images images.old }

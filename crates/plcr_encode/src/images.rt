@@ -75,7 +75,9 @@ impl Message for ImagePart<'_> {
     ghost use Rattle.plcr_encode.specs.Images.{image_with};
     ghost use Rattle.plcr_encode.specs.declared.limits.TheConstants.{IMAGE_BYTES};
 
-    ghost fields = { λ part. image_message (image_with (record { header = part.header; name = part.name.now }) part.found.now) };
+    ghost fields = { λ part.
+        image_message (image_with (record { header = part.header; name = part.name.now })
+        part.found.now) };
 
     ghost fits = { λ part. IsImageName part.name.now };
 
@@ -140,8 +142,13 @@ fn put_image<I: Images, W: Ink>(
 ) -> u64
     requires inside { i < length (I.images images.old) }
     requires namable { IsNamable (listed_at (I.images images.old) i) }
-    ensures wrote { Wrote (W.pen ink.old) (W.pen ink.new) (field_spelling (message_field Report.BINARY_IMAGES (image_message (image_of memory.now arch (listed_at (I.images images.old) i))))) }
-    ensures size { result ≡ length (field_spelling (message_field Report.BINARY_IMAGES (image_message (image_of memory.now arch (listed_at (I.images images.old) i))))) }
+    ensures wrote { Wrote (W.pen ink.old) (W.pen ink.new)
+        (field_spelling (message_field Report.BINARY_IMAGES
+        (image_message (image_of memory.now arch (listed_at (I.images images.old) i))))) }
+    ensures size { result
+        ≡ length (field_spelling
+        (message_field Report.BINARY_IMAGES
+        (image_message (image_of memory.now arch (listed_at (I.images images.old) i))))) }
     ensures short { result ≤ FIELD_BYTES + IMAGE_BYTES }
     ensures same { I.images images.new ≡ I.images images.old }
     ensures follows { I.follows images.old images.new }
@@ -165,8 +172,12 @@ pub(crate) fn put_images<I: Images, W: Ink>(
     arch: Arch,
 ) -> u64
     requires { AreNamable (I.images images.old) }
-    ensures wrote { Wrote (W.pen ink.old) (W.pen ink.new) (spelling (message_fields Report.BINARY_IMAGES image_message (images_of memory.now arch (I.images images.old)))) }
-    ensures size { result ≡ length (spelling (message_fields Report.BINARY_IMAGES image_message (images_of memory.now arch (I.images images.old)))) }
+    ensures wrote { Wrote (W.pen ink.old) (W.pen ink.new)
+        (spelling (message_fields Report.BINARY_IMAGES image_message
+        (images_of memory.now arch (I.images images.old)))) }
+    ensures size { result
+        ≡ length (spelling (message_fields Report.BINARY_IMAGES image_message
+        (images_of memory.now arch (I.images images.old)))) }
     ensures short { result < IMAGES_BYTES }
     ensures same { I.images images.new ≡ I.images images.old }
     ensures follows { I.follows images.old images.new }

@@ -51,9 +51,14 @@ fn put_root<I: Images, W: Ink>(
     requires threads { AreWhole context.now.arch threads.now }
     requires context { IsWritable context.now }
     requires images { AreNamable (I.images images.old) }
-    requires index { IsIndex memory.now context.now.arch (I.images images.old) (I.extents images.old) }
-    ensures wrote { Wrote (W.pen ink.old) (W.pen ink.new) (spelling (report_message (process_report context.now threads.now memory.now (I.images images.old)))) }
-    ensures size { result ≡ length (spelling (report_message (process_report context.now threads.now memory.now (I.images images.old)))) }
+    requires index { IsIndex memory.now context.now.arch (I.images images.old)
+        (I.extents images.old) }
+    ensures wrote { Wrote (W.pen ink.old) (W.pen ink.new)
+        (spelling (report_message
+        (process_report context.now threads.now memory.now (I.images images.old)))) }
+    ensures size { result
+        ≡ length (spelling (report_message
+        (process_report context.now threads.now memory.now (I.images images.old)))) }
     ensures short { result < REPORT_BYTES }
     ensures same { I.images images.new ≡ I.images images.old }
     ensures follows { I.follows images.old images.new }
@@ -84,9 +89,14 @@ pub fn capture<I: Images, K: Sink>(
     requires threads { AreWhole context.now.arch threads.now }
     requires context { IsWritable context.now }
     requires images { AreNamable (I.images images.old) }
-    ensures written { OnOk result (K.written sink.new ≡ append_known (K.written sink.old) (spelling_of (process_report context.now threads.now memory.now (I.images images.old)))) }
-    ensures length { IfOk result (λ n. n ≡ length (spelling_of (process_report context.now threads.now memory.now (I.images images.old)))) }
-    ensures err { OnErr result (AppendsProperFront (K.written sink.old) (K.written sink.new) (spelling_of (process_report context.now threads.now memory.now (I.images images.old)))) }
+    ensures written { OnOk result
+        (K.written sink.new ≡ append_known (K.written sink.old)
+        (spelling_of (process_report context.now threads.now memory.now (I.images images.old)))) }
+    ensures length { IfOk result
+        (λ n. n ≡ length (spelling_of
+        (process_report context.now threads.now memory.now (I.images images.old)))) }
+    ensures err { OnErr result (AppendsProperFront (K.written sink.old) (K.written sink.new)
+        (spelling_of (process_report context.now threads.now memory.now (I.images images.old)))) }
     ensures cause { OnErr result (Rose (K.faults sink.old) (K.faults sink.new)) }
     ensures later { K.faults sink.old ≤ K.faults sink.new }
     ensures mark { K.mark sink.new ≡ K.mark sink.old }

@@ -1,4 +1,5 @@
-//! The room in which a capture finds the frames of its threads, one group of threads after the other.
+//! The room in which a capture finds the frames of its threads, one group of threads after the
+//! other.
 ghost use Rattle.std.specs.Prelude.{◌≡◌};
 
 use crate::frame_rows::FrameRow;

@@ -268,7 +268,8 @@ fn symbols_of_many_frames(rt: HostRuntime) -> Result<(), Fail> {
     let thread = stopped_at(0x7000_0000, A0 + 0xf50);
     let mut out = MemOut::new(alloc, 40_000, 1000, Vec::new(alloc))?;
     let _ = write_threads(&[image(A0, b"x")], &memory, &[thread; 4], &about, &mut out);
-    // What stands before the threads has 29 bytes; each thread has 301 frames, each of 23 bytes, and 204 others.
+    // What stands before the threads has 29 bytes; each thread has 301 frames, each of 23 bytes,
+    // and 204 others.
     let mut rest = out.bytes().split_at(out.bytes().len().min(29)).1;
     for number in 0..4u8 {
         let (one, behind) = rest.split_at(rest.len().min(7127));

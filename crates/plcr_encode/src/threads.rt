@@ -45,7 +45,8 @@ impl Message for RegisterPart {
     ghost use Rattle.plcr_report.specs.Messages.{register_message};
     ghost use Rattle.plcr_encode.specs.declared.limits.TheConstants.{REGISTER_BYTES, REGISTER_NAME_BYTES};
 
-    ghost fields = { λ part. register_message (record { name = part.name.now; value = part.value }) };
+    ghost fields = { λ part.
+        register_message (record { name = part.name.now; value = part.value }) };
 
     ghost fits = { λ part. length part.name.now ≤ REGISTER_NAME_BYTES };
 
@@ -88,7 +89,9 @@ fn register(state: &Registers, i: usize) -> RegisterPart
 
 /// The length of a thread's registers.
 fn registers_len(state: &Registers) -> u64
-    ensures size { result ≡ length (spelling (message_fields Thread.REGISTERS register_message (registers_of state.now))) }
+    ensures size { result
+        ≡ length (spelling (message_fields Thread.REGISTERS register_message
+        (registers_of state.now))) }
     ensures short { result ≤ (FIELD_BYTES + REGISTER_BYTES) * MOST_REGISTERS }
 {
     let mut length = 0;
@@ -100,7 +103,8 @@ fn registers_len(state: &Registers) -> u64
 
 /// Writes a thread's registers, in the order of its state.
 fn put_registers<W: Ink>(ink: &mut W, state: &Registers)
-    ensures { Wrote (W.pen ink.old) (W.pen ink.new) (spelling (message_fields Thread.REGISTERS register_message (registers_of state.now))) }
+    ensures { Wrote (W.pen ink.old) (W.pen ink.new)
+        (spelling (message_fields Thread.REGISTERS register_message (registers_of state.now))) }
 {
     for i in 0..count(state.arch) {
         put_message(ink, Thread::REGISTERS, &register(state, i));
@@ -126,7 +130,9 @@ impl Message for ThreadPart<'_> {
     ghost use Rattle.plcr_encode.specs.inner.FrameRows.{AreWritable, frame_in};
     ghost use Rattle.plcr_encode.specs.Values.{thread_with};
 
-    ghost fields = { λ part. thread_message (thread_with part.crashed part.number (map (frame_in part.memory.now) part.rows.now) part.state.now) };
+    ghost fields = { λ part.
+        thread_message (thread_with part.crashed part.number
+        (map (frame_in part.memory.now) part.rows.now) part.state.now) };
 
     ghost fits = { λ part. AreWritable part.memory.now part.rows.now };
 
@@ -150,8 +156,8 @@ impl Message for ThreadPart<'_> {
     ghost moderate = { lit< tt };
 }
 
-/// Writes threads in these states, numbered from a number on, whose rows stand one behind the other,
-/// and gives the length of what was written. The counts tell how many rows each thread has.
+/// Writes threads in these states, numbered from a number on, whose rows stand one behind the
+/// other, and gives the length of what was written. The counts tell how many rows each thread has.
 fn put_group<W: Ink>(
     ink: &mut W,
     memory: &Memory,
@@ -162,12 +168,19 @@ fn put_group<W: Ink>(
     crashed: u32,
 ) -> u64
     requires few { first + length states.now < 2 ^ 32 }
-    requires rows { (frames : regs.Registers → List report_frame.Frame) × AreRowsOf frames memory.now rows.now counts.now states.now }
+    requires rows { (frames : regs.Registers → List report_frame.Frame)
+        × AreRowsOf frames memory.now rows.now counts.now states.now }
     requires named { All (IsNamedIn memory.now) rows.now }
-    ensures wrote { (frames : regs.Registers → List report_frame.Frame) → AreRowsOf frames memory.now rows.now counts.now states.now
-        → Wrote (W.pen ink.old) (W.pen ink.new) (spelling (message_fields Report.THREADS thread_message (map (numbered_thread crashed frames) (enumerate_from first states.now)))) }
-    ensures size { (frames : regs.Registers → List report_frame.Frame) → AreRowsOf frames memory.now rows.now counts.now states.now
-        → result ≡ length (spelling (message_fields Report.THREADS thread_message (map (numbered_thread crashed frames) (enumerate_from first states.now)))) }
+    ensures wrote { (frames : regs.Registers → List report_frame.Frame) →
+        AreRowsOf frames memory.now rows.now counts.now states.now
+        → Wrote (W.pen ink.old) (W.pen ink.new)
+        (spelling (message_fields Report.THREADS thread_message
+        (map (numbered_thread crashed frames) (enumerate_from first states.now)))) }
+    ensures size { (frames : regs.Registers → List report_frame.Frame) →
+        AreRowsOf frames memory.now rows.now counts.now states.now
+        → result ≡ length (spelling
+        (message_fields Report.THREADS thread_message
+        (map (numbered_thread crashed frames) (enumerate_from first states.now)))) }
     ensures short { result ≤ (FIELD_BYTES + THREAD_BYTES) * length states.now }
 {
     let mut rest = rows;
@@ -187,9 +200,9 @@ fn put_group<W: Ink>(
     length
 }
 
-/// Writes the threads in these states, numbered from 0, and gives the length of what was written. The
-/// frames of a thread are found once, those of several threads together, and kept in the rows while
-/// the threads are sized and written.
+/// Writes the threads in these states, numbered from 0, and gives the length of what was written.
+/// The frames of a thread are found once, those of several threads together, and kept in the rows
+/// while the threads are sized and written.
 pub(crate) fn put_threads<I: Images, W: Ink>(
     ink: &mut W,
     room: &mut Room,
@@ -202,9 +215,14 @@ pub(crate) fn put_threads<I: Images, W: Ink>(
     requires memory { known.old ≡ memory.now }
     requires whole { AreWhole context.now.arch states.now }
     requires bits { (32 ≤ context.now.bits) × (context.now.bits ≤ 64) }
-    requires index { IsIndex memory.now context.now.arch (I.images images.old) (I.extents images.old) }
-    ensures wrote { Wrote (W.pen ink.old) (W.pen ink.new) (spelling (message_fields Report.THREADS thread_message (threads_of memory.now (I.images images.old) context.now states.now))) }
-    ensures size { result ≡ length (spelling (message_fields Report.THREADS thread_message (threads_of memory.now (I.images images.old) context.now states.now))) }
+    requires index { IsIndex memory.now context.now.arch (I.images images.old)
+        (I.extents images.old) }
+    ensures wrote { Wrote (W.pen ink.old) (W.pen ink.new)
+        (spelling (message_fields Report.THREADS thread_message
+        (threads_of memory.now (I.images images.old) context.now states.now))) }
+    ensures size { result
+        ≡ length (spelling (message_fields Report.THREADS thread_message
+        (threads_of memory.now (I.images images.old) context.now states.now))) }
     ensures short { result < THREADS_BYTES }
     ensures same { I.images images.new ≡ I.images images.old }
     ensures follows { I.follows images.old images.new }

@@ -9,7 +9,8 @@ use Rattle.plcr_expressions.specs.declared.line.Expression.{Expression}
 abbrev pub region : ℕ → ℕ → ℕ → Region
 region start from len = record { start = start; size = len; from = from; len = len }
 
--- the regions that the code fills: none where it has no byte, and two where it goes on at address 0 behind the last one
+-- the regions that the code fills: none where it has no byte, and two where it goes on at address 0
+-- behind the last one
 abbrev pub filled_by : ℕ → ℕ → List Region
 filled_by at len =
     if len == 0 then [] else
@@ -20,4 +21,5 @@ filled_by at len =
 abbrev pub alone : Expression → Result ℕ ExprFault
 alone e =
     let bytes = e.code.items in
-    value_of (setting_at (record { file = bytes; regions = filled_by e.at (length bytes) }) e.registers e.at (length bytes)) e.start
+    value_of (setting_at (record { file = bytes; regions = filled_by e.at (length bytes) })
+    e.registers e.at (length bytes)) e.start

@@ -3,7 +3,8 @@
 use plcr_regs::{Arch, MOST_REGISTERS, Registers};
 use std::alloc::Global;
 
-/// An expression: its code and the address of it, what is on the stack at the start, and the registers.
+/// An expression: its code and the address of it, what is on the stack at the start, and the
+/// registers.
 #[derive(Drop)]
 pub struct Expression {
     pub at: u64,
@@ -26,7 +27,8 @@ fn register_of(word: &str) -> Option<(usize, u64)> {
     Some((place.parse().ok()?, value.parse().ok()?))
 }
 
-/// The expression of a line; None where the line is of another form, or there is no memory for its code.
+/// The expression of a line; None where the line is of another form, or there is no memory for its
+/// code.
 pub fn expression_of(alloc: Global, line: &str) -> Option<Expression> {
     let mut words = line.split(' ');
     let arch = arch_of(words.next()?)?;

@@ -1,7 +1,8 @@
-//! Values of DWARF expressions, one a line. A line has an architecture, the address of the code, its bytes in hexadecimal
-//! digits or `-` for none, the value on the stack at the start or `-`, and then registers that are known, each as the
-//! number of its place in the thread state, `=` and its value. Nothing but the code is mapped. The answer is the value or
-//! the fault. `bench/expressions.py` runs it.
+//! Values of DWARF expressions, one a line. A line has an architecture, the address of the code,
+//! its bytes in hexadecimal digits or `-` for none, the value on the stack at the start or `-`, and
+//! then registers that are known, each as the number of its place in the thread state, `=` and its
+//! value. Nothing but the code is mapped. The answer is the value or the fault.
+//! `bench/expressions.py` runs it.
 #![tactic(auto)]
 
 mod answer;

@@ -8,7 +8,8 @@ use Rattle.plcr_regs.specs.Places.{fp_place}
 use Rattle.plcr_frameptr.specs.declared.saved.TheConstants.{SAVED_FRAME}
 use Rattle.plcr_frameptr.specs.Saved.{caller_of}
 
--- the frame pointer of the one is known and leads to two words, and the other is the caller by them; its frame pointer is 0 or lies above
+-- the frame pointer of the one is known and leads to two words, and the other is the caller by
+-- them; its frame pointer is 0 or lies above
 pub record IsCaller (memory : Contents) (frame caller : Frame) : Type 0 where
   pub pointer : ℕ
   pub words : List ℕ

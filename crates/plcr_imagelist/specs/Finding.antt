@@ -8,12 +8,14 @@ use Rattle.plcr_imagelist.specs.States.{WriterState}
 -- the first image of a list with a header
 abbrev pub first_with : ℕ → List Image → Option Image
 first_with header [] = None
-first_with header (image ∷ images) = if image.header == header then Some image else first_with header images
+first_with header (image ∷ images) = if image.header == header then Some image
+    else first_with header images
 
 -- a list without its first image with a header
 abbrev pub without_first : ℕ → List Image → List Image
 without_first header [] = []
-without_first header (image ∷ images) = if image.header == header then images else image ∷ without_first header images
+without_first header (image ∷ images) = if image.header == header then images
+    else image ∷ without_first header images
 
 -- the number is that of a node that is free in what the writer has seen
 abbrev pub IsFreeIn : WriterState → ℕ → Type 0

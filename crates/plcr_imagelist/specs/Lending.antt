@@ -1,4 +1,5 @@
--- What contracts see of a walk: the hold that it borrows until it is dropped, and the list from which it reads.
+-- What contracts see of a walk: the hold that it borrows until it is dropped, and the list from
+-- which it reads.
 use Rattle.std.specs.Prelude.{List, Option, Some, None, if◌then◌else◌}
 use Rattle.std.specs.Borrow.{MutBor}
 use Rattle.atomic_table.specs.Seated.{TableId}

@@ -27,8 +27,10 @@ writer_left (Ok change) = change.writer
 writer_left (Err r) = r.0
 
 -- an image with this name stands at the end of the writer's list, and its number is the next
-pub record IsLoaded (old : WriterState) (header : ℕ) (name : List ℕ) (number : ℕ) (new : WriterState) : Type 0 where
-  -- the steps: the writer was ready with a free node, the image was linked, and the change was counted
+pub record IsLoaded (old : WriterState) (header : ℕ) (name : List ℕ) (number : ℕ)
+    (new : WriterState) : Type 0 where
+  -- the steps: the writer was ready with a free node, the image was linked, and the change was
+  -- counted
   pub node : ℕ
   pub ready : WriterState
   pub finds : FindsNode old node ready
@@ -37,7 +39,8 @@ pub record IsLoaded (old : WriterState) (header : ℕ) (name : List ℕ) (number
   pub count : IsCountedAt linked new
   -- and what they come to
   pub number_is : number ≡ suc (loads old.history)
-  pub list : live new.history ≡ live old.history ++ record { node = node; load = number; header = header } ∷ []
+  pub list : live new.history ≡ live old.history
+      ++ record { node = node; load = number; header = header } ∷ []
   pub named : name_of number new.names ≡ name
 
 -- a load was made whole, or no node was free
@@ -55,7 +58,8 @@ pub record IsUnloaded (old : WriterState) (image : Image) (new : WriterState) : 
   pub list : live new.history ≡ without image.node (live old.history)
 
 -- the first image with the header was unloaded, where there is one
-abbrev pub UnloadsOrRefuses : WriterState → Option Image → WriterState → Result ℕ UnloadRefused → Type 0
+abbrev pub UnloadsOrRefuses : WriterState → Option Image → WriterState → Result ℕ UnloadRefused →
+    Type 0
 UnloadsOrRefuses old (Some image) new (Ok number) = (number ≡ image.load) × IsUnloaded old image new
 UnloadsOrRefuses old (Some image) new (Err refused) = ⊥
 UnloadsOrRefuses old None new (Ok number) = ⊥

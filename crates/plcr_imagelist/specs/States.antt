@@ -9,7 +9,9 @@ use Rattle.plcr_machine.specs.Changes.{TakesFirst}
 use Rattle.plcr_nodes.specs.declared.view.Store.{Store}
 use Rattle.plcr_nodes.specs.Names.{words_of}
 
--- what the writer knows: its list with its sizes, the history that it has seen with the names of its loads, the numbers of the passes that it has met, and what it has stored in nodes that are still free, the last first
+-- what the writer knows: its list with its sizes, the history that it has seen with the names of
+-- its loads, the numbers of the passes that it has met, and what it has stored in nodes that are
+-- still free, the last first
 pub record WriterState : Type 0 where
   pub table : TableId
   pub nodes : ℕ
@@ -35,7 +37,8 @@ abbrev pub is_load : Doing → Bool
 is_load (Loads header name) = true
 is_load (Unloads image) = false
 
--- the step that makes the change: of a load after its words and the end link, of an unload the first
+-- the step that makes the change: of a load after its words and the end link, of an unload the
+-- first
 abbrev pub change_step : Doing → ℕ
 change_step (Loads header name) = 4 + words_of (length name)
 change_step (Unloads image) = 1
@@ -44,7 +47,8 @@ change_step (Unloads image) = 1
 abbrev pub steps_of : Doing → ℕ
 steps_of doing = suc (change_step doing)
 
--- a change that was begun: what its writer knows, what it does, the number of its image's load, how many steps were made, and the free node that is taken next, 0 where there is none
+-- a change that was begun: what its writer knows, what it does, the number of its image's load, how
+-- many steps were made, and the free node that is taken next, 0 where there is none
 pub record ChangeState : Type 0 where
   pub writer : WriterState
   pub doing : Doing

@@ -18,11 +18,15 @@ note_of_walker s = record { table = s.table; history = s.history; names = s.name
 
 -- the writer was told what the note's token had seen
 abbrev pub IsWriterTold : WriterState → NoteState → WriterState → Type 0
-IsWriterTold old note new = IsTold (WriterSeesMore old) (λ past names. record old { history = past; names = names }) note new
+IsWriterTold old note new =
+    IsTold (WriterSeesMore old) (λ past names. record old { history = past; names = names }) note
+    new
 
 -- a pass was told likewise
 abbrev pub IsWalkerTold : WalkerState → NoteState → WalkerState → Type 0
-IsWalkerTold old note new = IsTold (WalkerSeesMore old) (λ past names. record old { history = past; names = names }) note new
+IsWalkerTold old note new =
+    IsTold (WalkerSeesMore old) (λ past names. record old { history = past; names = names }) note
+    new
 
 -- and so was the writer that a change has, whose steps stay as they were
 pub record IsChangeTold (old : ChangeState) (note : NoteState) (new : ChangeState) : Type 0 where
@@ -35,7 +39,8 @@ pub record IsHoldTold (old : HoldState) (note : NoteState) (new : HoldState) : T
   pub same : new ≡ record old { walker = new.walker }
   pub ends : (b : ℕ) → EndedAt old b → EndedAt new b
 
--- the writer met the pass for good: both had seen a beginning of what the writer has seen now, which has of the pass just the entries that the pass had seen
+-- the writer met the pass for good: both had seen a beginning of what the writer has seen now,
+-- which has of the pass just the entries that the pass had seen
 pub record IsMet (old : WriterState) (pass : WalkerState) (new : WriterState) : Type 0 where
   pub past : List Entry
   pub names : List (List ℕ)

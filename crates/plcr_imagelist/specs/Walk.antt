@@ -20,7 +20,9 @@ all_named names (image ∷ images) = with_name names image ∷ all_named names i
 abbrev pub images_of : HoldState → List Listed
 images_of s = all_named s.walker.names s.met
 
--- the same walk of the same pass over the same list, with the same enter and the same images met, ended or not as before and at the same change, after more that its pass saw, of which no entry is its own
+-- the same walk of the same pass over the same list, with the same enter and the same images met,
+-- ended or not as before and at the same change, after more that its pass saw, of which no entry is
+-- its own
 pub record IsSameWalk (old new : HoldState) : Type 0 where
   pub list : new.walker.table ≡ old.walker.table
   pub sizes : (new.walker.nodes ≡ old.walker.nodes) × (new.walker.passes ≡ old.walker.passes)
@@ -28,7 +30,8 @@ pub record IsSameWalk (old new : HoldState) : Type 0 where
   pub met : new.met ≡ old.met
   pub named : images_of new ≡ images_of old
   pub ended : new.ended ≡ old.ended
-  pub enter : before_enter new.walker.number new.walker.history ≡ before_enter old.walker.number old.walker.history
+  pub enter : before_enter new.walker.number new.walker.history
+      ≡ before_enter old.walker.number old.walker.history
   pub added : AddsOthers false (old.walker.number ∷ []) old.walker.history new.walker.history
   pub went : WentOn old.walker.names new.walker.names
   pub walking : IsWalking old → IsWalking new

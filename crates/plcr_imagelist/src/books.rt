@@ -1,4 +1,5 @@
-//! The writer's books: the owner of the table, the nodes that are free, those that wait to become free, and the list.
+//! The writer's books: the owner of the table, the nodes that are free, those that wait to become
+//! free, and the list.
 ghost use Rattle.std.specs.Prelude.{◌≡◌, ◌≢◌, ℕ, suc, ◌+◌, ◌<◌, ◌≤◌, ◌∷◌, true, false, length, take, slice_index_or, vec_len, vec_capacity, IfOk, IfSome, IfNone};
 ghost use Rattle.plcr_machine.specs.Lists.{live, loads, changes};
 ghost use Rattle.plcr_machine.specs.Passes.{counts, is_announced, owes_count};
@@ -52,7 +53,10 @@ impl Model for Books {
 
     ghost view = { λ b. record { owner = b.owner; spare = last_of b.free.items } };
 
-    ghost invariant = { λ b. Agrees b.owner b.bounds.items b.free.items b.removed.items b.images.items b.changes b.loads × ((b.owner.nodes ≤ vec_capacity b.free) × (b.owner.nodes ≤ vec_capacity b.removed) × (b.owner.nodes ≤ deque_capacity b.images)) };
+    ghost invariant = { λ b. Agrees b.owner b.bounds.items b.free.items b.removed.items
+        b.images.items b.changes b.loads
+        × ((b.owner.nodes ≤ vec_capacity b.free) × (b.owner.nodes ≤ vec_capacity b.removed)
+        × (b.owner.nodes ≤ deque_capacity b.images)) };
 }
 
 impl Books {
@@ -84,8 +88,10 @@ impl Books {
     /// The node that the next load takes, 0 where none is free.
     pub(crate) fn spare(&self) -> u32
         ensures node { result ≡ self.now.spare }
-        ensures none { result ≡ 0 → NoneFree self.now.owner.nodes self.now.owner.passes self.now.owner.history }
-        ensures free { result ≢ 0 → (result ≤ self.now.owner.nodes) × (is_free self.now.owner.passes result self.now.owner.history ≡ true) }
+        ensures none { result ≡ 0 →
+            NoneFree self.now.owner.nodes self.now.owner.passes self.now.owner.history }
+        ensures free { result ≢ 0 → (result ≤ self.now.owner.nodes)
+            × (is_free self.now.owner.passes result self.now.owner.history ≡ true) }
     {
         last_of(&self.free)
     }
@@ -95,7 +101,13 @@ impl Books {
         requires table { self.old.owner.table ≡ nodes.now }
         requires some { self.old.spare ≢ 0 }
         requires word { word < PAYLOAD_WORDS }
-        ensures { self.new ≡ record self.old { owner = record self.old.owner { filled = store self.old.spare (word + 1) value ∷ self.old.owner.filled } } }
+        ensures { self.new ≡ record self.old {
+          owner =
+              record self.old.owner {
+                filled =
+                    store self.old.spare (word + 1) value ∷ self.old.owner.filled;
+              };
+        } }
     {
         let node = self.spare();
         self.owner.fill(nodes, node, word, value);
@@ -105,7 +117,10 @@ impl Books {
     pub(crate) fn end_link(&mut self, nodes: &Nodes)
         requires table { self.old.owner.table ≡ nodes.now }
         requires some { self.old.spare ≢ 0 }
-        ensures { self.new ≡ record self.old { owner = record self.old.owner { filled = store self.old.spare 0 0 ∷ self.old.owner.filled } } }
+        ensures { self.new ≡ record self.old {
+          owner =
+              record self.old.owner { filled = store self.old.spare 0 0 ∷ self.old.owner.filled };
+        } }
     {
         let node = self.spare();
         self.owner.end_link(nodes, node);
@@ -116,7 +131,10 @@ impl Books {
         requires table { self.old.owner.table ≡ nodes.now }
         requires some { self.old.spare ≢ 0 }
         requires short { IsImageName name.now }
-        ensures { self.new ≡ record self.old { owner = record self.old.owner { filled = stores_after self.old.spare header name.now (3 + words_of (length name.now)) self.old.owner.filled } } }
+        ensures { self.new ≡ record self.old {
+          owner =
+              record self.old.owner { filled = stores_after self.old.spare header name.now (3 + words_of (length name.now)) self.old.owner.filled };
+        } }
     {
         let node = self.spare();
         store_image(&mut self.owner, nodes, node, header, name);
@@ -133,9 +151,11 @@ impl Books {
     pub(crate) fn link(&mut self, nodes: &Nodes, header: u64)
         requires table { self.old.owner.table ≡ nodes.now }
         requires some { self.old.spare ≢ 0 }
-        requires filled { IsFilled self.old.spare self.old.owner.filled × IsEnded self.old.spare self.old.owner.filled }
+        requires filled { IsFilled self.old.spare self.old.owner.filled
+            × IsEnded self.old.spare self.old.owner.filled }
         requires header { header ≡ header_in self.old.spare self.old.owner.filled }
-        requires paced { (owes_count self.old.owner.history ≡ false) × (changes self.old.owner.history < MOST_CHANGES) }
+        requires paced { (owes_count self.old.owner.history ≡ false)
+            × (changes self.old.owner.history < MOST_CHANGES) }
         ensures { IsLinked self.old.owner self.old.spare self.new.owner }
     {
         let tail = self.tail();
@@ -159,8 +179,10 @@ impl Books {
     /// Takes an image out of the list. Its node waits to become free.
     pub(crate) fn unlink(&mut self, nodes: &Nodes, at: usize, image: Image)
         requires table { self.old.owner.table ≡ nodes.now }
-        requires image { (at < length (live self.old.owner.history)) × (image ≡ slice_index_or (live self.old.owner.history) at image) }
-        requires paced { (owes_count self.old.owner.history ≡ false) × (changes self.old.owner.history < MOST_CHANGES) }
+        requires image { (at < length (live self.old.owner.history))
+            × (image ≡ slice_index_or (live self.old.owner.history) at image) }
+        requires paced { (owes_count self.old.owner.history ≡ false)
+            × (changes self.old.owner.history < MOST_CHANGES) }
         ensures { IsUnlinked self.old.owner image.node self.new.owner }
     {
         let before = self.place_before(at);
@@ -182,15 +204,20 @@ impl Books {
         self.owner.count(nodes);
     }
 
-    /// Looks at each pass, makes the nodes free that each of them has let go of by now, and says how many passes were
-    /// announced.
+    /// Looks at each pass, makes the nodes free that each of them has let go of by now, and says
+    /// how many passes were announced.
     pub(crate) fn look(&mut self, nodes: &Nodes) -> u32
         requires table { self.old.owner.table ≡ nodes.now }
         requires rest { IsAtRest (writer_state self.old.owner) }
-        ensures looks { Looks self.old.owner.passes (writer_state self.old.owner) result (writer_state self.new.owner) }
+        ensures looks { Looks self.old.owner.passes (writer_state self.old.owner) result
+            (writer_state self.new.owner) }
         ensures few { result ≤ self.old.owner.passes }
         ensures rest { IsAtRest (writer_state self.new.owner) }
-        ensures same { self.new.owner ≡ record self.old.owner { history = self.new.owner.history; names = self.new.owner.names } }
+        ensures same { self.new.owner ≡ record self.old.owner {
+          history =
+              self.new.owner.history;
+          names = self.new.owner.names;
+        } }
     {
         let passes = self.bounds.len() as u32;
         let announced = look_at_all(
@@ -210,7 +237,8 @@ impl Books {
         requires table { self.old.owner.table ≡ nodes.now }
         requires rest { IsAtRest (writer_state self.old.owner) }
         ensures none { IfNone result (FindsRoom self.old self.new) }
-        ensures some { IfSome result (RefusesFull (writer_state self.old.owner) (writer_state self.new.owner)) }
+        ensures some { IfSome result
+            (RefusesFull (writer_state self.old.owner) (writer_state self.new.owner)) }
         ensures rest { IsAtRest (writer_state self.new.owner) }
         ensures made { HasMade (writer_state self.old.owner) 0 (writer_state self.new.owner) }
         ensures list { self.new.owner.table ≡ self.old.owner.table }
@@ -257,7 +285,10 @@ impl Books {
 
     /// The first image with a header, with its place in the list.
     pub(crate) fn find(&self, header: u64) -> Option<(usize, Image)>
-        ensures some { IfSome result (λ r. (r.0 < length (live self.now.owner.history)) × (r.1 ≡ slice_index_or (live self.now.owner.history) r.0 r.1) × (first_with header (live self.now.owner.history) ≡ Some r.1) × (r.1.header ≡ header)) }
+        ensures some { IfSome result (λ r. (r.0 < length (live self.now.owner.history))
+            × (r.1 ≡ slice_index_or (live self.now.owner.history) r.0 r.1)
+            × (first_with header (live self.now.owner.history) ≡ Some r.1)
+            × (r.1.header ≡ header)) }
         ensures none { IfNone result (first_with header (live self.now.owner.history) ≡ None) }
     {
         find_header(&self.images, header)
@@ -307,7 +338,9 @@ pub(crate) fn last_of(numbers: &[u32]) -> u32
 
 /// The first image with a header, with its place.
 fn find_header(images: &VecDeque<Image>, header: u64) -> Option<(usize, Image)>
-    ensures some { IfSome result (λ r. (r.0 < length images.now.items) × (r.1 ≡ slice_index_or images.now.items r.0 r.1) × (first_with header images.now.items ≡ Some r.1) × (r.1.header ≡ header)) }
+    ensures some { IfSome result (λ r. (r.0 < length images.now.items)
+        × (r.1 ≡ slice_index_or images.now.items r.0 r.1)
+        × (first_with header images.now.items ≡ Some r.1) × (r.1.header ≡ header)) }
     ensures none { IfNone result (first_with header images.now.items ≡ None) }
 {
     let (front, back) = images.as_slices();
@@ -323,7 +356,9 @@ fn find_header(images: &VecDeque<Image>, header: u64) -> Option<(usize, Image)>
 // The first of a slice with a header.
 #[tactic(auto, using(crate::proofs::Placed::first_skip, crate::proofs::Placed::first_here, crate::proofs::Placed::first_none))]
 fn find_in(images: &[Image], header: u64) -> Option<(usize, Image)>
-    ensures some { IfSome result (λ r. (r.0 < length images.now) × (r.1 ≡ slice_index_or images.now r.0 r.1) × (first_with header images.now ≡ Some r.1) × (r.1.header ≡ header)) }
+    ensures some { IfSome result (λ r. (r.0 < length images.now)
+        × (r.1 ≡ slice_index_or images.now r.0 r.1) × (first_with header images.now ≡ Some r.1)
+        × (r.1.header ≡ header)) }
     ensures none { IfNone result (first_with header images.now ≡ None) }
 {
     for (at, image) in images.iter().enumerate() {
@@ -336,7 +371,8 @@ fn find_in(images: &[Image], header: u64) -> Option<(usize, Image)>
 
 /// The numbers of all nodes.
 fn all_nodes(alloc: Global, nodes: u32) -> Result<Vec<u32>, AllocError>
-    ensures { IfOk result (λ v. ((n : ℕ) → times n v.items ≡ once_where (is_node nodes n)) × (vec_len v ≡ nodes) × (nodes ≤ vec_capacity v)) }
+    ensures { IfOk result (λ v. ((n : ℕ) → times n v.items ≡ once_where (is_node nodes n))
+        × (vec_len v ≡ nodes) × (nodes ≤ vec_capacity v)) }
 {
     let mut all = Vec::with_capacity(alloc, nodes as usize)?;
     for node in 0..nodes {

@@ -11,7 +11,8 @@ use plcr_nodes::{Nodes, Owner};
 /// No bound is greater.
 const MOST_BOUND: u64 = u64::MAX;
 
-/// A node that was taken out of the list and isn't free yet, with how many changes were counted before that.
+/// A node that was taken out of the list and isn't free yet, with how many changes were counted
+/// before that.
 #[derive(Clone, Copy)]
 pub(crate) struct Removed {
     pub(crate) node: u32,
@@ -26,7 +27,8 @@ fn announced_in(stamp: u64) -> u32
     if stamp == 0 { 0 } else { 1 }
 }
 
-// What a pass with this stamp has let go of, after so many counts: what was taken out below this bound.
+// What a pass with this stamp has let go of, after so many counts: what was taken out below this
+// bound.
 fn bound_of(stamp: u64, counted: u32) -> u64
     ensures { result ≡ bound_of stamp counted }
 {
@@ -40,13 +42,15 @@ fn bound_of(stamp: u64, counted: u32) -> u64
 // Raises the bound of a pass, where it is lower.
 fn raise(bounds: &mut Vec<u64>, pass: u32, bound: u64)
     requires { pass < vec_len bounds.old }
-    ensures { bounds.new.items ≡ slice_set bounds.old.items pass (higher (slice_index bounds.old.items pass) bound) }
+    ensures { bounds.new.items
+        ≡ slice_set bounds.old.items pass (higher (slice_index bounds.old.items pass) bound) }
 {
     let before = bounds[pass as usize];
     bounds[pass as usize] = if before < bound { bound } else { before };
 }
 
-/// Looks at the stamp of each pass, in the order of their numbers, and says how many were announced.
+/// Looks at the stamp of each pass, in the order of their numbers, and says how many were
+/// announced.
 pub(crate) fn look_at_all(
     owner: &mut Owner,
     bounds: &mut Vec<u64>,
@@ -59,11 +63,16 @@ pub(crate) fn look_at_all(
     requires counted { counted ≡ counts owner.old.history }
     requires rest { IsAtRest (writer_state owner.old) }
     requires bounds { AreBounds owner.old.passes owner.old.history bounds.old.items }
-    ensures looks { Looks owner.old.passes (writer_state owner.old) result (writer_state owner.new) }
+    ensures looks { Looks owner.old.passes (writer_state owner.old) result
+        (writer_state owner.new) }
     ensures few { result ≤ owner.old.passes }
     ensures bounds { AreBounds owner.old.passes owner.new.history bounds.new.items }
     ensures rest { IsAtRest (writer_state owner.new) }
-    ensures same { owner.new ≡ record owner.old { history = owner.new.history; names = owner.new.names } }
+    ensures same { owner.new ≡ record owner.old {
+      history = owner.new.history;
+      names =
+          owner.new.names;
+    } }
 {
     let mut announced = 0;
     for pass in 0..passes {
@@ -94,7 +103,8 @@ pub(crate) fn let_go(free: &mut Vec<u32>, removed: &mut Vec<Removed>, bound: u64
     requires { vec_len free.old + vec_len removed.old ≤ vec_capacity free.old }
     ensures freed { free.new.items ≡ free.old.items ++ let_go_below bound removed.old.items }
     ensures kept { removed.new.items ≡ filter (is_above bound) removed.old.items }
-    ensures room { (vec_capacity free.old ≤ vec_capacity free.new) × (vec_capacity removed.new ≡ vec_capacity removed.old) }
+    ensures room { (vec_capacity free.old ≤ vec_capacity free.new)
+        × (vec_capacity removed.new ≡ vec_capacity removed.old) }
 {
     for gone in removed.as_slice() {
         if gone.before as u64 + 1 < bound {

@@ -1,4 +1,5 @@
-//! A change that was begun, and its steps. Between any two of them it may be kept as long as its owner likes.
+//! A change that was begun, and its steps. Between any two of them it may be kept as long as its
+//! owner likes.
 ghost use Rattle.std.specs.Prelude.{◌≡◌, ◌≢◌, ℕ, suc, ◌+◌, ◌<◌, ◌≤◌, ◌∷◌, false, true, length, slice_index_or};
 ghost use Rattle.plcr_base.specs.Limits.{IsImageName};
 ghost use Rattle.plcr_machine.specs.Passes.{IsPaced};
@@ -47,9 +48,17 @@ impl Model for Change {
 
     ghost use Rattle.plcr_imagelist.specs.inner.Making.{IsMaking, doing_of};
 
-    ghost view = { λ c. record { writer = writer_state c.books.owner; doing = doing_of c.task c.name.items; load = c.load; made = c.made; node = c.books.spare } };
+    ghost view = { λ c. record {
+      writer = writer_state c.books.owner;
+      doing =
+          doing_of c.task c.name.items;
+      load = c.load;
+      made = c.made;
+      node = c.books.spare;
+    } };
 
-    ghost invariant = { λ c. IsMaking c.books c.task c.name.items c.load c.made × (IMAGE_NAME_BYTES ≤ vec_capacity c.name) };
+    ghost invariant = { λ c. IsMaking c.books c.task c.name.items c.load c.made
+        × (IMAGE_NAME_BYTES ≤ vec_capacity c.name) };
 }
 
 /// What is left after a step: the change, or the writer after the last one.
@@ -76,7 +85,14 @@ fn store_word(books: &mut Books, nodes: &Nodes, header: u64, name: &[u8], made: 
     requires some { books.old.spare ≢ 0 }
     requires short { IsImageName name.now }
     requires early { made < 3 + words_of (length name.now) }
-    ensures { books.new ≡ record books.old { owner = record books.old.owner { filled = store books.old.spare (word_stored name.now made) (value_stored header name.now made) ∷ books.old.owner.filled } } }
+    ensures { books.new ≡ record books.old {
+      owner =
+          record books.old.owner {
+            filled =
+                store books.old.spare (word_stored name.now made) (value_stored header name.now made)
+                ∷ books.old.owner.filled;
+          };
+    } }
 {
     if made < 2 + words_of(name.len()) {
         let value = payload(header, name, made);
@@ -128,7 +144,8 @@ fn store_load(books: &mut Books, nodes: &Nodes, header: u64, name: &[u8], load: 
     ensures making { IsMaking books.new (Task.Load header) name.now load result }
     ensures last { suc result ≡ change_step (Loads header name.now) }
     ensures spare { books.new.spare ≡ books.old.spare }
-    ensures stores { OnlyStores (Loads header name.now) books.old.spare (writer_state books.old.owner) (writer_state books.new.owner) }
+    ensures stores { OnlyStores (Loads header name.now) books.old.spare
+        (writer_state books.old.owner) (writer_state books.new.owner) }
 {
     books.fill_whole(nodes, header, name);
     3 + words_of(name.len()) as u32
@@ -142,7 +159,8 @@ fn store_words(books: &mut Books, nodes: &Nodes, task: Task, name: &[u8], load: 
     ensures making { IsMaking books.new task name.now load result }
     ensures last { suc result ≡ change_step (doing_of task name.now) }
     ensures spare { books.new.spare ≡ books.old.spare }
-    ensures stores { OnlyStores (doing_of task name.now) books.old.spare (writer_state books.old.owner) (writer_state books.new.owner) }
+    ensures stores { OnlyStores (doing_of task name.now) books.old.spare
+        (writer_state books.old.owner) (writer_state books.new.owner) }
 {
     match task {
         Task::Load { header } => store_load(books, nodes, header, name, load),
@@ -165,7 +183,8 @@ fn make_step(books: &mut Books, nodes: &Nodes, task: Task, name: &[u8], load: u3
 }
 
 impl Change {
-    /// How many steps the change takes in all. A load whose name has n bytes takes (n + 7) / 8 + 5, an unload 2.
+    /// How many steps the change takes in all. A load whose name has n bytes takes (n + 7) / 8 + 5,
+    /// an unload 2.
     pub fn steps(&self) -> u32
         ensures { result ≡ steps_of self.now.doing }
     {

@@ -30,10 +30,12 @@ impl Model for Pass {
 
     ghost view = { λ p. walker_state p.pass };
 
-    ghost invariant = { λ p. IsOut (walker_state p.pass) × (p.pass.nodes ≤ vec_capacity p.met) × (p.pass.nodes ≤ vec_capacity p.spots) };
+    ghost invariant = { λ p. IsOut (walker_state p.pass) × (p.pass.nodes ≤ vec_capacity p.met)
+        × (p.pass.nodes ≤ vec_capacity p.spots) };
 }
 
-/// A pass that is in, with its walk. While it is in, no node that it may reach is loaded again, so it has to come out by
+/// A pass that is in, with its walk. While it is in, no node that it may reach is loaded again, so
+/// it has to come out by
 /// `leave`. Contracts see what it knows and the images that it has met.
 pub struct Hold {
     pub(crate) pass: NodePass,
@@ -57,9 +59,18 @@ impl Model for Hold {
 
     ghost Value = { HoldState };
 
-    ghost view = { λ h. record { walker = walker_state h.pass; met = images_on h.met.items h.pass.history; ended = h.ended; extents = extents_in h.count h.spots.items h.filled } };
+    ghost view = { λ h. record {
+      walker = walker_state h.pass;
+      met =
+          images_on h.met.items h.pass.history;
+      ended = h.ended;
+      extents =
+          extents_in h.count h.spots.items h.filled;
+    } };
 
-    ghost invariant = { λ h. IsHolding h.pass h.met.items h.ended h.low × (h.pass.nodes ≤ vec_capacity h.met) × (h.pass.nodes ≤ vec_capacity h.spots) × IsSettled h.count h.spots.items h.filled };
+    ghost invariant = { λ h. IsHolding h.pass h.met.items h.ended h.low
+        × (h.pass.nodes ≤ vec_capacity h.met) × (h.pass.nodes ≤ vec_capacity h.spots)
+        × IsSettled h.count h.spots.items h.filled };
 }
 
 /// How many changes were counted before a hold's enter, and before its leave.
@@ -127,8 +138,9 @@ impl Pass {
 }
 
 impl Hold {
-    /// Meets the image that follows the one met last, or else ends the walk: says whether it met one. Once it has ended it
-    /// stays as it is. In one hold it says yes at most as often as the list has nodes.
+    /// Meets the image that follows the one met last, or else ends the walk: says whether it met
+    /// one. Once it has ended it stays as it is. In one hold it says yes at most as often as the
+    /// list has nodes.
     pub fn next(&mut self, list: &ImageList) -> bool
         requires { self.old.walker.table ≡ list.now }
         ensures next { IsNext self.old result self.new }

@@ -1,4 +1,5 @@
-//! A hold says how far its walk has come, and may be kept in a collection; a change says what it does.
+//! A hold says how far its walk has come, and may be kept in a collection; a change says what it
+//! does.
 ghost use Rattle.std.specs.Prelude.{◌≡◌, IfOk};
 
 use crate::tests::{A, B, load};

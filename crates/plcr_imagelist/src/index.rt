@@ -12,7 +12,8 @@ use plcr_memory::Memory;
 use plcr_nodes::{NodePass, Nodes};
 use plcr_regs::Arch;
 
-// Makes a room at least as long as this. It has the capacity: pages of it that no index ever needs stay untouched.
+// Makes a room at least as long as this. It has the capacity: pages of it that no index ever needs
+// stay untouched.
 fn lengthen(spots: &mut Vec<Spot>, count: usize)
     requires { count ≤ vec_capacity spots.old }
     ensures long { count ≤ vec_len spots.new }
@@ -32,7 +33,8 @@ fn lengthen(spots: &mut Vec<Spot>, count: usize)
     }
 }
 
-// Reads the header of each image that was met, and makes the images' index in a room. Gives how many spots it has.
+// Reads the header of each image that was met, and makes the images' index in a room. Gives how
+// many spots it has.
 fn index_met(
     pass: &mut NodePass,
     met: &[u32],

@@ -55,7 +55,8 @@ fn place(hold: &mut Hold, list: &ImageList, memory: &Memory, address: u64) -> Op
     images.locate(address)
 }
 
-// The image met first isn't readable, and the small one is met before the wide one, and unloaded meanwhile.
+// The image met first isn't readable, and the small one is met before the wide one, and unloaded
+// meanwhile.
 fn tells_places(
     rt: &impl Abort,
     list: &ImageList,

@@ -7,9 +7,10 @@ use plcr_macho::Spot;
 use plcr_nodes::NodePass;
 use std::marker::Model;
 
-/// A hold that is kept among other values, as in a `Vec`, which wants what may be dropped. It is the same hold, and contracts
-/// see the same of it: its pass is in, and comes out only once it is a `Hold` again and left. One that is dropped stays in
-/// for good, and the nodes that it may reach are never free again.
+/// A hold that is kept among other values, as in a `Vec`, which wants what may be dropped. It is
+/// the same hold, and contracts see the same of it: its pass is in, and comes out only once it is a
+/// `Hold` again and left. One that is dropped stays in for good, and the nodes that it may reach
+/// are never free again.
 #[derive(Drop)]
 pub struct KeptHold {
     pass: NodePass,
@@ -30,9 +31,18 @@ impl Model for KeptHold {
 
     ghost Value = { HoldState };
 
-    ghost view = { λ h. record { walker = walker_state h.pass; met = images_on h.met.items h.pass.history; ended = h.ended; extents = extents_in h.count h.spots.items h.filled } };
+    ghost view = { λ h. record {
+      walker = walker_state h.pass;
+      met =
+          images_on h.met.items h.pass.history;
+      ended = h.ended;
+      extents =
+          extents_in h.count h.spots.items h.filled;
+    } };
 
-    ghost invariant = { λ h. IsHolding h.pass h.met.items h.ended h.low × (h.pass.nodes ≤ vec_capacity h.met) × (h.pass.nodes ≤ vec_capacity h.spots) × IsSettled h.count h.spots.items h.filled };
+    ghost invariant = { λ h. IsHolding h.pass h.met.items h.ended h.low
+        × (h.pass.nodes ≤ vec_capacity h.met) × (h.pass.nodes ≤ vec_capacity h.spots)
+        × IsSettled h.count h.spots.items h.filled };
 }
 
 impl Hold {

@@ -24,8 +24,8 @@ pub fn rest_has_lists()
     ensures { RestHasLists }
 {}
 
-/// All that a pass that is out has done are whole holds: for each enter it announced itself just before, and it came out
-/// and retired.
+/// All that a pass that is out has done are whole holds: for each enter it announced itself just
+/// before, and it came out and retired.
 pub fn passes_made_holds(pass: &Pass)
     ensures { MadeHolds pass.now.number pass.now.history }
 {

@@ -1,5 +1,5 @@
-//! The list of loaded images. One writer loads and unloads, a step at a time and without waiting, while passes walk the
-//! list from other threads. `docs/image-list.md` has the picture.
+//! The list of loaded images. One writer loads and unloads, a step at a time and without waiting,
+//! while passes walk the list from other threads. `docs/image-list.md` has the picture.
 #![tactic(auto)]
 
 mod books;

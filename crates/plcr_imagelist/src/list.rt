@@ -46,14 +46,16 @@ impl From<AllocError> for OpenError {
 }
 
 impl ImageList {
-    /// An empty list and the tokens for it: the writer, and as many passes, with the numbers from 0 on. They take all their
-    /// room here. `BadSize` comes exactly where there aren't 1 to 4,096 nodes and 1 to 1,024 passes.
+    /// An empty list and the tokens for it: the writer, and as many passes, with the numbers from 0
+    /// on. They take all their room here. `BadSize` comes exactly where there aren't 1 to 4,096
+    /// nodes and 1 to 1,024 passes.
     pub fn open(
         alloc: Global,
         nodes: u32,
         passes: u32,
     ) -> Result<(ImageList, Writer, Vec<Pass>), OpenError>
-        ensures opened { IfOk result (λ r. IsSized nodes passes × IsOpenedList nodes passes r.0 r.1 r.2.items) }
+        ensures opened { IfOk result (λ r. IsSized nodes passes
+            × IsOpenedList nodes passes r.0 r.1 r.2.items) }
         ensures first { IfOk result (λ r. StartsEmpty r.1) }
         ensures bad { ¬ IsSized nodes passes → IsErrOf result (OpenError.BadSize nodes passes) }
         ensures memory { IsSized nodes passes → IfErr result (λ e. e ≡ OpenError.Memory) }

@@ -84,8 +84,8 @@ fn a_pass_that_stays_holds_all_back(rt: HostRuntime) -> Result<(), Fail> {
     Ok(())
 }
 
-// One turn of two passes: the one that is out goes in before the other comes out. Between them an image is loaded and
-// unloaded.
+// One turn of two passes: the one that is out goes in before the other comes out. Between them an
+// image is loaded and unloaded.
 fn take_turns(
     rt: &impl Abort,
     list: &ImageList,
@@ -156,8 +156,8 @@ fn announce_late(list: &ImageList, pass: Pass) -> NodePass
     pass
 }
 
-// Each pass is found out once, in different runs of looks, and announced before the unload in the other: so the node is
-// free, though no run finds both out.
+// Each pass is found out once, in different runs of looks, and announced before the unload in the
+// other: so the node is free, though no run finds both out.
 fn free_by_two_runs(rt: &impl Abort, list: &ImageList, writer: Writer, first: Pass, second: Pass)
     requires writer { writer.table ≡ list.now }
     requires passes { (first.table ≡ list.now) × (second.table ≡ list.now) }

@@ -3,8 +3,9 @@
 /// Why an image wasn't loaded.
 #[derive(Clone, Copy, Debug, PartialEq, Eq)]
 pub enum LoadRefused {
-    /// No node is free: so many images are in the list, and so many nodes were taken out and aren't free yet. `seen` is
-    /// the number of changes times `COUNT_UNIT`, and how many passes were found announced.
+    /// No node is free: so many images are in the list, and so many nodes were taken out and aren't
+    /// free yet. `seen` is the number of changes times `COUNT_UNIT`, and how many passes were found
+    /// announced.
     Full { live: u32, held: u32, seen: u64 },
     /// The name has more than 1,024 bytes.
     NameTooLong { len: usize },

@@ -1,7 +1,8 @@
-//! A writer changes the list on one thread while three passes walk it on others until it has ended. Each walk is judged by
-//! the plain program that says which walks are lawful, along the lists that the changes leave: three images are loaded,
-//! and then the oldest is unloaded and another loaded by turns. There are few nodes, so a load may find none free while
-//! passes are inside: it is tried until there is one.
+//! A writer changes the list on one thread while three passes walk it on others until it has ended.
+//! Each walk is judged by the plain program that says which walks are lawful, along the lists that
+//! the changes leave: three images are loaded, and then the oldest is unloaded and another loaded
+//! by turns. There are few nodes, so a load may find none free while passes are inside: it is tried
+//! until there is one.
 ghost use Rattle.std.specs.Prelude.{◌≡◌, ◌<◌, length};
 ghost use Rattle.std.specs.Thread.{IsSync};
 ghost use Rattle.plcr_imagelist.specs.Walk.{images_of};
@@ -26,7 +27,8 @@ const TURNS: u32 = 2000;
 /// The tries after which a thread gives up, many hours of them.
 const MOST_TRIES: u32 = 1_000_000_000;
 
-// An image that is known by its number: that of its load, which is its header too and, in bytes, its name.
+// An image that is known by its number: that of its load, which is its header too and, in bytes,
+// its name.
 fn image(alloc: Global, number: u32) -> Result<Named, AllocError> {
     let header = u64::from(number);
     let name = name_of(alloc, header)?;
@@ -118,7 +120,8 @@ fn read_at(hold: &mut Hold, list: &ImageList, at: usize) -> (u64, usize, u64)
     (header, len, word)
 }
 
-// The images that a walk met, each with its header as its number. One whose name hasn't 8 bytes gets the number 0.
+// The images that a walk met, each with its header as its number. One whose name hasn't 8 bytes
+// gets the number 0.
 fn read(alloc: Global, hold: &mut Hold, list: &ImageList) -> Result<Vec<Named>, AllocError>
     requires { hold.old.walker.table ≡ list.now }
     ensures { hold.new.walker.table ≡ list.now }
@@ -137,7 +140,8 @@ fn read(alloc: Global, hold: &mut Hold, list: &ImageList) -> Result<Vec<Named>, 
     Ok(met)
 }
 
-// Whether a walk is lawful between the lists of its window. Before a count its change may have been made already.
+// Whether a walk is lawful between the lists of its window. Before a count its change may have been
+// made already.
 fn is_lawful(lists: &[Vec<Named>], met: &[Named], window: Window) -> bool {
     let from = window.low as usize;
     let after = window.high as usize + 1;
@@ -149,7 +153,8 @@ fn is_lawful(lists: &[Vec<Named>], met: &[Named], window: Window) -> bool {
     from <= to && to < lists.len() && is_lawful_walk(lists, from, to, met)
 }
 
-// Goes in, walks to the end and comes out. Gives how many changes were counted by then, and whether the walk was lawful.
+// Goes in, walks to the end and comes out. Gives how many changes were counted by then, and whether
+// the walk was lawful.
 fn walk_once(alloc: Global, list: &ImageList, lists: &[Vec<Named>], pass: Pass) -> (Pass, u32, bool)
     requires { pass.table ≡ list.now }
     ensures { result.0.table ≡ list.now }
@@ -240,7 +245,8 @@ fn run<R: Threads + Sync>(
     passes: (Pass, Pass, Pass),
 ) -> bool
     requires writer { writer.table ≡ list.now }
-    requires passes { (passes.0.table ≡ list.now) × (passes.1.table ≡ list.now) × (passes.2.table ≡ list.now) }
+    requires passes { (passes.0.table ≡ list.now) × (passes.1.table ≡ list.now)
+        × (passes.2.table ≡ list.now) }
 {
     let (first, second, third) = passes;
     let ((made, one), (two, three)) = thread::join(

@@ -1,4 +1,5 @@
-//! What one token of a list has seen is told to another: by a note, or as the writer meets a pass for good.
+//! What one token of a list has seen is told to another: by a note, or as the writer meets a pass
+//! for good.
 ghost use Rattle.std.specs.Prelude.{◌≡◌, []};
 ghost use Rattle.plcr_machine.specs.Passes.{IsPaced};
 ghost use Rattle.plcr_imagelist.specs.States.{IsAtRest};

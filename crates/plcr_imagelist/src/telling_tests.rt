@@ -1,4 +1,5 @@
-//! Notes go between a writer, a change, a pass and a hold, and in the end the writer meets its passes.
+//! Notes go between a writer, a change, a pass and a hold, and in the end the writer meets its
+//! passes.
 ghost use Rattle.std.specs.Prelude.{◌≡◌};
 ghost use Rattle.plcr_machine.specs.Lists.{Grows};
 
@@ -60,7 +61,8 @@ fn finish(rt: &impl Abort, list: &ImageList, change: Change) -> Writer
     writer
 }
 
-// A walk meets its image beside an unload that is told of, and with both passes met the node is taken again.
+// A walk meets its image beside an unload that is told of, and with both passes met the node is
+// taken again.
 fn tells_and_meets(rt: &impl Abort, list: &ImageList, writer: Writer, first: Pass, second: Pass)
     requires writer { writer.table ≡ list.now }
     requires first { first.table ≡ list.now }

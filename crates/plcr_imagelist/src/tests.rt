@@ -1,5 +1,5 @@
-//! Worked runs by direct calls: a full table beside a pass inside, a walk past images that come and go, and a change
-//! that is kept between two steps.
+//! Worked runs by direct calls: a full table beside a pass inside, a walk past images that come and
+//! go, and a change that is kept between two steps.
 ghost use Rattle.std.specs.Prelude.{◌≡◌, ◌<◌, length};
 ghost use Rattle.plcr_imagelist.specs.Holds.{IsWalking};
 ghost use Rattle.plcr_imagelist.specs.Walk.{images_of};
@@ -133,8 +133,9 @@ fn opens_the_largest_list(rt: HostRuntime) -> Result<(), Fail> {
     Ok(())
 }
 
-// Two images are loaded, a pass meets the first, both are unloaded and a third is loaded: no node is free for a fourth
-// until the pass has come out. Its walk goes on to the second, which is out of the list by then.
+// Two images are loaded, a pass meets the first, both are unloaded and a third is loaded: no node
+// is free for a fourth until the pass has come out. Its walk goes on to the second, which is out of
+// the list by then.
 fn fills_the_table(rt: &impl Abort, list: &ImageList, writer: Writer, pass: Pass)
     requires writer { writer.table ≡ list.now }
     requires pass { pass.table ≡ list.now }
@@ -271,7 +272,8 @@ fn refuses_a_long_name(rt: HostRuntime) -> Result<(), Fail> {
     Ok(())
 }
 
-// Three images are loaded and two are met; then three more are loaded, and the first and the third are unloaded.
+// Three images are loaded and two are met; then three more are loaded, and the first and the third
+// are unloaded.
 fn walks_past_changes(rt: &impl Abort, list: &ImageList, writer: Writer, pass: Pass)
     requires writer { writer.table ≡ list.now }
     requires pass { pass.table ≡ list.now }
@@ -344,7 +346,8 @@ fn an_unload_is_made_by_steps(rt: HostRuntime) -> Result<(), Fail> {
     Ok(())
 }
 
-// The image met first has this name of nine bytes, which lies in two words with the lowest byte first.
+// The image met first has this name of nine bytes, which lies in two words with the lowest byte
+// first.
 fn expect_two_words(rt: &impl Abort, hold: &mut Hold, list: &ImageList)
     requires list { hold.old.walker.table ≡ list.now }
     requires met { 0 < length (images_of hold.old) }

@@ -13,7 +13,8 @@ use plcr_macho::Images;
 use plcr_memory::Memory;
 use plcr_regs::Arch;
 
-/// The images that a hold has met so far. Each is read from the list's words at each call, also after it was unloaded.
+/// The images that a hold has met so far. Each is read from the list's words at each call, also
+/// after it was unloaded.
 #[derive(Drop)]
 pub struct Walk<'a> {
     hold: &'a mut Hold,
@@ -27,8 +28,8 @@ impl Hold {
     ghost use Rattle.std.specs.Prelude.{None};
     ghost use Rattle.plcr_imagelist.specs.Lending.{lent_hold, walked_extents, walked_list};
 
-    /// The images met so far, as a list. The walk borrows the hold: once it is dropped, the hold is as the walk's last value
-    /// has it.
+    /// The images met so far, as a list. The walk borrows the hold: once it is dropped, the hold is
+    /// as the walk's last value has it.
     pub fn images<'a>(&'a mut self, list: &'a ImageList) -> Walk<'a>
         requires { self.old.walker.table ≡ list.now }
         ensures same_reference { (lent_hold result).ghost_name ≡ self.entry.ghost_name }
@@ -104,7 +105,8 @@ impl Images for Walk<'_> {
 
     ghost extents = { λ w. walked_extents w };
 
-    ghost follows = { λ x y. ((lent_hold y).ghost_name ≡ (lent_hold x).ghost_name) × (walked_list y ≡ walked_list x) × IsSameWalk (lent_hold x).now (lent_hold y).now };
+    ghost follows = { λ x y. ((lent_hold y).ghost_name ≡ (lent_hold x).ghost_name)
+        × (walked_list y ≡ walked_list x) × IsSameWalk (lent_hold x).now (lent_hold y).now };
 
     fn count(&self) -> usize {
         self.hold.count()
@@ -137,5 +139,6 @@ impl Images for Walk<'_> {
 
     ghost follows_itself = { λ x. (refl, refl, walk_itself x.hold.now) };
 
-    ghost follows_on = { λ x y z p q. (q.0 ∙ p.0, q.1 ∙ p.1, walk_again x.hold.now y.hold.now z.hold.now p.2 q.2) };
+    ghost follows_on = { λ x y z p q.
+        (q.0 ∙ p.0, q.1 ∙ p.1, walk_again x.hold.now y.hold.now z.hold.now p.2 q.2) };
 }

@@ -18,7 +18,8 @@ pub(crate) fn words_of(len: usize) -> usize
     (len + 7) / 8
 }
 
-/// One payload word of an image: its header, the length of its name, and then the words of the name.
+/// One payload word of an image: its header, the length of its name, and then the words of the
+/// name.
 pub(crate) fn payload(header: u64, name: &[u8], word: usize) -> u64
     requires { word < 2 + words_of (length name.now) }
     ensures { result ≡ payload_word header name.now word }
@@ -48,7 +49,10 @@ pub(crate) fn store_image(owner: &mut Owner, nodes: &Nodes, node: u32, header: u
     requires node { (0 < node) × (node ≤ owner.old.nodes) }
     requires free { is_free owner.old.passes node owner.old.history ≡ true }
     requires short { IsImageName name.now }
-    ensures { owner.new ≡ record owner.old { filled = stores_after node header name.now (3 + words_of (length name.now)) owner.old.filled } }
+    ensures { owner.new ≡ record owner.old {
+      filled =
+          stores_after node header name.now (3 + words_of (length name.now)) owner.old.filled;
+    } }
 {
     owner.fill(nodes, node, 0, header);
     owner.fill(nodes, node, 1, name.len() as u64);

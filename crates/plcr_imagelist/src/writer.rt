@@ -43,7 +43,8 @@ impl Model for Writer {
 
     ghost view = { λ w. writer_state w.books.owner };
 
-    ghost invariant = { λ w. IsAtRest (writer_state w.books.owner) × (IMAGE_NAME_BYTES ≤ vec_capacity w.name) };
+    ghost invariant = { λ w. IsAtRest (writer_state w.books.owner)
+        × (IMAGE_NAME_BYTES ≤ vec_capacity w.name) };
 }
 
 // A load in a free node.
@@ -77,7 +78,8 @@ fn start_load(books: Books, kept: Vec<u8>, header: u64, name: &[u8]) -> Change
 fn start_unload(books: Books, kept: Vec<u8>, at: usize, image: Image) -> Change
     requires rest { IsAtRest (writer_state books.owner) }
     requires fresh { changes books.owner.history < MOST_CHANGES }
-    requires image { (at < length (live books.owner.history)) × (image ≡ slice_index_or (live books.owner.history) at image) }
+    requires image { (at < length (live books.owner.history))
+        × (image ≡ slice_index_or (live books.owner.history) at image) }
     requires first { first_with image.header (live books.owner.history) ≡ Some image }
     requires room { IMAGE_NAME_BYTES ≤ vec_capacity kept }
     ensures { result ≡ begun_unload (writer_state books.owner) image books.spare }
@@ -109,9 +111,11 @@ impl Writer {
         Ok(Writer { books, name })
     }
 
-    /// Begins a load on a free node. No step is made yet and nothing stored, but where no node is free it looks once at
-    /// each pass, in the order of their numbers. `Worn` comes exactly where 4,294,967,295 changes were made, then
-    /// `NameTooLong` exactly above 1,024 bytes, and `Full` exactly where no node is free after these looks.
+    /// Begins a load on a free node. No step is made yet and nothing stored, but where no node is
+    /// free it looks once at each pass, in the order of their numbers. `Worn` comes exactly where
+    /// 4,294,967,295 changes were made, then
+    /// `NameTooLong` exactly above 1,024 bytes, and `Full` exactly where no node is free after
+    /// these looks.
     #[inline(always)]
     pub fn begin_load(
         self,
@@ -121,14 +125,17 @@ impl Writer {
     ) -> Result<Change, (Writer, LoadRefused)>
         requires { self.table ≡ list.now }
         ensures worn { IsWorn self → result ≡ Err (self, LoadRefused.Worn MOST_CHANGES) }
-        ensures long { ¬ IsWorn self → IMAGE_NAME_BYTES < length name.now → result ≡ Err (self, LoadRefused.NameTooLong (length name.now)) }
-        ensures begins { ¬ IsWorn self → IsImageName name.now → BeginsLoad self header name.now result }
+        ensures long { ¬ IsWorn self → IMAGE_NAME_BYTES < length name.now →
+            result ≡ Err (self, LoadRefused.NameTooLong (length name.now)) }
+        ensures begins { ¬ IsWorn self → IsImageName name.now →
+            BeginsLoad self header name.now result }
         ensures open { IfOk result (IsOpen self.table) }
         ensures back { IfErr result (λ r. (r.0.table ≡ self.table) × IsAtRest r.0) }
         ensures paced { IfOk result (λ change. IsPaced change.writer.history) }
         ensures made { HasMade self 0 (writer_left result) }
         ensures changes { AddsChanges self [] (writer_left result) }
-        ensures change { IfOk result (λ change. change_of change.doing change.load ≡ Loads (record { load = change.load; header = header; name = name.now })) }
+        ensures change { IfOk result (λ change. change_of change.doing change.load
+            ≡ Loads (record { load = change.load; header = header; name = name.now })) }
         ensures lists { IfOk result (λ change. HasLists change.writer) }
     {
         let Writer {
@@ -151,8 +158,9 @@ impl Writer {
         }
     }
 
-    /// Begins an unload of the first image with the header. `Worn` comes exactly where 4,294,967,295 changes were made, and
-    /// otherwise `NotLoaded` exactly where no image of the list has the header.
+    /// Begins an unload of the first image with the header. `Worn` comes exactly where
+    /// 4,294,967,295 changes were made, and otherwise `NotLoaded` exactly where no image of the
+    /// list has the header.
     #[inline(always)]
     pub fn begin_unload(
         self,
@@ -161,13 +169,15 @@ impl Writer {
     ) -> Result<Change, (Writer, UnloadRefused)>
         requires { self.table ≡ list.now }
         ensures worn { IsWorn self → result ≡ Err (self, UnloadRefused.Worn MOST_CHANGES) }
-        ensures begins { ¬ IsWorn self → BeginsUnload self header (first_with header (live self.history)) result }
+        ensures begins { ¬ IsWorn self →
+            BeginsUnload self header (first_with header (live self.history)) result }
         ensures open { IfOk result (IsOpen self.table) }
         ensures back { IfErr result (λ r. (r.0.table ≡ self.table) × IsAtRest r.0) }
         ensures paced { IfOk result (λ change. IsPaced change.writer.history) }
         ensures made { HasMade self 0 (writer_left result) }
         ensures changes { AddsChanges self [] (writer_left result) }
-        ensures change { IfOk result (λ change. change_of change.doing change.load ≡ Unloads header) }
+        ensures change { IfOk result (λ change. change_of change.doing change.load
+            ≡ Unloads header) }
         ensures lists { IfOk result (λ change. HasLists change.writer) }
     {
         let _ = list;
@@ -194,11 +204,14 @@ impl Writer {
         name: &[u8],
     ) -> (Writer, Result<u32, LoadRefused>)
         requires { self.table ≡ list.now }
-        ensures worn { IsWorn self → (result.0 ≡ self) × (result.1 ≡ Err (LoadRefused.Worn MOST_CHANGES)) }
-        ensures long { ¬ IsWorn self → IMAGE_NAME_BYTES < length name.now → (result.0 ≡ self) × (result.1 ≡ Err (LoadRefused.NameTooLong (length name.now))) }
+        ensures worn { IsWorn self →
+            (result.0 ≡ self) × (result.1 ≡ Err (LoadRefused.Worn MOST_CHANGES)) }
+        ensures long { ¬ IsWorn self → IMAGE_NAME_BYTES < length name.now →
+            (result.0 ≡ self) × (result.1 ≡ Err (LoadRefused.NameTooLong (length name.now))) }
         ensures list { result.0.table ≡ self.table }
         ensures rest { IsAtRest result.0 }
-        ensures loads { ¬ IsWorn self → IsImageName name.now → LoadsOrRefuses self header name.now result.0 result.1 }
+        ensures loads { ¬ IsWorn self → IsImageName name.now →
+            LoadsOrRefuses self header name.now result.0 result.1 }
         ensures made { HasMade self (made_by result.1) result.0 }
         ensures changes { AddsChanges self (made_by_load header name.now result.1) result.0 }
         ensures lists { HasLists result.0 }
@@ -216,14 +229,17 @@ impl Writer {
     #[inline(always)]
     pub fn unload(self, list: &ImageList, header: u64) -> (Writer, Result<u32, UnloadRefused>)
         requires { self.table ≡ list.now }
-        ensures worn { IsWorn self → (result.0 ≡ self) × (result.1 ≡ Err (UnloadRefused.Worn MOST_CHANGES)) }
+        ensures worn { IsWorn self →
+            (result.0 ≡ self) × (result.1 ≡ Err (UnloadRefused.Worn MOST_CHANGES)) }
         ensures list { result.0.table ≡ self.table }
         ensures rest { IsAtRest result.0 }
-        ensures unloads { ¬ IsWorn self → UnloadsOrRefuses self (first_with header (live self.history)) result.0 result.1 }
+        ensures unloads { ¬ IsWorn self →
+            UnloadsOrRefuses self (first_with header (live self.history)) result.0 result.1 }
         ensures made { HasMade self (made_by result.1) result.0 }
         ensures changes { AddsChanges self (made_by_unload header result.1) result.0 }
         ensures lists { HasLists result.0 }
-        ensures first { ¬ IsWorn self → IfOk result.1 (λ _. live result.0.history ≡ without_first header (live self.history)) }
+        ensures first { ¬ IsWorn self →
+            IfOk result.1 (λ _. live result.0.history ≡ without_first header (live self.history)) }
     {
         match self.begin_unload(list, header) {
             Ok(change) => {

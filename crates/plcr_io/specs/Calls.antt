@@ -7,6 +7,7 @@ use Rattle.plcr_io.specs.Counting.{next}
 abbrev pub FailsNext : List ℕ → ℕ → Type 0
 FailsNext failing calls = Contains failing (next calls)
 
--- the next call fails, whatever it is: its number is one of those that fail, or its name is above the limit
+-- the next call fails, whatever it is: its number is one of those that fail, or its name is above
+-- the limit
 abbrev pub CallFails : List ℕ → ℕ → List ℕ → Type 0
 CallFails failing calls name = FailsNext failing calls ⊎ (FILE_NAME_BYTES < length name)

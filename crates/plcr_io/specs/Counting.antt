@@ -5,7 +5,8 @@ use Rattle.std.specs.Prelude.{ℕ, ◌+◌, ◌-◌, ◌^◌, min, Result, Ok, E
 abbrev pub next : ℕ → ℕ
 next count = min (count + 1) (2 ^ 64 - 1)
 
--- a count of failures after a call with this answer: one higher where the call failed, and else as it was
+-- a count of failures after a call with this answer: one higher where the call failed, and else as
+-- it was
 abbrev pub count_after : {A E : Type 0} → ℕ → Result A E → ℕ
 count_after count (Ok value) = count
 count_after count (Err error) = next count

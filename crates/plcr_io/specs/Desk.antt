@@ -1,4 +1,5 @@
--- What is known of a desk, from which files are taken and on which outputs are made, and what each of its calls does to that.
+-- What is known of a desk, from which files are taken and on which outputs are made, and what each
+-- of its calls does to that.
 use Rattle.std.specs.Prelude.{◌≡◌, ◌⊎◌, ℕ, ◌+◌, ◌<◌, ◌≤◌, List, [], length, Option, Result, Vec, IfOk, OnOk, OnErr, IsErrOf}
 use Rattle.std.specs.Option.{option_map}
 use Rattle.std.specs.declared.alloc.Global.{Global}
@@ -28,7 +29,8 @@ abbrev pub file : List ℕ → Option (List ℕ) → Option (List ℕ × List �
 file name written = option_map (λ bytes. (name, bytes)) written
 
 -- a take with this name and limit
-pub record Takes (name : List ℕ) (limit : ℕ) (old new : Told) (result : Result (Vec ℕ Global) TakeFault) : Type 0 where
+pub record Takes (name : List ℕ) (limit : ℕ) (old new : Told)
+    (result : Result (Vec ℕ Global) TakeFault) : Type 0 where
   -- Ok has the whole bytes of the file, and never more than `limit` of them
   pub bytes : IfOk result (λ whole. IfTold (old.files name) (λ bytes. whole.items ≡ bytes))
   pub within : IfOk result (λ whole. length whole.items ≤ limit)
@@ -36,9 +38,12 @@ pub record Takes (name : List ℕ) (limit : ℕ) (old new : Told) (result : Resu
   pub unlisted : OnErr result (new.taken ≡ old.taken)
   -- it fails only where its count rose
   pub failed : IsErrOf result Failed → Rose old.take_faults new.take_faults
-  -- too long comes only where the file has more bytes than the limit, and always then, but for want of memory, where the count didn't rise
-  pub too_long : (n : ℕ) → IsErrOf result (TooLong n) → (n ≡ limit) × IfTold (old.files name) (λ bytes. limit < length bytes)
-  pub longer : IfTold (old.files name) (λ bytes. limit < length bytes → IsErrOf result (TooLong limit) ⊎ IsErrOf result Memory ⊎ Rose old.take_faults new.take_faults)
+  -- too long comes only where the file has more bytes than the limit, and always then, but for want
+  -- of memory, where the count didn't rise
+  pub too_long : (n : ℕ) → IsErrOf result (TooLong n) →
+      (n ≡ limit) × IfTold (old.files name) (λ bytes. limit < length bytes)
+  pub longer : IfTold (old.files name) (λ bytes. limit < length bytes →
+      IsErrOf result (TooLong limit) ⊎ IsErrOf result Memory ⊎ Rose old.take_faults new.take_faults)
   pub later : old.take_faults ≤ new.take_faults
   -- nothing else changes
   pub files : new.files ≡ old.files
@@ -47,8 +52,10 @@ pub record Takes (name : List ℕ) (limit : ℕ) (old new : Told) (result : Resu
   pub dropped : new.dropped ≡ old.dropped
   pub out_faults : new.out_faults ≡ old.out_faults
 
--- the making of an output with this name, where an output's bytes and count of faults are read by `written` and `faults`
-pub record Makes {Out : Type 0} (written : Out → Option (List ℕ)) (faults : Out → ℕ) (name : List ℕ) (old new : Told) (result : Result Out MakeFailed) : Type 0 where
+-- the making of an output with this name, where an output's bytes and count of faults are read by
+-- `written` and `faults`
+pub record Makes {Out : Type 0} (written : Out → Option (List ℕ)) (faults : Out →
+    ℕ) (name : List ℕ) (old new : Told) (result : Result Out MakeFailed) : Type 0 where
   -- the output has written nothing and has no faults
   pub empty : IfOk result (λ out. IfTold (written out) (λ bytes. bytes ≡ []))
   pub faultless : IfOk result (λ out. faults out ≡ 0)
@@ -65,7 +72,8 @@ pub record Makes {Out : Type 0} (written : Out → Option (List ℕ)) (faults : 
   pub take_faults : new.take_faults ≡ old.take_faults
 
 -- the keeping, under this name, of an output that has written these bytes
-pub record Keeps (name : List ℕ) (written : Option (List ℕ)) (old new : Told) (result : Result (Unit {0}) MakeFailed) : Type 0 where
+pub record Keeps (name : List ℕ) (written : Option (List ℕ)) (old new : Told)
+    (result : Result (Unit {0}) MakeFailed) : Type 0 where
   pub listed : OnOk result (new.kept ≡ add_told old.kept (file name written))
   pub unlisted : OnErr result (new.kept ≡ old.kept)
   -- it fails only where the count rose
@@ -94,8 +102,12 @@ pub record Abandons (written : Option (List ℕ)) (faults : ℕ) (old new : Told
 
 -- where all three are told, at least as many outputs were made as were kept and dropped
 abbrev pub Balances : Told → Type 0
-Balances told = IfTold told.made (λ made. IfTold told.kept (λ kept. IfTold told.dropped (λ dropped. length kept + length dropped ≤ length made)))
+Balances told = IfTold told.made
+    (λ made. IfTold told.kept
+    (λ kept. IfTold told.dropped (λ dropped. length kept + length dropped ≤ length made)))
 
 -- where all three are told, more outputs were made than were kept and dropped: one is still open
 abbrev pub HasOpen : Told → Type 0
-HasOpen told = IfTold told.made (λ made. IfTold told.kept (λ kept. IfTold told.dropped (λ dropped. length kept + length dropped < length made)))
+HasOpen told = IfTold told.made
+    (λ made. IfTold told.kept
+    (λ kept. IfTold told.dropped (λ dropped. length kept + length dropped < length made)))

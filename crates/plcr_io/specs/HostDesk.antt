@@ -32,7 +32,8 @@ after_take counts (Err Memory) = counts
 abbrev pub after_output : {A E : Type 0} → Counts → Result A E → Counts
 after_output counts answer = record counts { out_faults = count_after counts.out_faults answer }
 
--- the counts after an output was given up with so many faults: that of outputs is one higher where there are some
+-- the counts after an output was given up with so many faults: that of outputs is one higher where
+-- there are some
 abbrev pub after_abandon : Counts → ℕ → Counts
 after_abandon counts zero = counts
 after_abandon counts (suc n) = record counts { out_faults = next counts.out_faults }

@@ -18,7 +18,8 @@ pub record MemoryDesk : Type 0 where
   pub files : List File
   -- what makes hand out, in order
   pub outs : List Output
-  -- the numbers of the takes, makes and keeps that fail, from 1, and how many of these calls there were
+  -- the numbers of the takes, makes and keeps that fail, from 1, and how many of these calls there
+  -- were
   pub failing : List ℕ
   pub calls : ℕ
   -- what the calls did, in order
@@ -61,27 +62,37 @@ tells desk = record {
 }
 
 -- a take with this name and limit
-pub record TakesFile (name : List ℕ) (limit : ℕ) (old new : MemoryDesk) (result : Result (Vec ℕ Global) TakeFault) : Type 0 where
-  pub fails : IsErrOf result Failed ↔ (CallFails old.failing old.calls name ⊎ (first_named name old.files ≡ None))
+pub record TakesFile (name : List ℕ) (limit : ℕ) (old new : MemoryDesk)
+    (result : Result (Vec ℕ Global) TakeFault) : Type 0 where
+  pub fails : IsErrOf result Failed ↔ (CallFails old.failing old.calls name
+      ⊎ (first_named name old.files ≡ None))
   pub ok : OnOk result (new ≡ record old { calls = next old.calls; taken = old.taken ++ name ∷ [] })
-  pub failed : IsErrOf result Failed → new ≡ record old { calls = next old.calls; take_faults = next old.take_faults }
+  pub failed : IsErrOf result Failed →
+      new ≡ record old { calls = next old.calls; take_faults = next old.take_faults }
   pub too_long : IsErrOf result (TooLong limit) → new ≡ record old { calls = next old.calls }
   pub memory : IsErrOf result Memory → new ≡ record old { calls = next old.calls }
 
 -- a make with this name, whose output is seen as one in memory
-pub record MakesOutput (name : List ℕ) (old new : MemoryDesk) (result : Result Output MakeFailed) : Type 0 where
+pub record MakesOutput (name : List ℕ) (old new : MemoryDesk)
+    (result : Result Output MakeFailed) : Type 0 where
   pub fails : IsErr result ↔ (CallFails old.failing old.calls name ⊎ (old.outs ≡ []))
   pub first : IfOk result (λ out. old.outs ≡ out ∷ new.outs)
-  pub ok : OnOk result (new ≡ record old { calls = next old.calls; outs = new.outs; made = old.made ++ name ∷ [] })
-  pub failed : OnErr result (new ≡ record old { calls = next old.calls; out_faults = next old.out_faults })
+  pub ok : OnOk result
+      (new ≡ record old { calls = next old.calls; outs = new.outs; made = old.made ++ name ∷ [] })
+  pub failed : OnErr result
+      (new ≡ record old { calls = next old.calls; out_faults = next old.out_faults })
 
 -- a keep under this name of an output with these bytes
-pub record KeepsOutput (name bytes : List ℕ) (old new : MemoryDesk) (result : Result (Unit {0}) MakeFailed) : Type 0 where
+pub record KeepsOutput (name bytes : List ℕ) (old new : MemoryDesk)
+    (result : Result (Unit {0}) MakeFailed) : Type 0 where
   pub fails : IsErr result ↔ CallFails old.failing old.calls name
-  pub ok : OnOk result (new ≡ record old { calls = next old.calls; kept = old.kept ++ (name, bytes) ∷ [] })
-  pub failed : OnErr result (new ≡ record old { calls = next old.calls; out_faults = next old.out_faults })
+  pub ok : OnOk result
+      (new ≡ record old { calls = next old.calls; kept = old.kept ++ (name, bytes) ∷ [] })
+  pub failed : OnErr result
+      (new ≡ record old { calls = next old.calls; out_faults = next old.out_faults })
 
 -- the giving up of an output with these bytes and this count of faults
 pub record AbandonsOutput (bytes : List ℕ) (faults : ℕ) (old new : MemoryDesk) : Type 0 where
-  pub faulty : 0 < faults → new ≡ record old { dropped = old.dropped ++ bytes ∷ []; out_faults = next old.out_faults }
+  pub faulty : 0 < faults →
+      new ≡ record old { dropped = old.dropped ++ bytes ∷ []; out_faults = next old.out_faults }
   pub faultless : faults ≡ 0 → new ≡ record old { dropped = old.dropped ++ bytes ∷ [] }

@@ -52,7 +52,8 @@ pub trait Desk {
 
     /// Begins an output that has written nothing.
     fn make(&mut self, name: &str) -> Result<Self::Out, MakeFailed>
-        ensures { Makes Self.Out.written Self.Out.faults name.now (told self.old) (told self.new) result };
+        ensures { Makes Self.Out.written Self.Out.faults name.now (told self.old) (told self.new)
+            result };
 
     /// Ends an output, and keeps what it has written as the file with this name.
     fn keep(&mut self, name: &str, out: Self::Out) -> Result<(), MakeFailed>
@@ -62,7 +63,8 @@ pub trait Desk {
     /// Gives up an output and keeps nothing of it.
     fn abandon(&mut self, out: Self::Out)
         requires { HasOpen (told self.old) }
-        ensures { Abandons (Self.Out.written out) (Self.Out.faults out) (told self.old) (told self.new) };
+        ensures { Abandons (Self.Out.written out) (Self.Out.faults out) (told self.old)
+            (told self.new) };
 
     /// No more outputs were kept and given up than were made.
     ghost balances: { (desk : Self) → Balances (told desk) };

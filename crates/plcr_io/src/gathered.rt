@@ -47,7 +47,8 @@ fn pass_on<K: Sink>(sink: &mut K, room: &mut Room) -> Result<(), PutFailed>
 impl<K: Sink> Gathered<K> {
     /// Passes on what waits, to the sink's end. At `Err` a rest of it still waits.
     pub(crate) fn finish(&mut self) -> Result<(), PutFailed>
-        ensures written { append_known (K.written self.new.sink) self.new.room ≡ append_known (K.written self.old.sink) self.old.room }
+        ensures written { append_known (K.written self.new.sink) self.new.room
+            ≡ append_known (K.written self.old.sink) self.old.room }
         ensures ok { OnOk result (self.new.room ≡ []) }
         ensures cause { OnErr result (Rose (K.faults self.old.sink) (K.faults self.new.sink)) }
         ensures later { K.faults self.old.sink ≤ K.faults self.new.sink }

@@ -63,7 +63,11 @@ impl<R> Model for HostDesk<R> {
 
     ghost Value = { Counts };
 
-    ghost view = { λ desk. record { take_faults = desk.take_faults; out_faults = desk.out_faults } };
+    ghost view = { λ desk. record {
+      take_faults = desk.take_faults;
+      out_faults =
+          desk.out_faults;
+    } };
 }
 
 impl<R> HostDesk<R> {
@@ -143,7 +147,8 @@ impl<R: Files> Desk for HostDesk<R> {
 
     fn make(&mut self, name: &str) -> Result<HostFile<R::File>, MakeFailed>
         ensures counts { self.new ≡ after_output self.old result }
-        ensures told { Makes (λ _. None) (λ file. file) name.now (tells self.old) (tells self.new) result }
+        ensures told { Makes (λ _. None) (λ file. file) name.now (tells self.old) (tells self.new)
+            result }
     {
         if let Some(part) = part_name(name) {
             if let Ok(file) = fs::create(&self.files, part.as_str()) {

@@ -44,8 +44,11 @@ pub fn put_parts<K: Sink>(
     middle: &[u8],
     tail: &[u8],
 ) -> Result<(), PutFailed>
-    ensures ok { OnOk result (K.written sink.new ≡ append_known (K.written sink.old) (head.now ++ middle.now ++ tail.now)) }
-    ensures err { OnErr result (AppendsProperFront (K.written sink.old) (K.written sink.new) (head.now ++ middle.now ++ tail.now)) }
+    ensures ok { OnOk result
+        (K.written sink.new ≡ append_known (K.written sink.old)
+        (head.now ++ middle.now ++ tail.now)) }
+    ensures err { OnErr result (AppendsProperFront (K.written sink.old) (K.written sink.new)
+        (head.now ++ middle.now ++ tail.now)) }
     ensures cause { OnErr result (Rose (K.faults sink.old) (K.faults sink.new)) }
     ensures later { K.faults sink.old ≤ K.faults sink.new }
     ensures mark { K.mark sink.new ≡ K.mark sink.old }
@@ -61,7 +64,8 @@ pub fn put_parts<K: Sink>(
 fn join(line: &mut ArrayVec<u8, LINE_ROOM>, head: &[u8], middle: &[u8], tail: &[u8]) -> Option<()>
     requires { line.old.items ≡ [] }
     ensures whole { OnSome result (line.new.items ≡ head.now ++ middle.now ++ tail.now) }
-    ensures long { IsNone result ↔ (LINE_ROOM < length head.now + length middle.now + length tail.now) }
+    ensures long { IsNone result ↔
+        (LINE_ROOM < length head.now + length middle.now + length tail.now) }
 {
     line.try_extend_from_slice(head).ok()?;
     line.try_extend_from_slice(middle).ok()?;
@@ -71,8 +75,11 @@ fn join(line: &mut ArrayVec<u8, LINE_ROOM>, head: &[u8], middle: &[u8], tail: &[
 
 /// Writes the three parts of a line, one after the other.
 fn put_each<K: Sink>(sink: &mut K, head: &[u8], middle: &[u8], tail: &[u8]) -> Result<(), PutFailed>
-    ensures ok { OnOk result (K.written sink.new ≡ append_known (K.written sink.old) (head.now ++ middle.now ++ tail.now)) }
-    ensures err { OnErr result (AppendsProperFront (K.written sink.old) (K.written sink.new) (head.now ++ middle.now ++ tail.now)) }
+    ensures ok { OnOk result
+        (K.written sink.new ≡ append_known (K.written sink.old)
+        (head.now ++ middle.now ++ tail.now)) }
+    ensures err { OnErr result (AppendsProperFront (K.written sink.old) (K.written sink.new)
+        (head.now ++ middle.now ++ tail.now)) }
     ensures cause { OnErr result (Rose (K.faults sink.old) (K.faults sink.new)) }
     ensures later { K.faults sink.old ≤ K.faults sink.new }
     ensures mark { K.mark sink.new ≡ K.mark sink.old }

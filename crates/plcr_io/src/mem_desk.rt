@@ -41,7 +41,20 @@ impl MemDesk {
         failing: Vec<u32>,
     ) -> Result<MemDesk, NoMemory>
         requires { All IsFresh outs.items }
-        ensures { IfOk result (λ desk. contents desk ≡ record { files = files.items; outs = outs.items; failing = failing.items; calls = 0; taken = []; made = []; kept = []; dropped = []; take_faults = 0; out_faults = 0 }) }
+        ensures { IfOk result (λ desk. contents desk ≡ record {
+          files = files.items;
+          outs =
+              outs.items;
+          failing = failing.items;
+          calls = 0;
+          taken = [];
+          made = [];
+          kept =
+              [];
+          dropped = [];
+          take_faults = 0;
+          out_faults = 0;
+        }) }
     {
         let count = outs.len();
         let made = Vec::with_capacity(alloc, count)?;
@@ -97,7 +110,8 @@ impl Desk for MemDesk {
 
     fn take(&mut self, alloc: Global, name: &str, limit: u64) -> Result<Vec<u8>, TakeFault>
         ensures exact { TakesFile name.now limit (contents self.old) (contents self.new) result }
-        ensures told { Takes name.now limit (tells (contents self.old)) (tells (contents self.new)) result }
+        ensures told { Takes name.now limit (tells (contents self.old)) (tells (contents self.new))
+            result }
     {
         let entry = admit(&mut self.calls, &self.failing, name);
         let file = find_file(&self.files, name);
@@ -115,7 +129,8 @@ impl Desk for MemDesk {
 
     fn make(&mut self, name: &str) -> Result<MemOut, MakeFailed>
         ensures exact { MakesOutput name.now (contents self.old) (contents self.new) result }
-        ensures told { Makes (λ out. Some out.bytes) (λ out. out.faults) name.now (tells (contents self.old)) (tells (contents self.new)) result }
+        ensures told { Makes (λ out. Some out.bytes) (λ out. out.faults) name.now
+            (tells (contents self.old)) (tells (contents self.new)) result }
     {
         if let Some(entry) = admit(&mut self.calls, &self.failing, name) {
             if let Some(out) = self.outs.pop() {
@@ -129,8 +144,10 @@ impl Desk for MemDesk {
 
     fn keep(&mut self, name: &str, out: MemOut) -> Result<(), MakeFailed>
         requires { HasOpen (tells (contents self.old)) }
-        ensures exact { KeepsOutput name.now out.bytes (contents self.old) (contents self.new) result }
-        ensures told { Keeps name.now (Some out.bytes) (tells (contents self.old)) (tells (contents self.new)) result }
+        ensures exact { KeepsOutput name.now out.bytes (contents self.old) (contents self.new)
+            result }
+        ensures told { Keeps name.now (Some out.bytes) (tells (contents self.old))
+            (tells (contents self.new)) result }
     {
         let Some(name) = admit(&mut self.calls, &self.failing, name) else {
             self.out_faults = one_more(self.out_faults);
@@ -142,8 +159,10 @@ impl Desk for MemDesk {
 
     fn abandon(&mut self, out: MemOut)
         requires { HasOpen (tells (contents self.old)) }
-        ensures exact { AbandonsOutput out.bytes out.faults (contents self.old) (contents self.new) }
-        ensures told { Abandons (Some out.bytes) out.faults (tells (contents self.old)) (tells (contents self.new)) }
+        ensures exact { AbandonsOutput out.bytes out.faults (contents self.old)
+            (contents self.new) }
+        ensures told { Abandons (Some out.bytes) out.faults (tells (contents self.old))
+            (tells (contents self.new)) }
     {
         if out.faults() > 0 {
             self.out_faults = one_more(self.out_faults);

@@ -25,9 +25,18 @@ impl Model for MemOut {
 
     ghost Value = { Output };
 
-    ghost view = { λ out. record { bytes = out.bytes.items; room = out.room; most = out.most; failing = out.failing.items; puts = out.puts; faults = out.faults } };
+    ghost view = { λ out. record {
+      bytes = out.bytes.items;
+      room = out.room;
+      most =
+          out.most;
+      failing = out.failing.items;
+      puts = out.puts;
+      faults = out.faults;
+    } };
 
-    ghost invariant = { λ out. (out.room ≤ vec_capacity out.bytes) × (vec_len out.bytes ≤ out.room) × (0 < out.most) };
+    ghost invariant = { λ out. (out.room ≤ vec_capacity out.bytes) × (vec_len out.bytes ≤ out.room)
+        × (0 < out.most) };
 }
 
 impl MemOut {
@@ -40,7 +49,15 @@ impl MemOut {
         failing: Vec<u32>,
     ) -> Result<MemOut, NoMemory>
         requires { 1 ≤ most }
-        ensures { IfOk result (λ out. out ≡ record { bytes = []; room = room; most = most; failing = failing.items; puts = 0; faults = 0 }) }
+        ensures { IfOk result (λ out. out ≡ record {
+          bytes = [];
+          room = room;
+          most = most;
+          failing =
+              failing.items;
+          puts = 0;
+          faults = 0;
+        }) }
     {
         Ok(MemOut {
             bytes: Vec::with_capacity(alloc, room)?,

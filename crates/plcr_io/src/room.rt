@@ -25,7 +25,8 @@ impl Model for Room {
 
     ghost view = { λ room. drop room.start (take room.end room.bytes) };
 
-    ghost invariant = { λ room. (room.start ≤ room.end) × (room.end ≤ ROOM) × (room.start ≡ room.end → room.end ≡ 0) };
+    ghost invariant = { λ room. (room.start ≤ room.end) × (room.end ≤ ROOM)
+        × (room.start ≡ room.end → room.end ≡ 0) };
 }
 
 impl Room {

@@ -37,7 +37,8 @@ pub trait Sink {
         requires { 0 < length piece.now }
         ensures some { IfOk result (λ n. 0 < n) }
         ensures within { IfOk result (λ n. n ≤ length piece.now) }
-        ensures written { IfOk result (λ n. written self.new ≡ append_known (written self.old) (take n piece.now)) }
+        ensures written { IfOk result
+            (λ n. written self.new ≡ append_known (written self.old) (take n piece.now)) }
         ensures err { OnErr result (written self.new ≡ written self.old) }
         ensures cause { OnErr result (Rose (faults self.old) (faults self.new)) }
         ensures later { faults self.old ≤ faults self.new }
@@ -48,7 +49,8 @@ pub trait Sink {
 #[tactic(auto, using(plcr_base::proofs::Appended::up_to_start, plcr_base::proofs::Appended::up_to_put, plcr_base::proofs::Appended::up_to_end, plcr_base::proofs::Appended::up_to_err))]
 pub fn put_all<K: Sink>(sink: &mut K, bytes: &[u8]) -> Result<(), PutFailed>
     ensures ok { OnOk result (K.written sink.new ≡ append_known (K.written sink.old) bytes.now) }
-    ensures err { OnErr result (AppendsProperFront (K.written sink.old) (K.written sink.new) bytes.now) }
+    ensures err { OnErr result
+        (AppendsProperFront (K.written sink.old) (K.written sink.new) bytes.now) }
     ensures cause { OnErr result (Rose (K.faults sink.old) (K.faults sink.new)) }
     ensures later { K.faults sink.old ≤ K.faults sink.new }
     ensures mark { K.mark sink.new ≡ K.mark sink.old }

@@ -10,7 +10,8 @@ use std::test::Fail;
 
 // A caller of both traits, which is proved from their contracts alone.
 fn write_file<D: Desk>(desk: &mut D, name: &str, bytes: &[u8]) -> Result<(), MakeFailed>
-    ensures kept { OnOk result (Gains (D.told desk.old).kept (D.told desk.new).kept ((name.now, bytes.now) ∷ [])) }
+    ensures kept { OnOk result
+        (Gains (D.told desk.old).kept (D.told desk.new).kept ((name.now, bytes.now) ∷ [])) }
     ensures err { OnErr result ((D.told desk.new).kept ≡ (D.told desk.old).kept) }
     ensures cause { OnErr result (Rose (D.told desk.old).out_faults (D.told desk.new).out_faults) }
 {

@@ -1,4 +1,5 @@
--- Bytes at places, where LEB128 numbers (DWARF 4, section 7.6) and little-endian numbers of a fixed size stand.
+-- Bytes at places, where LEB128 numbers (DWARF 4, section 7.6) and little-endian numbers of a fixed
+-- size stand.
 use Rattle.std.specs.Prelude.{◌≡◌, ◌<◌, ℕ, ◌+◌, ◌%◌, ◌^◌, nat_le, if◌then◌else◌, List, length, take, drop, slice_index, Option, Some, None, option_map}
 use Rattle.byteorder.specs.Endian.{little_number}
 use Rattle.plcr_memory.specs.Regions.{Contents, bytes_at}
@@ -23,10 +24,13 @@ bytes_of source place = option_map (λ bytes. slice_index bytes 0) (source place
 unfoldable pub number_in : ℕ → Source → ℕ → Option ℕ
 number_in n source place = option_map (little_number n) (source place n)
 
--- so many bytes of memory from an address on, as places from 0. Addresses are added modulo 2^64, and bytes that pass 2^64 together are nowhere
+-- so many bytes of memory from an address on, as places from 0. Addresses are added modulo 2^64,
+-- and bytes that pass 2^64 together are nowhere
 unfoldable pub piece_bytes : Contents → ℕ → ℕ → Source
-piece_bytes memory at size place n = if nat_le (place + n) size then bytes_at memory ((at + place) % 2 ^ 64) n else None
+piece_bytes memory at size place n = if nat_le (place + n) size
+    then bytes_at memory ((at + place) % 2 ^ 64) n else None
 
 -- the bytes of a list, as places from 0
 unfoldable pub list_bytes : List ℕ → Source
-list_bytes bytes place n = if nat_le (place + n) (length bytes) then Some (take n (drop place bytes)) else None
+list_bytes bytes place n = if nat_le (place + n) (length bytes)
+    then Some (take n (drop place bytes)) else None

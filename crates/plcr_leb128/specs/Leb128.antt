@@ -33,7 +33,8 @@ signed_group group = if nat_lt group SIGN_BIT then pos group else pos group -ℤ
 abbrev pub signed_value : List ℕ → ℤ
 signed_value [] = pos 0
 signed_value (byte ∷ []) = signed_group (byte % HIGH_BIT)
-signed_value (byte ∷ next ∷ bytes) = pos (byte % HIGH_BIT) +ℤ pos HIGH_BIT *ℤ signed_value (next ∷ bytes)
+signed_value (byte ∷ next ∷ bytes) =
+    pos (byte % HIGH_BIT) +ℤ pos HIGH_BIT *ℤ signed_value (next ∷ bytes)
 
 -- a number modulo 2^64
 abbrev pub word_of : ℤ → ℕ
@@ -41,11 +42,13 @@ word_of z = unsigned_abs (int_rem_euclid z (pos (2 ^ 64)))
 
 -- the unsigned number that bytes from a place on spell, modulo 2^64, and the place behind them
 abbrev pub unsigned_number : ℕ → List ℕ → Number
-unsigned_number place bytes = record { value = unsigned_value bytes % 2 ^ 64; next = place + length bytes }
+unsigned_number place bytes =
+    record { value = unsigned_value bytes % 2 ^ 64; next = place + length bytes }
 
 -- the signed number that bytes from a place on spell, modulo 2^64, and the place behind them
 abbrev pub signed_number : ℕ → List ℕ → Number
-signed_number place bytes = record { value = word_of (signed_value bytes); next = place + length bytes }
+signed_number place bytes =
+    record { value = word_of (signed_value bytes); next = place + length bytes }
 
 -- the unsigned number at a place
 abbrev pub unsigned_at : Bytes → ℕ → Result Number Leb128Fault
@@ -55,17 +58,21 @@ unsigned_at cells place = result_map (unsigned_number place) (leb128_bytes cells
 abbrev pub signed_at : Bytes → ℕ → Result Number Leb128Fault
 signed_at cells place = result_map (signed_number place) (leb128_bytes cells place)
 
--- the encoding of an unsigned number: groups of seven bits, the low one first, each in a byte with its high bit set where another group follows
+-- the encoding of an unsigned number: groups of seven bits, the low one first, each in a byte with
+-- its high bit set where another group follows
 abbrev pub IsUnsigned : List ℕ → ℕ → Type 0
 IsUnsigned [] n = ⊥
 IsUnsigned (byte ∷ []) n = (byte < HIGH_BIT) × (n ≡ byte)
-IsUnsigned (byte ∷ next ∷ bytes) n = (HIGH_BIT ≤ byte) × (byte < 256) × ((high : ℕ) × (n + HIGH_BIT ≡ byte + HIGH_BIT * high) × IsUnsigned (next ∷ bytes) high)
+IsUnsigned (byte ∷ next ∷ bytes) n = (HIGH_BIT ≤ byte) × (byte < 256)
+    × ((high : ℕ) × (n + HIGH_BIT ≡ byte + HIGH_BIT * high) × IsUnsigned (next ∷ bytes) high)
 
 -- the encoding of a signed number: the same, with the last group in two's complement
 abbrev pub IsSigned : List ℕ → ℤ → Type 0
 IsSigned [] z = ⊥
 IsSigned (byte ∷ []) z = (byte < HIGH_BIT) × (z ≡ signed_group byte)
-IsSigned (byte ∷ next ∷ bytes) z = (HIGH_BIT ≤ byte) × (byte < 256) × ((high : ℤ) × (z +ℤ pos HIGH_BIT ≡ pos byte +ℤ pos HIGH_BIT *ℤ high) × IsSigned (next ∷ bytes) high)
+IsSigned (byte ∷ next ∷ bytes) z = (HIGH_BIT ≤ byte) × (byte < 256)
+    × ((high : ℤ) × (z +ℤ pos HIGH_BIT ≡ pos byte +ℤ pos HIGH_BIT *ℤ high)
+    × IsSigned (next ∷ bytes) high)
 
 -- these bytes stand from a place on
 abbrev pub Stand : Bytes → ℕ → List ℕ → Type 0
@@ -77,7 +84,8 @@ abbrev pub GoOn : List ℕ → Type 0
 GoOn [] = Unit {0}
 GoOn (byte ∷ bytes) = (HIGH_BIT ≤ byte) × GoOn bytes
 
--- a number begins at a place and goes on through these bytes, behind which its next byte isn't there
+-- a number begins at a place and goes on through these bytes, behind which its next byte isn't
+-- there
 pub record IsCut (cells : Bytes) (place : ℕ) : Type 0 where
   pub bytes : List ℕ
   pub fewer : length bytes < MOST_BYTES

@@ -57,7 +57,8 @@ fn ending(form: Form, byte: u8, place: u64) -> Number
 // The number at a place, of so many bytes at most.
 #[tactic(auto, using(crate::proofs::Forms::ends, crate::proofs::Forms::is_absent, crate::proofs::Forms::is_long, crate::proofs::Forms::goes_on, crate::proofs::Forms::fails_on))]
 fn read<C: Cells>(cells: &C, form: Form, left: u32, place: u64) -> Result<Number, Leb128Fault>
-    ensures number { result ≡ result_map (number_of form place) (bytes_within left (bytes_of (C.cells cells.now)) place) }
+    ensures number { result ≡ result_map (number_of form place)
+        (bytes_within left (bytes_of (C.cells cells.now)) place) }
     ensures behind { IfOk result (λ number. place < number.next) }
 {
     if left == 0 {
@@ -79,7 +80,8 @@ fn read<C: Cells>(cells: &C, form: Form, left: u32, place: u64) -> Result<Number
 // The number at a place, most of which have one byte.
 #[tactic(auto, using(crate::proofs::Forms::ends))]
 fn read_number<C: Cells>(cells: &C, form: Form, place: u64) -> Result<Number, Leb128Fault>
-    ensures number { result ≡ result_map (number_of form place) (bytes_within MOST_BYTES (bytes_of (C.cells cells.now)) place) }
+    ensures number { result ≡ result_map (number_of form place)
+        (bytes_within MOST_BYTES (bytes_of (C.cells cells.now)) place) }
     ensures behind { IfOk result (λ number. place < number.next) }
 {
     if let Some(byte) = cells.read_u8(place) {

@@ -1,5 +1,5 @@
-//! Numbers in bytes at places, as DWARF sections hold them: LEB128 numbers (DWARF 4, section 7.6) and little-endian
-//! numbers of a fixed size, read from a piece of memory or from a slice.
+//! Numbers in bytes at places, as DWARF sections hold them: LEB128 numbers (DWARF 4, section 7.6)
+//! and little-endian numbers of a fixed size, read from a piece of memory or from a slice.
 #![tactic(auto)]
 
 mod cells;

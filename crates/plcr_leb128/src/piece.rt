@@ -5,8 +5,8 @@ ghost use Rattle.plcr_leb128.specs.Cells.{piece_bytes};
 use crate::cells::Cells;
 use plcr_memory::Memory;
 
-/// So many bytes of memory from an address on, as places from 0. Addresses are added modulo 2^64, and a number of a fixed
-/// size that passes 2^64 isn't there.
+/// So many bytes of memory from an address on, as places from 0. Addresses are added modulo 2^64,
+/// and a number of a fixed size that passes 2^64 isn't there.
 #[derive(Clone, Copy)]
 pub struct Piece<'m> {
     pub memory: &'m Memory,

@@ -4,7 +4,8 @@ ghost use Rattle.plcr_leb128.specs.Cells.{list_bytes};
 use crate::cells::Cells;
 use plcr_base::{read_u16, read_u32, read_u64};
 
-/// The bytes of a slice, as places from 0: of a file, or of memory where they stand one after the other in the file.
+/// The bytes of a slice, as places from 0: of a file, or of memory where they stand one after the
+/// other in the file.
 #[derive(Clone, Copy)]
 pub struct Stored<'a>(pub &'a [u8]);
 

@@ -3,7 +3,8 @@ use plcr_memory::{Memory, MemoryFault, Region, are_backed};
 use std::alloc::Global;
 use std::test::Fail;
 
-// Bytes at whose start a number stands: how many bytes it has, its value unsigned, and its value signed.
+// Bytes at whose start a number stands: how many bytes it has, its value unsigned, and its value
+// signed.
 const NUMBERS: [(&[u8], u64, u64, u64); 14] = [
     (&[0x02], 1, 2, 2),
     (&[0x3f, 0x80], 1, 63, 63),

@@ -1,4 +1,5 @@
--- What stands in the fields of a structure. Where the fields of a Mach-O file's structures stand (loader.h, nlist.h) is told by the constants of their modules.
+-- What stands in the fields of a structure. Where the fields of a Mach-O file's structures stand
+-- (loader.h, nlist.h) is told by the constants of their modules.
 use Rattle.std.specs.Prelude.{ℕ, Bool, List, take, drop}
 use Rattle.std.specs.Str.{bytes_eq}
 use Rattle.byteorder.specs.Endian.{little_number}

@@ -1,4 +1,6 @@
--- The numbers of Apple's headers that the crate reads by, written out as the headers state them: for each structure its size in bytes, and for each of its fields the byte at which it begins and its size.
+-- The numbers of Apple's headers that the crate reads by, written out as the headers state them:
+-- for each structure its size in bytes, and for each of its fields the byte at which it begins and
+-- its size.
 use Rattle.std.specs.Prelude.{◌≡◌, ℕ, ◌++◌, codes, replicate}
 use Rattle.plcr_loader.specs.declared.field.Field.{Field}
 use Rattle.plcr_loader.specs.declared.constants.TheConstants as constants
@@ -15,7 +17,8 @@ use Rattle.plcr_loader.specs.declared.uuid_command.TheConstants as uuid_command
 abbrev pub Stands : Field → ℕ → ℕ → Type 0
 Stands field at size = (field.at ≡ at) × (field.size ≡ size)
 
--- the magic and the filetypes of a header, the load commands and the names of segments (<mach-o/loader.h>), each name with zeros up to 16 bytes
+-- the magic and the filetypes of a header, the load commands and the names of segments
+-- (<mach-o/loader.h>), each name with zeros up to 16 bytes
 pub record OfLoader : Type 0 where
   pub mh_magic_64 : constants.MH_MAGIC_64 ≡ 0xfeedfacf
   pub mh_core : constants.MH_CORE ≡ 0x4
@@ -28,13 +31,15 @@ pub record OfLoader : Type 0 where
   pub seg_text : constants.SEG_TEXT ≡ codes "__TEXT" ++ replicate 10 0
   pub seg_linkedit : constants.SEG_LINKEDIT ≡ codes "__LINKEDIT" ++ replicate 6 0
 
--- the processors (<mach/machine.h>): CPU_ARCH_ABI64 with CPU_TYPE_X86, and with CPU_TYPE_ARM; and the subtype of all x86-64
+-- the processors (<mach/machine.h>): CPU_ARCH_ABI64 with CPU_TYPE_X86, and with CPU_TYPE_ARM; and
+-- the subtype of all x86-64
 pub record OfMachine : Type 0 where
   pub cpu_type_x86_64 : constants.CPU_TYPE_X86_64 ≡ 0x01000007
   pub cpu_type_arm64 : constants.CPU_TYPE_ARM64 ≡ 0x0100000c
   pub cpu_subtype_x86_64_all : constants.CPU_SUBTYPE_X86_64_ALL ≡ 3
 
--- the masks of a symbol's n_type, and the type of one that is defined in a section (<mach-o/nlist.h>)
+-- the masks of a symbol's n_type, and the type of one that is defined in a section
+-- (<mach-o/nlist.h>)
 pub record OfNlist : Type 0 where
   pub n_stab : constants.N_STAB ≡ 0xe0
   pub n_type : constants.N_TYPE ≡ 0x0e
@@ -106,7 +111,8 @@ pub record OfUuidCommand : Type 0 where
   pub cmdsize : Stands uuid_command.CMDSIZE 4 4
   pub uuid : Stands uuid_command.UUID 8 16
 
--- the front of each group of a struct thread_command (<mach-o/loader.h>), whose count is of uint32_t
+-- the front of each group of a struct thread_command (<mach-o/loader.h>), whose count is of
+-- uint32_t
 pub record OfThreadGroup : Type 0 where
   pub length : thread_group.LENGTH ≡ 8
   pub word : thread_group.WORD ≡ 4

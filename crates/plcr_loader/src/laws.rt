@@ -10,17 +10,20 @@ ghost use Rattle.plcr_loader.specs.Structures.{OfLoader, OfMachine, OfNlist, OfL
 #[tactic(auto, using(crate::proofs::Lists::lists_again, crate::proofs::Lists::lists_stop, crate::proofs::Files::files_are_plain))]
 pub fn commands_lie()
     // The commands that are read lie so.
-    ensures found { (source : Bytes) → IsPlain source → (test : Test) (end count index at : ℕ) (cs : List Command) →
+    ensures found { (source : Bytes) → IsPlain source →
+        (test : Test) (end count index at : ℕ) (cs : List Command) →
         commands_at source test end count index at ≡ Ok cs →
         (length cs ≡ count) × AreLaid source test end index at cs }
 
     // Commands that lie so are read.
-    ensures only { (source : Bytes) → IsPlain source → (test : Test) (end index at : ℕ) (cs : List Command) →
+    ensures only { (source : Bytes) → IsPlain source →
+        (test : Test) (end index at : ℕ) (cs : List Command) →
         AreLaid source test end index at cs →
         commands_at source test end (length cs) index at ≡ Ok cs }
 
     // A list that isn't read has its trouble at the first command that doesn't lie so.
-    ensures first { (source : Bytes) → IsPlain source → (test : Test) (end count index at : ℕ) (trouble : Trouble) →
+    ensures first { (source : Bytes) → IsPlain source →
+        (test : Test) (end count index at : ℕ) (trouble : Trouble) →
         commands_at source test end count index at ≡ Err trouble →
         IsFirstTrouble source test end count index at trouble }
 

@@ -1,6 +1,7 @@
 -- The list of images that a history of loads and unloads leaves.
--- A history is a list of entries with the newest first, so what came before an entry is the rest of the list, and
--- a prefix of a history is a tail. The names of the loads stand in a second list, newest first too.
+-- A history is a list of entries with the newest first, so what came before an entry is the rest of
+-- the list, and a prefix of a history is a tail. The names of the loads stand in a second list,
+-- newest first too.
 use Rattle.std.specs.Prelude.{◌≡◌, ℕ, suc, List, [], ◌∷◌, ◌++◌, length, Bool, false, nat_le, ◌==◌, ◌||◌, if◌then◌else◌}
 use Rattle.plcr_machine.specs.declared.image.Image.{Image}
 use Rattle.plcr_machine.specs.declared.entry.Entry.{Entry}
@@ -22,19 +23,23 @@ has node (image ∷ images) = (image.node == node) || has node images
 -- the list with no image on a node
 abbrev pub without : ℕ → List Image → List Image
 without node [] = []
-without node (image ∷ images) = if image.node == node then without node images else image ∷ without node images
+without node (image ∷ images) = if image.node == node then without node images
+    else image ∷ without node images
 
--- the list that a history leaves: a load puts its image at the end, an unload takes the one on its node
+-- the list that a history leaves: a load puts its image at the end, an unload takes the one on its
+-- node
 abbrev pub live : List Entry → List Image
 live [] = []
-live (Load node load header ∷ past) = live past ++ record { node = node; load = load; header = header } ∷ []
+live (Load node load header ∷ past) =
+    live past ++ record { node = node; load = load; header = header } ∷ []
 live (Unload node ∷ past) = without node (live past)
 live (_ ∷ past) = live past
 
 -- the image loaded last on a node; all 0 where none was
 abbrev pub loaded : ℕ → List Entry → Image
 loaded node [] = record { node = 0; load = 0; header = 0 }
-loaded node (Load n load header ∷ past) = if n == node then record { node = n; load = load; header = header } else loaded node past
+loaded node (Load n load header ∷ past) =
+    if n == node then record { node = n; load = load; header = header } else loaded node past
 loaded node (_ ∷ past) = loaded node past
 
 -- how many changes of the list a history has: its loads and unloads
@@ -59,7 +64,8 @@ unloads (_ ∷ past) = unloads past
 -- the list after a number of changes, or after all where there are fewer
 abbrev pub list_after : List Entry → ℕ → List Image
 list_after [] j = []
-list_after (entry ∷ past) j = if nat_le (changes (entry ∷ past)) j then live (entry ∷ past) else list_after past j
+list_after (entry ∷ past) j = if nat_le (changes (entry ∷ past)) j then live (entry ∷ past)
+    else list_after past j
 
 -- the name of a load, from the names of all loads, newest first; empty where there is no such load
 abbrev pub name_of : ℕ → List (List ℕ) → List ℕ

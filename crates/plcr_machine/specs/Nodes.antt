@@ -1,6 +1,6 @@
 -- Which nodes are new, removed, let go and free, after a history with the newest entry first.
--- As in epoch-based reclamation, a node that was removed is free once each pass was found with no stamp, or with one
--- from after the count of the removal.
+-- As in epoch-based reclamation, a node that was removed is free once each pass was found with no
+-- stamp, or with one from after the count of the removal.
 use Rattle.std.specs.Prelude.{ℕ, suc, List, [], ◌∷◌, Bool, true, false, not, ◌==◌, ◌||◌, ◌&&◌, if◌then◌else◌, nat_lt, length}
 use Rattle.plcr_machine.specs.declared.entry.Entry.{Entry}
 use Rattle.plcr_machine.specs.declared.entry.Entry.TheVariants.{Load, Unload, Look}
@@ -25,16 +25,19 @@ counts_before node [] = 0
 counts_before node (Unload n ∷ past) = if n == node then counts past else counts_before node past
 counts_before node (_ ∷ past) = counts_before node past
 
--- whether a stamp lets go of what was unloaded after so many counts: it is 0, or of a pass that had seen the unload counted
+-- whether a stamp lets go of what was unloaded after so many counts: it is 0, or of a pass that had
+-- seen the unload counted
 abbrev pub lets_go : ℕ → ℕ → Bool
 lets_go before stamp = (stamp == 0) || nat_lt (suc before) stamp
 
--- whether a pass has let go of a node: since the node's last load or unload it was found with a stamp that lets go
+-- whether a pass has let go of a node: since the node's last load or unload it was found with a
+-- stamp that lets go
 abbrev pub is_let_go : ℕ → ℕ → List Entry → Bool
 is_let_go pass node [] = false
 is_let_go pass node (Load n _ _ ∷ past) = if n == node then false else is_let_go pass node past
 is_let_go pass node (Unload n ∷ past) = if n == node then false else is_let_go pass node past
-is_let_go pass node (Look p stamp ∷ past) = ((p == pass) && lets_go (counts_before node past) stamp) || is_let_go pass node past
+is_let_go pass node (Look p stamp ∷ past) = ((p == pass) && lets_go (counts_before node past) stamp)
+    || is_let_go pass node past
 is_let_go pass node (_ ∷ past) = is_let_go pass node past
 
 -- whether each pass has let go of a node
@@ -43,7 +46,8 @@ is_cleared passes node history = all_under (λ pass. is_let_go pass node history
 
 -- whether a node is free: never loaded, or removed and let go by each pass since
 abbrev pub is_free : ℕ → ℕ → List Entry → Bool
-is_free passes node history = is_new node history || (is_removed node history && is_cleared passes node history)
+is_free passes node history =
+    is_new node history || (is_removed node history && is_cleared passes node history)
 
 -- whether a node waits: it was removed, and some pass has not let go of it
 abbrev pub is_waiting : ℕ → ℕ → List Entry → Bool
@@ -54,7 +58,8 @@ abbrev pub free_count : ℕ → ℕ → List Entry → ℕ
 free_count nodes passes history = count_below (λ node. is_free passes (suc node) history) nodes
 
 abbrev pub waiting_count : ℕ → ℕ → List Entry → ℕ
-waiting_count nodes passes history = count_below (λ node. is_waiting passes (suc node) history) nodes
+waiting_count nodes passes history =
+    count_below (λ node. is_waiting passes (suc node) history) nodes
 
 -- whether a pass was found with no stamp since the last change
 abbrev pub is_found_out : ℕ → List Entry → Bool

@@ -1,5 +1,5 @@
--- Which passes have announced themselves and which are inside, their stamps, and how many changes were counted, after
--- a history with the newest entry first.
+-- Which passes have announced themselves and which are inside, their stamps, and how many changes
+-- were counted, after a history with the newest entry first.
 use Rattle.std.specs.Prelude.{ℕ, zero, suc, ◌+◌, List, [], ◌∷◌, Bool, true, false, ◌==◌, ◌&&◌, if◌then◌else◌, IsTrue, IsFalse}
 use Rattle.plcr_machine.specs.declared.entry.Entry.{Entry}
 use Rattle.plcr_machine.specs.declared.entry.Entry.TheVariants.{Announce, Enter, Leave, Retire, Load, Unload, Count}
@@ -24,7 +24,8 @@ seen_by pass [] = 0
 seen_by pass (Announce p seen ∷ past) = if p == pass then seen else seen_by pass past
 seen_by pass (_ ∷ past) = seen_by pass past
 
--- the stamp of a pass: 0 where it is not announced, else 1 more than the number of counts that it announced last
+-- the stamp of a pass: 0 where it is not announced, else 1 more than the number of counts that it
+-- announced last
 abbrev pub stamp_of : ℕ → List Entry → ℕ
 stamp_of pass history = if is_announced pass history then suc (seen_by pass history) else 0
 

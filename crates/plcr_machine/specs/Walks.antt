@@ -1,5 +1,6 @@
 -- Walks through a list that changes: what follows an image, and which walks are lawful.
--- The list after j changes is any function of j, and an element is known by its number. No node is in sight.
+-- The list after j changes is any function of j, and an element is known by its number. No node is
+-- in sight.
 use Rattle.std.specs.Prelude.{◌≡◌, ℕ, zero, suc, ◌<◌, ◌≤◌, List, [], ◌∷◌, Bool, false, ◌==◌, ◌||◌, if◌then◌else◌, Option, Some, None, Contains}
 
 module _ {A : Type 0} (number : A → ℕ) where
@@ -28,7 +29,8 @@ module _ {A : Type 0} (number : A → ℕ) where
   last_with lists i zero = 0
   last_with lists i (suc j) = if is_listed i (lists (suc j)) then suc j else last_with lists i j
 
-  -- what follows element i after j changes: what stood right after it in the last list that had it; after 0, the first of the list
+  -- what follows element i after j changes: what stood right after it in the last list that had it;
+  -- after 0, the first of the list
   abbrev pub follow : (ℕ → List A) → ℕ → ℕ → Option A
   follow lists zero j = first_of_list (lists j)
   follow lists (suc i) j = next_in (suc i) (lists (last_with lists (suc i) j))
@@ -38,10 +40,12 @@ module _ {A : Type 0} (number : A → ℕ) where
   last_met i [] = i
   last_met i (x ∷ met) = last_met (number x) met
 
-  -- from element i on, each one met follows the one before it, at numbers of changes that rise or stay, from a to b
+  -- from element i on, each one met follows the one before it, at numbers of changes that rise or
+  -- stay, from a to b
   abbrev pub Meets : (ℕ → List A) → ℕ → ℕ → ℕ → List A → Type 0
   Meets lists i a b [] = a ≤ b
-  Meets lists i a b (x ∷ met) = (j : ℕ) × (a ≤ j) × (follow lists i j ≡ Some x) × Meets lists (number x) j b met
+  Meets lists i a b (x ∷ met) = (j : ℕ) × (a ≤ j) × (follow lists i j ≡ Some x)
+      × Meets lists (number x) j b met
 
   -- a walk from a to b that came to its end: nothing followed the element met last
   pub record IsWholeWalk (lists : ℕ → List A) (a b : ℕ) (met : List A) : Type 0 where

@@ -1,8 +1,10 @@
-//! Changes of an image list as the one who asks for them names them: by headers and names, and not by nodes.
+//! Changes of an image list as the one who asks for them names them: by headers and names, and not
+//! by nodes.
 
 use std::collections::LinkedList;
 
-/// An image with its name: the number of its load, the address of its header, and the bytes of its name.
+/// An image with its name: the number of its load, the address of its header, and the bytes of its
+/// name.
 #[derive(Debug, PartialEq, Eq, Drop)]
 pub struct Named {
     pub load: u32,

@@ -1,5 +1,5 @@
-//! What ties histories to their changes, walks to later and named lists, and entries to those who made them, each as
-//! the contract of a function that does nothing.
+//! What ties histories to their changes, walks to later and named lists, and entries to those who
+//! made them, each as the contract of a function that does nothing.
 
 ghost use Rattle.plcr_machine.specs.Lists.{load_number};
 ghost use Rattle.plcr_machine.specs.Changes.{load_of};
@@ -19,7 +19,8 @@ pub fn nodes_are_counted()
     ensures free { NoneIsFree }
 {}
 
-/// Each entry is the writer's or that of one pass, so where none of them made more there is nothing else.
+/// Each entry is the writer's or that of one pass, so where none of them made more there is nothing
+/// else.
 pub fn each_entry_has_one_maker()
     ensures makers { EachEntryHasOneMaker }
     ensures nothing { NothingElse }
@@ -42,7 +43,8 @@ pub fn numbers_grow()
     ensures { NumbersGrow }
 {}
 
-/// A walk that has ended stays so in longer histories, and a lawful one is lawful between wider windows.
+/// A walk that has ended stays so in longer histories, and a lawful one is lawful between wider
+/// windows.
 pub fn ended_walks_stay()
     ensures stay { EndedWalksStay }
     ensures wider { LawfulWhenWider load_number }

@@ -11,12 +11,14 @@ pub enum Entry {
     Leave(u32),
     /// The pass of this number took its announcement back.
     Retire(u32),
-    /// An image was put at the end of the list: its node, the number of its load and the address of its header.
+    /// An image was put at the end of the list: its node, the number of its load and the address of
+    /// its header.
     Load { node: u32, load: u32, header: u64 },
     /// The image on this node was taken from the list.
     Unload { node: u32 },
     /// A change was counted.
     Count,
-    /// The stamp of a pass was looked at: 0, or 1 more than the number of counts that the pass announced.
+    /// The stamp of a pass was looked at: 0, or 1 more than the number of counts that the pass
+    /// announced.
     Look { pass: u32, stamp: u64 },
 }

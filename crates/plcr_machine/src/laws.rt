@@ -27,7 +27,8 @@ pub fn paced_prefixes()
     ensures rest { RestIsCounted }
 {}
 
-/// Where no node is free though no pass is inside, all nodes are in the list.
+/// Where each pass was found with no stamp since the last change and no node is free, all nodes are
+/// in the list.
 pub fn full_when_none_is_free()
     ensures all { FullWhenNoneIsFree }
     ensures length { FullIsAsLong }

@@ -1,5 +1,5 @@
-//! Plain, slow programs whose contracts are the definitions, and which compute these on small histories. A history
-//! and a list of changes stand here with the oldest first.
+//! Plain, slow programs whose contracts are the definitions, and which compute these on small
+//! histories. A history and a list of changes stand here with the oldest first.
 
 mod changes;
 mod histories;

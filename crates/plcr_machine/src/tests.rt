@@ -9,9 +9,9 @@ use std::collections::LinkedList;
 use std::process::Abort;
 use std::test::Fail;
 
-// On a table of three nodes and one pass: A and B are loaded, the pass announces two counts and goes in, both are
-// unloaded, C is loaded, a look finds the stamp, the pass comes out and retires, a look finds none, and D is loaded on
-// A's node.
+// On a table of three nodes and one pass: A and B are loaded, the pass announces two counts and
+// goes in, both are unloaded, C is loaded, a look finds the stamp, the pass comes out and retires,
+// a look finds none, and D is loaded on A's node.
 const WORKED: [Entry; 18] = [
     Load {
         node: 1,
@@ -49,7 +49,8 @@ const WORKED: [Entry; 18] = [
     Count,
 ];
 
-// How many counts and loads there are, the stamp of the pass, and which of the three nodes are free and which in the list.
+// How many counts and loads there are, the stamp of the pass, and which of the three nodes are free
+// and which in the list.
 fn expect(
     rt: &impl Abort,
     history: &[Entry],
@@ -145,8 +146,8 @@ fn worked_history(rt: HostRuntime) {
     assert!(rt; list.as_slice() == [c, d].as_slice());
 }
 
-// On a table of two nodes and two passes one pass is inside at each moment, and the node unloaded under the first is
-// free once the second, which saw the unload counted, is all that is inside.
+// On a table of two nodes and two passes one pass is inside at each moment, and the node unloaded
+// under the first is free once the second, which saw the unload counted, is all that is inside.
 const OVERLAPPING: [Entry; 16] = [
     Load {
         node: 1,
@@ -300,12 +301,13 @@ fn only_some_walks_are_lawful(rt: HostRuntime) -> Result<(), Fail> {
     let both = [named(alloc, 1, 16, b'A')?, named(alloc, 2, 32, b'B')?];
     let other_name = [named(alloc, 1, 16, b'A')?, named(alloc, 2, 32, b'C')?];
     let turned = [named(alloc, 2, 32, b'B')?, named(alloc, 1, 16, b'A')?];
+    assert_eq!(rt; lists.len(), 6);
     if lists.len() == 6 {
         assert!(rt; is_lawful_walk(&lists, 2, 5, &both));
         assert!(rt; is_lawful_walk(&lists, 2, 2, &both));
         assert!(rt; is_lawful_walk(&lists, 2, 4, &[]));
-        // An image that stood there all along is missing, one that never stood there is met, one has another name, and
-        // the numbers do not rise.
+        // An image that stood there all along is missing, one that never stood there is met, one
+        // has another name, and the numbers do not rise.
         assert!(rt; !is_lawful_walk(&lists, 1, 2, &[]));
         assert!(rt; !is_lawful_walk(&lists, 4, 5, &both));
         assert!(rt; !is_lawful_walk(&lists, 2, 5, &other_name));

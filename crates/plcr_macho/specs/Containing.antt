@@ -10,7 +10,8 @@ use Rattle.plcr_macho.specs.Loading.{image_at}
 
 -- the image, where the address lies in its `__TEXT`
 abbrev pub over : ℕ → Result Image ImageFault → Option Image
-over address (Ok image) = if nat_le image.header address && nat_lt (address - image.header) image.text_size then Some image else None
+over address (Ok image) = if nat_le image.header address
+    && nat_lt (address - image.header) image.text_size then Some image else None
 over address (Err fault) = None
 
 -- the first image of the list that has the address, with its index, counted from an index

@@ -1,4 +1,5 @@
--- The index of a list of images: where those that can be read have their `__TEXT`, and which of them has an address.
+-- The index of a list of images: where those that can be read have their `__TEXT`, and which of
+-- them has an address.
 use Rattle.std.specs.Prelude.{ℕ, zero, suc, ◌+◌, ◌-◌, min, Bool, nat_le, nat_lt, ◌==◌, ◌&&◌, if◌then◌else◌, List, [], ◌∷◌, ◌++◌, Option, Some, None, option_to_list, Result, Ok, Err}
 use Rattle.std.specs.List.{find}
 use Rattle.plcr_memory.specs.Regions.{Contents}
@@ -8,7 +9,8 @@ use Rattle.plcr_macho.specs.declared.image.ImageFault.{ImageFault}
 use Rattle.plcr_macho.specs.Images.{Listed}
 use Rattle.plcr_macho.specs.Loading.{image_at}
 
--- an image that can be read: its position in the list, the address of its header, and the size of its `__TEXT`
+-- an image that can be read: its position in the list, the address of its header, and the size of
+-- its `__TEXT`
 pub record Extent : Type 0 where
   pub position : ℕ
   pub header : ℕ
@@ -22,7 +24,8 @@ extent_at i (Err fault) = []
 -- those of a list of images, with positions counted from a number
 abbrev pub extents_from : Contents → Arch → ℕ → List Listed → List Extent
 extents_from memory arch i [] = []
-extents_from memory arch i (l ∷ ls) = extent_at i (image_at memory arch l.header) ++ extents_from memory arch (i + 1) ls
+extents_from memory arch i (l ∷ ls) =
+    extent_at i (image_at memory arch l.header) ++ extents_from memory arch (i + 1) ls
 
 -- the index of a list of images for a memory and an architecture
 abbrev pub index_of : Contents → Arch → List Listed → List Extent
@@ -40,7 +43,8 @@ lesser i (Some j) = min i j
 -- the least position of those that have the address
 abbrev pub least_over : List Extent → ℕ → Option ℕ
 least_over [] address = None
-least_over (e ∷ es) address = if has_address address e then Some (lesser e.position (least_over es address)) else least_over es address
+least_over (e ∷ es) address = if has_address address e
+    then Some (lesser e.position (least_over es address)) else least_over es address
 
 -- what an index answers; without one nothing
 abbrev pub located : Option (List Extent) → ℕ → Option ℕ
@@ -50,4 +54,5 @@ located (Some es) address = least_over es address
 -- the extents at so many positions from a number on, by position
 abbrev pub ordered_from : ℕ → ℕ → List Extent → List Extent
 ordered_from i zero es = []
-ordered_from i (suc n) es = option_to_list (find (λ e. e.position == i) es) ++ ordered_from (i + 1) n es
+ordered_from i (suc n) es =
+    option_to_list (find (λ e. e.position == i) es) ++ ordered_from (i + 1) n es

@@ -1,5 +1,5 @@
--- An image in memory, read off the list of all load commands at its header (loader.h). Of several commands, segments or
--- sections of one kind or name the first in the list counts.
+-- An image in memory, read off the list of all load commands at its header (loader.h). Of several
+-- commands, segments or sections of one kind or name the first in the list counts.
 use Rattle.std.specs.Prelude.{ℕ, zero, suc, ◌+◌, ◌*◌, Bool, ◌==◌, ◌&&◌, not, nat_lt, if◌then◌else◌, List, [], ◌∷◌, take, drop, Option, Some, None, option_map, ok_or, Result, Ok, Err}
 use Rattle.std.specs.List.{find}
 use Rattle.plcr_base.specs.Chains.{◌>>=◌}
@@ -63,7 +63,9 @@ fault_of start (Absent place) = Unreadable (plus start place)
 unfoldable pub commands_in : Contents → ℕ → List ℕ → Result (List Command) ImageFault
 commands_in memory header head =
     let start = plus header mach_header_64.LENGTH in
-    faulted (fault_of start) (commands_at (memory_bytes memory start) image_trouble (number SIZEOFCMDS head) (number NCMDS head) 0 0)
+    faulted (fault_of start)
+    (commands_at (memory_bytes memory start) image_trouble (number SIZEOFCMDS head)
+    (number NCMDS head) 0 0)
 
 -- a segment of this name
 abbrev pub is_segment_named : List ℕ → Command → Bool
@@ -72,11 +74,13 @@ is_segment_named name c = is_segment c && is_named SEGNAME name c.bytes
 -- so many sections, one behind the other
 abbrev pub sections_in : ℕ → List ℕ → List (List ℕ)
 sections_in zero bytes = []
-sections_in (suc n) bytes = take section_64.LENGTH bytes ∷ sections_in n (drop section_64.LENGTH bytes)
+sections_in (suc n) bytes =
+    take section_64.LENGTH bytes ∷ sections_in n (drop section_64.LENGTH bytes)
 
 -- the sections within the command of a segment
 abbrev pub sections_of : Command → List (List ℕ)
-sections_of segment = sections_in (number NSECTS segment.bytes) (drop segment_command_64.LENGTH segment.bytes)
+sections_of segment =
+    sections_in (number NSECTS segment.bytes) (drop segment_command_64.LENGTH segment.bytes)
 
 -- where a section lies in memory
 abbrev pub part_of : ℕ → List ℕ → Part
@@ -84,11 +88,13 @@ part_of slide section = record { at = plus (number ADDR section) slide; size = n
 
 -- where the first section of this name within the segment's command lies
 abbrev pub part_named : List ℕ → ℕ → Command → Option Part
-part_named name slide segment = option_map (part_of slide) (find (is_named SECTNAME name) (sections_of segment))
+part_named name slide segment =
+    option_map (part_of slide) (find (is_named SECTNAME name) (sections_of segment))
 
 -- the address of what the file has at an offset, which lies in the segment `__LINKEDIT`
 abbrev pub linked_at : ℕ → Command → ℕ → ℕ
-linked_at slide linkedit offset = plus (plus (minus offset (number FILEOFF linkedit.bytes)) (number VMADDR linkedit.bytes)) slide
+linked_at slide linkedit offset =
+    plus (plus (minus offset (number FILEOFF linkedit.bytes)) (number VMADDR linkedit.bytes)) slide
 
 -- where the tables of the symbols lie; without a segment `__LINKEDIT` nowhere
 abbrev pub symtab_of : ℕ → Option Command → Option Command → Option Symtab
@@ -100,7 +106,8 @@ symtab_of slide (Some linkedit) symtab = option_map (λ c. record {
   strings = number STRSIZE c.bytes;
 }) symtab
 
--- the image whose header, with these bytes, stands at an address, with its segment `__TEXT` and all of its commands
+-- the image whose header, with these bytes, stands at an address, with its segment `__TEXT` and all
+-- of its commands
 abbrev pub image_with : ℕ → List ℕ → List Command → Command → Image
 image_with header head cs text =
     let slide = minus header (number VMADDR text.bytes) in
@@ -122,7 +129,8 @@ image_of header head cs =
     ok_or (find (is_segment_named SEG_TEXT) cs) NoText >>= λ text.
     Ok (image_with header head cs text)
 
--- the image whose header stands at an address, or the first fault: of the header, of the commands in their order, then that no segment is `__TEXT`
+-- the image whose header stands at an address, or the first fault: of the header, of the commands
+-- in their order, then that no segment is `__TEXT`
 unfoldable pub image_at : Contents → Arch → ℕ → Result Image ImageFault
 image_at memory arch header =
     head_at memory arch header >>= λ head.

@@ -12,7 +12,8 @@ pub record PlainList : Type 0 where
   pub extents : Option (List Extent)
 
 abbrev pub plain_list : List PlainImage → List Spot → Option ℕ → PlainList
-plain_list images room filled = record { images = all_listed images; extents = index_in (length images) room filled }
+plain_list images room filled =
+    record { images = all_listed images; extents = index_in (length images) room filled }
 
 -- a list of these images without an index
 abbrev pub unindexed : List PlainImage → PlainList

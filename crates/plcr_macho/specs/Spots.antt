@@ -1,5 +1,6 @@
--- The spots in which an index lies. They stand in the order of their starts, and `reach` is no less than the end of any
--- spot up to it, so a search that goes down from an address may stop where `reach` is below it.
+-- The spots in which an index lies. They stand in the order of their starts, and `reach` is no less
+-- than the end of any spot up to it, so a search that goes down from an address may stop where
+-- `reach` is below it.
 use Rattle.std.specs.Prelude.{◌≡◌, ℕ, ◌+◌, ◌-◌, ◌^◌, ◌≤◌, ◌<◌, min, List, length, map, take, slice_index_or, Option, Some, None}
 use Rattle.std.specs.List.Sorted.{IsNonDecreasingBy, IsPermutation}
 use Rattle.plcr_memory.specs.Regions.{Contents}
@@ -21,7 +22,8 @@ end_of spot = min (spot.start + spot.size) (2 ^ 64 - 1)
 
 -- a spot's reach is no less than the end of any spot up to it
 abbrev pub Reaches : List Spot → Type 0
-Reaches spots = (k i : ℕ) (d e : Spot) → k ≤ i → i < length spots → end_of (slice_index_or spots k d) ≤ (slice_index_or spots i e).reach
+Reaches spots = (k i : ℕ) (d e : Spot) → k ≤ i → i < length spots →
+    end_of (slice_index_or spots k d) ≤ (slice_index_or spots i e).reach
 
 -- spots that can be searched
 pub record IsSearchable (spots : List Spot) : Type 0 where
@@ -37,13 +39,17 @@ index_in n room (Some filled) = Some (ordered_from 0 n (extents_of (take filled 
 pub record IsSettled (n : ℕ) (room : List Spot) (filled : ℕ) : Type 0 where
   pub within : filled ≤ length room
   pub searchable : IsSearchable (take filled room)
-  pub whole : IsPermutation (extents_of (take filled room)) (ordered_from 0 n (extents_of (take filled room)))
+  pub whole : IsPermutation (extents_of (take filled room))
+      (ordered_from 0 n (extents_of (take filled room)))
 
 -- they are the index of a list of images for a memory and an architecture
-pub record IsIndexOf (memory : Contents) (arch : Arch) (images : List Listed) (room : List Spot) (filled : ℕ) : Type 0 where
+pub record IsIndexOf (memory : Contents) (arch : Arch) (images : List Listed) (room : List Spot)
+    (filled : ℕ) : Type 0 where
   pub settled : IsSettled (length images) room filled
   pub is : index_in (length images) room (Some filled) ≡ Some (index_of memory arch images)
 
 -- what lay in the first spots, one image after the other, is an index there
 abbrev pub Settles : List Spot → List Spot → ℕ → Type 0
-Settles old new filled = (memory : Contents) (arch : Arch) (images : List Listed) → extents_of (take filled old) ≡ index_of memory arch images → IsIndexOf memory arch images new filled
+Settles old new filled = (memory : Contents) (arch : Arch) (images : List Listed) →
+    extents_of (take filled old) ≡ index_of memory arch images →
+    IsIndexOf memory arch images new filled

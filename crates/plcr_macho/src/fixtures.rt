@@ -43,7 +43,8 @@ pub fn add_header(file: &mut Vec<u8>, commands: u32, size: u32) -> Result<(), Al
     add_words(file, &[0xfeed_facf, X86_64, 3, 6, commands, size, 0, 0])
 }
 
-// A segment with so many sections, which are to follow; `numbers` are vmaddr, vmsize, fileoff and filesize.
+// A segment with so many sections, which are to follow; `numbers` are vmaddr, vmsize, fileoff and
+// filesize.
 pub fn add_segment(
     file: &mut Vec<u8>,
     name: &[u8; 16],

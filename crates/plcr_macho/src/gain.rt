@@ -51,7 +51,8 @@ fn kept_with(command: &Standing, index: u32, before: &Kept) -> Result<Kept, Trou
     }
 }
 
-/// What the command at place `at` gives behind what was kept, which has the index `index` in a list that ends at place `end`.
+/// What the command at place `at` gives behind what was kept, which has the index `index` in a list
+/// that ends at place `end`.
 #[tactic(auto, using(crate::proofs::Segments::gain_fails))]
 pub fn gain_at(
     source: &MemoryBytes,
@@ -60,7 +61,10 @@ pub fn gain_at(
     at: u64,
     before: &Kept,
 ) -> Result<Gain, Trouble>
-    ensures gain { result ≡ result_map (gain_with before.now) (command_at (memory_bytes source.now.memory.now source.now.start) image_trouble end index at) }
+    ensures gain { result
+        ≡ result_map (gain_with before.now)
+        (command_at (memory_bytes source.now.memory.now source.now.start) image_trouble end index
+        at) }
     ensures within { IfOk result (λ gain. at + gain.size ≤ end) }
 {
     let command = standing_at(source, end, index, at)?;

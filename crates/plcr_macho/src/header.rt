@@ -10,7 +10,8 @@ use plcr_loader::{CPU_TYPE_ARM64, CPU_TYPE_X86_64, MH_MAGIC_64};
 use plcr_memory::Memory;
 use plcr_regs::Arch;
 
-/// What the header of an image says: its cputype and cpusubtype, how many load commands it has, and their size in bytes.
+/// What the header of an image says: its cputype and cpusubtype, how many load commands it has, and
+/// their size in bytes.
 #[derive(Clone, Copy)]
 pub struct Header {
     pub cpu: u32,

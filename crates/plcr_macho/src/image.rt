@@ -5,8 +5,8 @@ pub struct Part {
     pub size: u64,
 }
 
-/// The tables of an image's symbols: where the rows stand and how many there are, and where the names stand and how
-/// many bytes they have.
+/// The tables of an image's symbols: where the rows stand and how many there are, and where the
+/// names stand and how many bytes they have.
 #[derive(Clone, Copy, Debug, PartialEq, Eq)]
 pub struct Symtab {
     pub rows_at: u64,
@@ -15,8 +15,8 @@ pub struct Symtab {
     pub strings: u32,
 }
 
-/// A Mach-O image as it lies in memory (loader.h): the address of its header, its cputype and cpusubtype, by how much it
-/// was moved, the size of `__TEXT` in bytes, and where its parts lie.
+/// A Mach-O image as it lies in memory (loader.h): the address of its header, its cputype and
+/// cpusubtype, by how much it was moved, the size of `__TEXT` in bytes, and where its parts lie.
 #[derive(Clone, Copy, Debug, PartialEq, Eq)]
 pub struct Image {
     pub header: u64,
@@ -33,13 +33,15 @@ pub struct Image {
 /// Why there is no image at an address.
 #[derive(Clone, Copy, Debug, PartialEq, Eq)]
 pub enum ImageFault {
-    /// The header, the front of a command or a whole command, which starts at `at`, isn't wholly mapped.
+    /// The header, the front of a command or a whole command, which starts at `at`, isn't wholly
+    /// mapped.
     Unreadable { at: u64 },
     /// No 64-bit little-endian Mach-O header stands there.
     NotMachO { magic: u32 },
     /// The image is for another processor.
     OtherCpu { cpu: u32 },
-    /// The command at this index, from 0, passes the end of the commands or is too short for what it says.
+    /// The command at this index, from 0, passes the end of the commands or is too short for what
+    /// it says.
     BadCommand { index: u32 },
     /// No segment is `__TEXT`.
     NoText,

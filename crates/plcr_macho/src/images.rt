@@ -9,15 +9,18 @@ ghost use Rattle.plcr_macho.specs.Index.{Extent, index_of, located};
 use plcr_memory::Memory;
 use plcr_regs::Arch;
 
-/// A list of loaded images, each with the address of its header and its name. It takes no memory to read it.
+/// A list of loaded images, each with the address of its header and its name. It takes no memory to
+/// read it.
 pub trait Images {
     /// The images, in order. No call changes them.
     ghost images: { Self → List Listed };
 
-    /// Its index: none, or where its images that can be read have their `__TEXT`, for one memory and architecture.
+    /// Its index: none, or where its images that can be read have their `__TEXT`, for one memory
+    /// and architecture.
     ghost extents: { Self → Option (List Extent) };
 
-    /// What may become of such a value over calls that read from it: a relation of the type's own choice.
+    /// What may become of such a value over calls that read from it: a relation of the type's own
+    /// choice.
     ghost follows: { Self → Self → Type 0 };
 
     /// How many images there are.
@@ -50,14 +53,16 @@ pub trait Images {
         ensures index { extents self.new ≡ extents self.old }
         ensures follows { follows self.old self.new };
 
-    /// Makes the index for a memory and an architecture, in place of the one before. There are fewer than 2^32 images.
+    /// Makes the index for a memory and an architecture, in place of the one before. There are
+    /// fewer than 2^32 images.
     fn index(&mut self, memory: &Memory, arch: Arch)
         requires { length (images self.old) < 2 ^ 32 }
         ensures index { extents self.new ≡ Some (index_of memory.now arch (images self.old)) }
         ensures same { images self.new ≡ images self.old }
         ensures follows { follows self.old self.new };
 
-    /// The least index of an image that has the address in its `__TEXT`, by the index, which has to be there.
+    /// The least index of an image that has the address in its `__TEXT`, by the index, which has to
+    /// be there.
     fn locate(&mut self, address: u64) -> Option<usize>
         requires { IsSome (extents self.old) }
         ensures place { result ≡ located (extents self.old) address }

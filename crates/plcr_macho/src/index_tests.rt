@@ -73,7 +73,8 @@ fn the_least_position_counts(rt: HostRuntime) -> Result<(), Fail> {
     Ok(())
 }
 
-// The widest image begins first and stands last in the list; one is empty, one isn't there, and one is listed twice.
+// The widest image begins first and stands last in the list; one is empty, one isn't there, and one
+// is listed twice.
 #[test]
 fn some_images_are_wide_and_some_empty(rt: HostRuntime) -> Result<(), Fail> {
     let (wide, low, empty, high) = (A0, A0 + 0x1000, A0 + 0x2000, A0 + 0x3000);

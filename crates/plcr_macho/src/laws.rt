@@ -11,7 +11,8 @@ ghost use Rattle.plcr_macho.specs.Containing.{first_over};
 ghost use Rattle.plcr_macho.specs.Index.{index_of, located};
 ghost use Rattle.plcr_macho.specs.Laws.{IsFirstFault, IsLaidOut, HasAddress, IsFirstOver};
 
-/// What an image in memory is: its header, then the commands that lie one after the other behind it, and what these say.
+/// What an image in memory is: its header, then the commands that lie one after the other behind
+/// it, and what these say.
 pub fn images_lie()
     // An image that is found lies so.
     ensures found { (memory : Contents) (arch : Arch) (header : ℕ) (image : Image) →
@@ -32,12 +33,16 @@ pub fn images_lie()
 /// Which image of a list has an address: the first that can be read and has it in its `__TEXT`.
 pub fn images_hold()
     // The image that is found stands at its index and has the address, and none before it has.
-    ensures found { (memory : Contents) (arch : Arch) (address : ℕ) (images : List Listed) (index : ℕ) (image : Image) →
-        first_over memory arch address 0 images ≡ Some (index, image) → IsFirstOver memory arch address images index image }
+    ensures found { (memory : Contents) (arch : Arch) (address : ℕ) (images : List Listed)
+        (index : ℕ) (image : Image) →
+        first_over memory arch address 0 images ≡ Some (index, image) →
+        IsFirstOver memory arch address images index image }
 
     // An image that stands so is found.
-    ensures only { (memory : Contents) (arch : Arch) (address : ℕ) (images : List Listed) (index : ℕ) (image : Image) →
-        IsFirstOver memory arch address images index image → first_over memory arch address 0 images ≡ Some (index, image) }
+    ensures only { (memory : Contents) (arch : Arch) (address : ℕ) (images : List Listed)
+        (index : ℕ) (image : Image) →
+        IsFirstOver memory arch address images index image →
+        first_over memory arch address 0 images ≡ Some (index, image) }
 
     // Where none is found, none of the list has the address.
     ensures none { (memory : Contents) (arch : Arch) (address : ℕ) (images : List Listed) →
@@ -45,8 +50,10 @@ pub fn images_hold()
         (image : Image) → ¬ HasAddress memory arch address (listed_at images k).header image }
 {}
 
-/// What an index tells: the place of the first image of the list that can be read and has the address in its `__TEXT`.
+/// What an index tells: the place of the first image of the list that can be read and has the
+/// address in its `__TEXT`.
 pub fn indexes_tell()
     ensures { (memory : Contents) (arch : Arch) (address : ℕ) (images : List Listed) →
-        located (Some (index_of memory arch images)) address ≡ option_map (λ found. found.0) (first_over memory arch address 0 images) }
+        located (Some (index_of memory arch images)) address
+        ≡ option_map (λ found. found.0) (first_over memory arch address 0 images) }
 {}

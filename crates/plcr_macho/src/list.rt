@@ -60,7 +60,8 @@ impl<'a> Model for ListImages<'a> {
 
     ghost view = { λ l. plain_list l.images.now l.room.now l.filled };
 
-    ghost invariant = { λ l. (length l.images.now ≤ length l.room.now) × IsIndexed (length l.images.now) l.room.now l.filled };
+    ghost invariant = { λ l. (length l.images.now ≤ length l.room.now)
+        × IsIndexed (length l.images.now) l.room.now l.filled };
 }
 
 impl<'a> ListImages<'a> {
@@ -94,7 +95,8 @@ impl<'a> ListImages<'a> {
     }
 }
 
-// Puts the spots of a list's images into a room, and makes them its index. Gives how many there are.
+// Puts the spots of a list's images into a room, and makes them its index. Gives how many there
+// are.
 fn index_plain(images: &[PlainImage], memory: &Memory, arch: Arch, room: &mut [Spot]) -> usize
     requires room { length images.now ≤ length room.old }
     requires few { length images.now < 2 ^ 32 }

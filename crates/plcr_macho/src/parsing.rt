@@ -17,7 +17,9 @@ use plcr_regs::Arch;
 
 // What is kept of the load commands behind a header, or the first trouble among them.
 fn kept_behind(source: &MemoryBytes, header: &Header) -> Result<Kept, Trouble>
-    ensures { result ≡ result_map kept_of (commands_at (memory_bytes source.now.memory.now source.now.start) image_trouble header.now.size header.now.commands 0 0) }
+    ensures { result ≡ result_map kept_of
+        (commands_at (memory_bytes source.now.memory.now source.now.start) image_trouble
+        header.now.size header.now.commands 0 0) }
 {
     let end = u64::from(header.size);
     let mut kept = Kept::nothing();
@@ -102,10 +104,11 @@ fn image_of(address: u64, header: &Header, kept: &Kept) -> Result<Image, ImageFa
     }
 }
 
-/// The Mach-O image whose header stands at an address, or the first fault: of the header, of each load command in
-/// order, then that there is no `__TEXT`. It takes no memory, and at most about as many steps, each with a search among
-/// the regions by halves, as there are regions and bytes of the file that these map, whatever the header says. Where one
-/// region has the load commands in the file, two searches serve.
+/// The Mach-O image whose header stands at an address, or the first fault: of the header, of each
+/// load command in order, then that there is no `__TEXT`. It takes no memory, and at most about as
+/// many steps, each with a search among the regions by halves, as there are regions and bytes of
+/// the file that these map, whatever the header says. Where one region has the load commands in the
+/// file, two searches serve.
 pub fn parse(memory: &Memory, arch: Arch, header: u64) -> Result<Image, ImageFault>
     ensures { result ≡ image_at memory.now arch header }
 {

@@ -29,7 +29,8 @@ fn part_of(section: &[u8; LENGTH]) -> Part
 }
 
 fn part_named(section: &[u8; LENGTH], name: &[u8; 16]) -> Option<Part>
-    ensures { result ≡ if is_named SECTNAME name.now section.now then Some (part_in section.now) else None }
+    ensures { result ≡ if is_named SECTNAME name.now section.now then Some (part_in section.now)
+        else None }
 {
     if SECTNAME.is_named(section, name) {
         Some(part_of(section))
@@ -48,8 +49,8 @@ fn parts_of(section: &[u8; LENGTH]) -> Parts
     }
 }
 
-// How many sections from an address on begin with a zero, as far as the zeros go that one region has there without
-// bytes of the file. Such a section has neither name.
+// How many sections from an address on begin with a zero, as far as the zeros go that one region
+// has there without bytes of the file. Such a section has neither name.
 fn nameless(memory: &Window, at: u64) -> u64
     ensures { (k : ℕ) → k < result → byte_at memory.now (at + LENGTH * k) ≡ Some 0 }
 {
@@ -91,7 +92,8 @@ fn parts_at(memory: &Window, at: u64, size: u64, count: u32) -> Parts
 pub fn parts_within(command: &Standing, count: u32) -> Parts
     requires stands { Stands command.now }
     requires within { segment_command_64.LENGTH + LENGTH * count ≤ command.now.cmdsize }
-    ensures { result ≡ parts_in (sections_in count (drop segment_command_64.LENGTH (command_of command.now).bytes)) }
+    ensures { result ≡ parts_in
+        (sections_in count (drop segment_command_64.LENGTH (command_of command.now).bytes)) }
 {
     if count == 0 {
         return Parts {

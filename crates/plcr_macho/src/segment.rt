@@ -39,7 +39,8 @@ fn text_from(command: &Standing, front: &[u8; LENGTH], segment: Segment, seen: b
     requires stands { Stands command.now }
     requires within { LENGTH + section_64.LENGTH * segment.sections ≤ command.now.cmdsize }
     requires segment { segment ≡ segment_in (command_of command.now).bytes }
-    ensures { result ≡ if not seen && is_named SEGNAME SEG_TEXT front.now then Some (text_of (command_of command.now)) else None }
+    ensures { result ≡ if not seen && is_named SEGNAME SEG_TEXT front.now
+        then Some (text_of (command_of command.now)) else None }
 {
     if !seen && SEGNAME.is_named(front, &SEG_TEXT) {
         Some(Text {
@@ -51,7 +52,8 @@ fn text_from(command: &Standing, front: &[u8; LENGTH], segment: Segment, seen: b
     }
 }
 
-/// What is kept with an LC_SEGMENT_64 more that has room for its sections. These are read in the first `__TEXT` alone.
+/// What is kept with an LC_SEGMENT_64 more that has room for its sections. These are read in the
+/// first `__TEXT` alone.
 pub fn segment_kept(command: &Standing, index: u32, before: &Kept) -> Result<Kept, Trouble>
     requires stands { Stands command.now }
     requires cmd { command.now.cmd ≡ LC_SEGMENT_64 }

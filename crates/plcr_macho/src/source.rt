@@ -6,7 +6,8 @@ use crate::window::Window;
 use plcr_loader::load_command::LENGTH;
 use plcr_loader::{LoadCommand, Source};
 
-/// The memory of a process as what load commands are read from. Places count from an address, modulo 2^64.
+/// The memory of a process as what load commands are read from. Places count from an address,
+/// modulo 2^64.
 #[derive(Clone, Copy)]
 pub struct MemoryBytes<'a> {
     pub memory: &'a Window<'a>,

@@ -1,5 +1,6 @@
-/// Where an image of a list has its `__TEXT`: the address of its header, the size in bytes, an address that is no less
-/// than the end of its range and of those before it in the index, and the image's position in the list.
+/// Where an image of a list has its `__TEXT`: the address of its header, the size in bytes, an
+/// address that is no less than the end of its range and of those before it in the index, and the
+/// image's position in the list.
 #[derive(Clone, Copy, Debug, PartialEq, Eq)]
 pub struct Spot {
     pub start: u64,

@@ -1,4 +1,5 @@
-//! An index of addresses, in room that was taken before it: sorted once, and then searched by halves.
+//! An index of addresses, in room that was taken before it: sorted once, and then searched by
+//! halves.
 ghost use Rattle.std.specs.Prelude.{◌≡◌, ◌≤◌, ◌<◌, ◌+◌, ◌++◌, length, take};
 ghost use Rattle.std.specs.List.Sorted.{IsPermutation};
 ghost use Rattle.plcr_macho.specs.Index.{extent_at, least_over};
@@ -11,8 +12,8 @@ use crate::spot::Spot;
 use plcr_memory::Memory;
 use plcr_regs::Arch;
 
-/// Puts the spot of the image at a header behind the first spots of the room, where that image can be read. Gives how
-/// many there are then.
+/// Puts the spot of the image at a header behind the first spots of the room, where that image can
+/// be read. Gives how many there are then.
 pub fn put_spot(
     room: &mut [Spot],
     filled: usize,
@@ -22,7 +23,8 @@ pub fn put_spot(
     header: u64,
 ) -> usize
     requires { filled < length room.old }
-    ensures spots { extents_of (take result room.new) ≡ extents_of (take filled room.old) ++ extent_at position (image_at memory.now arch header) }
+    ensures spots { extents_of (take result room.new) ≡ extents_of (take filled room.old)
+        ++ extent_at position (image_at memory.now arch header) }
     ensures more { (filled ≤ result) × (result ≤ filled + 1) }
     ensures room { length room.new ≡ length room.old }
 {
@@ -101,8 +103,8 @@ fn least_in(spots: &[Spot], address: u64) -> Option<u32>
     found
 }
 
-/// The least position of the spots that have the address. It looks only at spots that start by the address, from the
-/// last one down, and no further than where all the others end before it.
+/// The least position of the spots that have the address. It looks only at spots that start by the
+/// address, from the last one down, and no further than where all the others end before it.
 pub fn locate_in(spots: &[Spot], address: u64) -> Option<usize>
     requires { IsSearchable spots.now }
     ensures { result ≡ least_over (extents_of spots.now) address }

@@ -9,7 +9,8 @@ use crate::window::Window;
 use plcr_loader::load_command::LENGTH;
 use plcr_loader::{Trouble, frame_at};
 
-/// A load command that stands in memory: which it is, its size in bytes, its place in the list, and its address.
+/// A load command that stands in memory: which it is, its size in bytes, its place in the list, and
+/// its address.
 #[derive(Clone, Copy)]
 pub struct Standing<'a> {
     pub memory: &'a Window<'a>,
@@ -26,7 +27,8 @@ pub fn standing_at<'a>(
     index: u32,
     at: u64,
 ) -> Result<Standing<'a>, Trouble>
-    ensures frame { result_map command_of result ≡ framed_at (memory_bytes source.now.memory.now source.now.start) end index at }
+    ensures frame { result_map command_of result
+        ≡ framed_at (memory_bytes source.now.memory.now source.now.start) end index at }
     ensures stands { IfOk result (λ command. Stands command) }
     ensures least { IfOk result (λ command. LENGTH ≤ command.cmdsize) }
     ensures within { IfOk result (λ command. at + command.cmdsize ≤ end) }

@@ -57,7 +57,8 @@ fn faults(rt: HostRuntime) -> Result<(), Fail> {
         uuid: None,
         ..SMALL
     });
-    // The place of the word that is changed in the image, what it becomes, and what the image is then.
+    // The place of the word that is changed in the image, what it becomes, and what the image is
+    // then.
     let cases = [
         (
             0,
@@ -106,7 +107,8 @@ fn faults(rt: HostRuntime) -> Result<(), Fail> {
 
 #[test]
 fn unmapped(rt: HostRuntime) -> Result<(), Fail> {
-    // How many bytes are mapped, and how far from the header the part starts that isn't wholly there.
+    // How many bytes are mapped, and how far from the header the part starts that isn't wholly
+    // there.
     let cases = [
         (1, 0),
         (31, 0),
@@ -228,8 +230,8 @@ fn large(rt: HostRuntime) -> Result<(), Fail> {
     Ok(())
 }
 
-// An image is the same, wherever one region of memory ends and the next one begins in it, and where the file ends
-// within one and zeros follow.
+// An image is the same, wherever one region of memory ends and the next one begins in it, and where
+// the file ends within one and zeros follow.
 #[test]
 fn in_two_regions(rt: HostRuntime) -> Result<(), Fail> {
     let len = large_image(rt.alloc(), 0x19)?.len();
@@ -268,7 +270,8 @@ fn moved_down(rt: HostRuntime) -> Result<(), Fail> {
     Ok(())
 }
 
-// The small image, whose header says that there are as many commands as can be, of as many bytes as can be.
+// The small image, whose header says that there are as many commands as can be, of as many bytes as
+// can be.
 fn endless(alloc: Global) -> Result<Vec<u8>, AllocError> {
     let mut file = small_image(alloc, A0, 0x4000, 7)?;
     set_word(&mut file, 16, u32::MAX);

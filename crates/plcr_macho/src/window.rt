@@ -17,8 +17,8 @@ pub fn bytes_from<const N: usize>(memory: &Memory, at: u64) -> Option<[u8; N]>
     }
 }
 
-/// The memory of a process. The bytes of one range are at hand, where the file has them one after the other, so that
-/// reading them takes no search among the regions. Contracts see the memory.
+/// The memory of a process. The bytes of one range are at hand, where the file has them one after
+/// the other, so that reading them takes no search among the regions. Contracts see the memory.
 #[derive(Drop)]
 pub struct Window<'a> {
     memory: &'a Memory,
@@ -94,7 +94,8 @@ impl<'a> Window<'a> {
         self.at_hand(at, size).is_some() || self.memory.is_mapped(at, size)
     }
 
-    /// How many bytes from an address on are zero, so far as the file has none of them. None counts of those at hand.
+    /// How many bytes from an address on are zero, so far as the file has none of them. None counts
+    /// of those at hand.
     pub fn zeros_from(&self, at: u64) -> u64
         ensures { (k : ℕ) → k < result → byte_at self.now (at + k) ≡ Some 0 }
     {

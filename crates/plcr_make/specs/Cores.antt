@@ -9,7 +9,8 @@ use Rattle.plcr_make.specs.Segments.{header, segment_command}
 use Rattle.plcr_make.specs.Images.{image_bytes, image_segment}
 use Rattle.plcr_make.specs.Stacks.{thread_command, stacks_bytes, stacks_segment}
 
--- how many bytes its load commands have: a segment for each image and one for the stacks, and the threads
+-- how many bytes its load commands have: a segment for each image and one for the stacks, and the
+-- threads
 abbrev pub commands_size : ℕ → ℕ
 commands_size images = segment_command_64.LENGTH * (images + 1) + THREAD_COMMAND_SIZE * THREADS
 
@@ -17,7 +18,8 @@ commands_size images = segment_command_64.LENGTH * (images + 1) + THREAD_COMMAND
 abbrev pub images_place : ℕ → ℕ
 images_place images = mach_header_64.LENGTH + commands_size images
 
--- the core with so many images: its header, its segments and threads, and then the bytes of the images and of the stacks
+-- the core with so many images: its header, its segments and threads, and then the bytes of the
+-- images and of the stacks
 unfoldable pub core_of : ℕ → List ℕ
 core_of images =
     header MH_CORE (images + 1 + THREADS) (commands_size images)

@@ -16,7 +16,8 @@ sizes_line = codes "table " ++ (decimal MOST_NODES ++ codes " 1\n")
 
 -- the line that loads an image, and the one that unloads it
 abbrev pub load_line : ℕ → List ℕ
-load_line k = codes "load " ++ (hexadecimal (image_address k) ++ (codes " /usr/lib/lib" ++ (decimal k ++ codes ".dylib\n")))
+load_line k = codes "load "
+    ++ (hexadecimal (image_address k) ++ (codes " /usr/lib/lib" ++ (decimal k ++ codes ".dylib\n")))
 
 abbrev pub unload_line : ℕ → List ℕ
 unload_line k = codes "unload " ++ (hexadecimal (image_address k) ++ codes "\n")
@@ -35,4 +36,5 @@ report_line = codes "report 0 " ++ (report_name ++ codes "\n")
 
 -- the script for so many images: the sizes, the loads, the unloads and one report
 unfoldable pub script_of : ℕ → List ℕ
-script_of images = sizes_line ++ (joined load_line images ++ (joined unload_lines images ++ report_line))
+script_of images = sizes_line
+    ++ (joined load_line images ++ (joined unload_lines images ++ report_line))

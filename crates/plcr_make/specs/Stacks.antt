@@ -16,11 +16,13 @@ stack_address t = FIRST_STACK + STACK_SIZE * t
 abbrev pub code_address : (images t frame : ℕ) → ℕ
 code_address images t frame = image_address ((THREAD_STRIDE * t + frame) % images) + CODE_OFFSET
 
--- the command of a thread: rbp and rsp are its stack's address, rip is where it stands, and all other registers are 0
+-- the command of a thread: rbp and rsp are its stack's address, rip is where it stands, and all
+-- other registers are 0
 abbrev pub thread_command : (images t : ℕ) → List ℕ
 thread_command images t =
     u32s (LC_THREAD ∷ THREAD_COMMAND_SIZE ∷ x86_THREAD_STATE64 ∷ x86_THREAD_STATE64_COUNT ∷ [])
-    ++ u64s (0 ∷ 0 ∷ 0 ∷ 0 ∷ 0 ∷ 0 ∷ stack_address t ∷ stack_address t ∷ 0 ∷ 0 ∷ 0 ∷ 0 ∷ 0 ∷ 0 ∷ 0 ∷ 0 ∷ code_address images t 0 ∷ 0 ∷ 0 ∷ 0 ∷ 0 ∷ [])
+    ++ u64s (0 ∷ 0 ∷ 0 ∷ 0 ∷ 0 ∷ 0 ∷ stack_address t ∷ stack_address t ∷ 0 ∷ 0 ∷ 0 ∷ 0 ∷ 0 ∷ 0 ∷ 0
+    ∷ 0 ∷ code_address images t 0 ∷ 0 ∷ 0 ∷ 0 ∷ 0 ∷ [])
 
 -- the word that a frame has first: the address of the next frame, or 0 in the last
 abbrev pub next_frame : (t frame : ℕ) → ℕ
@@ -28,7 +30,8 @@ next_frame t frame = if frame + 1 == FRAMES then 0 else stack_address t + FRAME_
 
 -- word i of a frame: the next frame, where it returns to, and then zeros
 abbrev pub frame_word : (images t frame i : ℕ) → ℕ
-frame_word images t frame i = if i == 0 then next_frame t frame else if i == 1 then code_address images t (frame + 1) else 0
+frame_word images t frame i = if i == 0 then next_frame t frame else if i == 1
+    then code_address images t (frame + 1) else 0
 
 -- word i of a thread's stack: its frames of 4 words, and then zeros
 abbrev pub stack_word : (images t i : ℕ) → ℕ
@@ -43,4 +46,12 @@ stacks_bytes images = joined (stack_bytes images) THREADS
 
 -- the segment of the core with all stacks, whose bytes stand at a place
 abbrev pub stacks_segment : ℕ → Segment
-stacks_segment place = record { name = no_name; address = FIRST_STACK; memory_size = STACK_SIZE * THREADS; file_offset = place; file_size = STACK_SIZE * THREADS; protection = VM_PROT_READ_WRITE }
+stacks_segment place =
+    record {
+      name = no_name;
+      address = FIRST_STACK;
+      memory_size = STACK_SIZE * THREADS;
+      file_offset = place;
+      file_size = STACK_SIZE * THREADS;
+      protection = VM_PROT_READ_WRITE;
+    }

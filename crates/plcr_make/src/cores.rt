@@ -59,7 +59,8 @@ fn images_place(images: u32) -> u64
 /// Adds the segments of the images, whose bytes begin at a place.
 fn add_image_segments(bytes: &mut Vec<u8>, start: u64, images: u32) -> Result<(), AllocError>
     requires { start < 2 ^ 32 }
-    ensures { OnOk result (bytes.new.items ≡ bytes.old.items ++ joined (λ k. segment_command (made.image_segment start k)) images) }
+    ensures { OnOk result (bytes.new.items ≡ bytes.old.items
+        ++ joined (λ k. segment_command (made.image_segment start k)) images) }
 {
     for k in 0..images {
         add_segment(bytes, &image_segment(start, k))?;
@@ -70,7 +71,8 @@ fn add_image_segments(bytes: &mut Vec<u8>, start: u64, images: u32) -> Result<()
 /// Adds the commands of the threads.
 fn add_threads(bytes: &mut Vec<u8>, images: u32) -> Result<(), AllocError>
     requires { 1 ≤ images }
-    ensures { OnOk result (bytes.new.items ≡ bytes.old.items ++ joined (thread_command images) THREADS) }
+    ensures { OnOk result (bytes.new.items ≡ bytes.old.items ++ joined (thread_command images)
+        THREADS) }
 {
     for t in 0..THREADS {
         add_thread(bytes, images, t)?;

@@ -1,5 +1,5 @@
-//! A core and a script that are made by rule, for runs of any size: images in their order, threads whose frames lead
-//! through them, and a script that loads and unloads them and takes one report.
+//! A core and a script that are made by rule, for runs of any size: images in their order, threads
+//! whose frames lead through them, and a script that loads and unloads them and takes one report.
 #![tactic(auto)]
 
 mod constants;

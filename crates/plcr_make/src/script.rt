@@ -40,7 +40,8 @@ fn add_report(text: &mut String) -> Result<(), AllocError>
 
 /// Adds the line of each load.
 fn add_loads(text: &mut String, images: u32) -> Result<(), AllocError>
-    ensures { OnOk result (string_bytes text.new ≡ string_bytes text.old ++ joined load_line images) }
+    ensures { OnOk result (string_bytes text.new ≡ string_bytes text.old
+        ++ joined load_line images) }
 {
     for k in 0..images {
         add_load(text, k)?;
@@ -58,7 +59,8 @@ fn add_load(text: &mut String, k: u32) -> Result<(), AllocError>
 
 /// Adds the line of each unload.
 fn add_unloads(text: &mut String, images: u32) -> Result<(), AllocError>
-    ensures { OnOk result (string_bytes text.new ≡ string_bytes text.old ++ joined unload_lines images) }
+    ensures { OnOk result (string_bytes text.new ≡ string_bytes text.old
+        ++ joined unload_lines images) }
 {
     for k in 0..images {
         add_unload(text, k)?;

@@ -19,8 +19,8 @@ const HEADER_ROOM: usize = mach_header_64::LENGTH;
 
 const SEGMENT_ROOM: usize = segment_command_64::LENGTH;
 
-/// A segment without sections: its name, where it stands in memory and in the file, and what its memory may be used
-/// for, at most and at first.
+/// A segment without sections: its name, where it stands in memory and in the file, and what its
+/// memory may be used for, at most and at first.
 #[derive(Clone, Copy)]
 pub(crate) struct Segment {
     pub name: [u8; 16],

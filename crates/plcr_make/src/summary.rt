@@ -11,7 +11,8 @@ use plcr_io::{PutFailed, Sink, add_bytes, add_decimal, put_all};
 /// Room for four words and four numbers of at most 20 digits.
 const LINE_ROOM: usize = 128;
 
-/// Writes the line of a report with so many images, so many threads, so many frames of all threads, and so many bytes.
+/// Writes the line of a report with so many images, so many threads, so many frames of all threads,
+/// and so many bytes.
 ///
 /// # Errors
 ///
@@ -23,8 +24,11 @@ pub fn write_summary<K: Sink>(
     bytes: u64,
     sink: &mut K,
 ) -> Result<(), PutFailed>
-    ensures ok { OnOk result (K.written sink.new ≡ append_known (K.written sink.old) (summary_line images threads frames bytes)) }
-    ensures err { OnErr result (AppendsProperFront (K.written sink.old) (K.written sink.new) (summary_line images threads frames bytes)) }
+    ensures ok { OnOk result
+        (K.written sink.new ≡ append_known (K.written sink.old)
+        (summary_line images threads frames bytes)) }
+    ensures err { OnErr result (AppendsProperFront (K.written sink.old) (K.written sink.new)
+        (summary_line images threads frames bytes)) }
     ensures cause { OnErr result (Rose (K.faults sink.old) (K.faults sink.new)) }
     ensures later { K.faults sink.old ≤ K.faults sink.new }
     ensures mark { K.mark sink.new ≡ K.mark sink.old }

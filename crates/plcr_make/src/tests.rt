@@ -22,7 +22,8 @@ fn the_smallest_core_is_made_byte_by_byte(rt: HostRuntime) -> Result<(), Fail> {
         \x19\0\0\0\x48\0\0\0\0\0\0\0\0\0\0\0\0\0\0\0\0\0\0\0\0\0\0\0\x01\0\0\0\0\x40\0\0\0\0\0\0\
         \x30\x0c\0\0\0\0\0\0\x80\0\0\0\0\0\0\0\x05\0\0\0\x05\0\0\0\0\0\0\0\0\0\0\0";
     assert!(rt; bytes.as_slice().starts_with(front.as_slice()));
-    // the image's bytes begin at 3120, its uuid ends with its number, and the first stack stands behind
+    // the image's bytes begin at 3120, its uuid ends with its number, and the first stack stands
+    // behind
     if bytes.len() > 3_280 {
         assert_eq!(rt;
             &bytes[3_152..3_166],

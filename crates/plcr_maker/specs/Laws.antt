@@ -9,7 +9,8 @@ use Rattle.plcr_maker.specs.Make.{StopsIn, HasMade, MakeDoes, MadeLeft, MakeLeav
 -- 0: the three files were kept and the line of the report printed. 5: a file wasn't kept, or the
 -- line not printed whole. 7: nothing was done. At 0 and 5 `past` has the writer of the run's list.
 -- No other status comes
-abbrev pub MakeIs : (images : ℕ) → (core script : List ℕ) → Seen → Seen → Option WriterState → ℕ → Type 0
+abbrev pub MakeIs : (images : ℕ) → (core script : List ℕ) → Seen → Seen → Option WriterState → ℕ →
+    Type 0
 MakeIs images core script old new past status =
     ((status ≡ 0) × HasMade images core script HasKept old new × MadeLeft images past)
     ⊎ ((status ≡ 5) × HasMade images core script StopsIn old new × MadeLeft images past)

@@ -64,7 +64,8 @@ abbrev pub StopsIn : (files : List File) → (line : List ℕ) → Seen → Seen
 StopsIn files line old new = CannotKeepOne files old new ⊎ CannotPrint files [] line old new
 
 -- a report was made, and no file taken; so the files and the line of the report were handed out
-pub record HasMade (images : ℕ) (core script : List ℕ) (HandsOut : List File → List ℕ → Seen → Seen → Type 0) (old new : Seen) : Type 0 where
+pub record HasMade (images : ℕ) (core script : List ℕ) (HandsOut : List File → List ℕ → Seen →
+    Seen → Type 0) (old new : Seen) : Type 0 where
   pub bytes : List ℕ
   pub make : IsMake images bytes
   pub took : TookNothing old.desk new.desk

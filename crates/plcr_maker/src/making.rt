@@ -88,7 +88,8 @@ fn counts_in(alloc: Global, bytes: &[u8]) -> Option<Counts>
 
 /// The run of a made script on a made core.
 fn ran_of(alloc: Global, core: &[u8], script: &[u8]) -> Option<Ran>
-    ensures { IfSome result (λ ran. (images : ℕ) → images ≤ MOST_IMAGES → script.now ≡ script_of images →
+    ensures { IfSome result (λ ran. (images : ℕ) → images ≤ MOST_IMAGES →
+        script.now ≡ script_of images →
         (value : Core) × IsCore core.now value × IsRun value (made_script images) ran) }
 {
     let core = made_core(alloc, core)?;
@@ -112,7 +113,8 @@ fn made_core(alloc: Global, bytes: &[u8]) -> Option<Core>
 
 /// The script of these bytes.
 fn made_script(alloc: Global, bytes: &[u8]) -> Option<Script>
-    ensures is { IfSome result (λ script. (images : ℕ) → images ≤ MOST_IMAGES → bytes.now ≡ script_of images → script ≡ scripts.made_script images) }
+    ensures is { IfSome result (λ script. (images : ℕ) → images ≤ MOST_IMAGES →
+        bytes.now ≡ script_of images → script ≡ scripts.made_script images) }
     ensures lawful { IfSome result IsLawful }
 {
     if bytes.len() as u64 > SCRIPT_LIMIT {

@@ -82,7 +82,8 @@ fn the_most_images_are_made(rt: HostRuntime) -> Result<(), Fail> {
     made(&rt, 4_000, line, 229_357)
 }
 
-// Which fault, what is printed, how many files are kept, and how many bytes of the next are given up.
+// Which fault, what is printed, how many files are kept, and how many bytes of the next are given
+// up.
 const FAULTS: [(Fault, &str, usize, Option<usize>); 9] = [
     (Fault::Call(1), "cannot write a.core\n", 0, None),
     (

@@ -11,7 +11,8 @@ pub record IsFirstWrap (rs : List Region) (i : ℕ) : Type 0 where
   pub wraps : 2 ^ 64 < (region_at rs i).start + (region_at rs i).size
   pub least : (k : ℕ) → k < i → Ends (region_at rs k)
 
--- the region at index second is the first that shares an address with an earlier one, and first is the first such earlier one
+-- the region at index second is the first that shares an address with an earlier one, and first is
+-- the first such earlier one
 pub record IsFirstOverlap (rs : List Region) (first second : ℕ) : Type 0 where
   pub before : first < second
   pub inside : second < length rs

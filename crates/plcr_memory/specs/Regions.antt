@@ -1,4 +1,5 @@
--- The memory of a stopped process as the segments of a Mach-O file lay it out (loader.h): regions of addresses over the bytes of the file.
+-- The memory of a stopped process as the segments of a Mach-O file lay it out (loader.h): regions
+-- of addresses over the bytes of the file.
 use Rattle.std.specs.Prelude.{◌≤◌, ◌<◌, ℕ, zero, suc, ◌+◌, ◌-◌, ◌^◌, Bool, false, IsTrue, nat_lt, nat_le, ◌&&◌, if◌then◌else◌, List, [], ◌∷◌, length, slice_index, slice_index_or, Option, Some, None, option_map, unwrap_or}
 use Rattle.std.specs.List.{find}
 use Rattle.std.specs.Option.{option_map_or}
@@ -14,9 +15,11 @@ pub record Contents : Type 0 where
 abbrev pub covers : Region → ℕ → Bool
 covers r a = nat_le r.start a && nat_lt a (r.start + r.size)
 
--- the region's byte at an address that it covers: the file's, and zero past the bytes that stand in the file
+-- the region's byte at an address that it covers: the file's, and zero past the bytes that stand in
+-- the file
 abbrev pub byte_in : List ℕ → Region → ℕ → ℕ
-byte_in file r a = if nat_lt (a - r.start) r.len then slice_index file (r.from + (a - r.start)) else 0
+byte_in file r a = if nat_lt (a - r.start) r.len then slice_index file (r.from + (a - r.start))
+    else 0
 
 -- the first region that covers the address
 abbrev pub region_over : List Region → ℕ → Option Region

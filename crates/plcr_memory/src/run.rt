@@ -17,7 +17,8 @@ pub fn stores(region: &Region, at: u64, size: u64) -> bool
 pub fn stored<'a>(file: &'a [u8], region: &Region, offset: u64, most: usize) -> &'a [u8]
     requires { IsBacked file.now region.now }
     ensures within { length result.now ≤ most }
-    ensures bytes { result.now ≡ take most (drop offset (take region.now.len (drop region.now.from file.now))) }
+    ensures bytes { result.now
+        ≡ take most (drop offset (take region.now.len (drop region.now.from file.now))) }
 {
     let (_, rest) = file.split_at(region.from);
     let (front, _) = rest.split_at(region.len);
@@ -32,7 +33,8 @@ pub fn copy_run(file: &[u8], region: &Region, at: u64, into: &mut [u8])
     requires backed { IsBacked file.now region.now }
     requires starts { region.now.start ≤ at }
     requires ends { at + length into.old ≤ region.now.start + region.now.size }
-    ensures { (k : ℕ) → k < length into.new → slice_index into.new k ≡ byte_in file.now region.now (at + k) }
+    ensures { (k : ℕ) → k < length into.new →
+        slice_index into.new k ≡ byte_in file.now region.now (at + k) }
 {
     let piece = stored(file, region, at - region.start, into.len());
     let (front, rest) = into.split_at_mut(piece.len());

@@ -11,7 +11,8 @@ fn starts_by(order: &[Placed], at: u64) -> usize
     requires { IsNonDecreasingBy (λ (o : Placed). o.start) order.now }
     ensures inside { result ≤ length order.now }
     ensures before { (k : ℕ) → k < result → (placed_at order.now k).start ≤ at }
-    ensures past { (k : ℕ) → result ≤ k → k < length order.now → at < (placed_at order.now k).start }
+    ensures past { (k : ℕ) → result ≤ k → k < length order.now →
+        at < (placed_at order.now k).start }
 {
     order.partition_point(|placed| placed.start <= at)
 }

@@ -20,10 +20,12 @@ pub record KnowsTheList (old all : List Entry) : Type 0 where
 
 -- what comes new to an owner leaves all that it knows of the list
 abbrev pub OwnersKnowTheList : Type 0
-OwnersKnowTheList = (numbers : List ℕ) (old all : List Entry) → AddsOthers true numbers old all → KnowsTheList old all
+OwnersKnowTheList = (numbers : List ℕ) (old all : List Entry) → AddsOthers true numbers old all →
+    KnowsTheList old all
 
 -- what a pass may reach, it may still reach, with the same image and name
-pub record StaysReached (pass node : ℕ) (old all : List Entry) (old_names names : List (List ℕ)) : Type 0 where
+pub record StaysReached (pass node : ℕ) (old all : List Entry)
+    (old_names names : List (List ℕ)) : Type 0 where
   pub reach : may_reach pass node all ≡ true
   pub image : loaded node all ≡ loaded node old
   pub name : name_on node all names ≡ name_on node old old_names
@@ -36,10 +38,14 @@ pub record StandsAsBefore (pass : ℕ) (old all : List Entry) : Type 0 where
 
 -- what comes new to an owner leaves where each joined pass stands
 abbrev pub OwnersKnowTheJoined : Type 0
-OwnersKnowTheJoined = (numbers : List ℕ) (old all : List Entry) → AddsOthers true numbers old all → (pass : ℕ) → among pass numbers ≡ true → StandsAsBefore pass old all
+OwnersKnowTheJoined = (numbers : List ℕ) (old all : List Entry) → AddsOthers true numbers old all →
+    (pass : ℕ) → among pass numbers ≡ true → StandsAsBefore pass old all
 
 -- what comes new to a pass leaves where it stands, and leaves what it may reach
 abbrev pub PassesKeepTheirReach : Type 0
-PassesKeepTheirReach = (nodes passes pass : ℕ) (old all : List Entry) (old_names names : List (List ℕ)) → GoesOn nodes passes false (pass ∷ []) old old_names all names
+PassesKeepTheirReach =
+    (nodes passes pass : ℕ) (old all : List Entry) (old_names names : List (List ℕ)) →
+    GoesOn nodes passes false (pass ∷ []) old old_names all names
     → length old_names ≡ loads old
-    → StandsAsBefore pass old all × ((node : ℕ) → may_reach pass node old ≡ true → StaysReached pass node old all old_names names)
+    → StandsAsBefore pass old all × ((node : ℕ) → may_reach pass node old ≡ true →
+    StaysReached pass node old all old_names names)

@@ -1,4 +1,5 @@
--- How an image lies in the words of its node: the header, the length of its name, and the name in words of 8 bytes, the lowest byte first and zero past the end.
+-- How an image lies in the words of its node: the header, the length of its name, and the name in
+-- words of 8 bytes, the lowest byte first and zero past the end.
 use Rattle.std.specs.Prelude.{◌≡◌, ℕ, zero, suc, ◌+◌, ◌*◌, ◌/◌, ◌<◌, cond, ◌&&◌, ◌==◌, List, [], ◌∷◌, ◌++◌, length, take, Option, Some, None}
 use Rattle.byteorder.specs.Endian.{little_bytes}
 use Rattle.plcr_base.specs.Bytes.{IsBytes}
@@ -15,7 +16,8 @@ AreNames (name ∷ names) = IsImageName name × IsBytes name × AreNames names
 abbrev pub words_of : ℕ → ℕ
 words_of len = (len + 7) / 8
 
--- payload word k of an image with this header and name: word 0 is the header, word 1 the length, and then comes the name
+-- payload word k of an image with this header and name: word 0 is the header, word 1 the length,
+-- and then comes the name
 abbrev pub payload_word : ℕ → List ℕ → ℕ → ℕ
 payload_word header name zero = header
 payload_word header name (suc zero) = length name
@@ -46,7 +48,8 @@ stored_elsewhere n (s ∷ ss) = cond (s.node == n) (stored_elsewhere n ss) (s �
 -- the bytes of `count` payload words from word k on
 abbrev pub stored_bytes : ℕ → ℕ → ℕ → List Store → List ℕ
 stored_bytes n k zero ss = []
-stored_bytes n k (suc count) ss = little_bytes 8 (stored_or n (k + 1) ss) ++ stored_bytes n (k + 1) count ss
+stored_bytes n k (suc count) ss =
+    little_bytes 8 (stored_or n (k + 1) ss) ++ stored_bytes n (k + 1) count ss
 
 -- the header that was stored in the node
 abbrev pub header_in : ℕ → List Store → ℕ
@@ -61,7 +64,8 @@ pub record IsFilled (n : ℕ) (ss : List Store) : Type 0 where
   pub header : stored n 1 ss ≡ Some (header_in n ss)
   pub short : IsImageName (name_in n ss)
   pub len : stored n 2 ss ≡ Some (length (name_in n ss))
-  pub name : (k : ℕ) → k < words_of (length (name_in n ss)) → stored n (k + 3) ss ≡ Some (u64_in (name_in n ss) (8 * k))
+  pub name : (k : ℕ) → k < words_of (length (name_in n ss)) →
+      stored n (k + 3) ss ≡ Some (u64_in (name_in n ss) (8 * k))
 
 -- the end was stored as the node's link
 abbrev pub IsEnded : ℕ → List Store → Type 0

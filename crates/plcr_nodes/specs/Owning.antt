@@ -22,7 +22,12 @@ pub record IsLinked (old : OwnerState) (node : ℕ) (new : OwnerState) : Type 0 
   pub past : List Entry
   pub names : List (List ℕ)
   pub sees : OwnerSeesMore old past names
-  pub now : new ≡ record old { history = Load node (suc (loads past)) (header_in node old.filled) ∷ past; names = name_in node old.filled ∷ names; filled = stored_elsewhere node old.filled }
+  pub now : new ≡ record old {
+    history = Load node (suc (loads past)) (header_in node old.filled)
+        ∷ past;
+    names = name_in node old.filled ∷ names;
+    filled = stored_elsewhere node old.filled;
+  }
   pub legal : IsHistory new.nodes new.passes new.history new.names
 
 -- the node that follows a place of the list

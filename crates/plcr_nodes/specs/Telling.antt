@@ -14,7 +14,8 @@ abbrev pub note_of_pass : PassState → NoteState
 note_of_pass s = record { table = s.table; history = s.history; names = s.names }
 
 -- a token was told what a note's token had seen: both had seen a beginning of what it has seen now
-pub record IsTold {S : Type 0} (Sees : List Entry → List (List ℕ) → Type 0) (after : List Entry → List (List ℕ) → S) (note : NoteState) (new : S) : Type 0 where
+pub record IsTold {S : Type 0} (Sees : List Entry → List (List ℕ) → Type 0) (after : List Entry →
+    List (List ℕ) → S) (note : NoteState) (new : S) : Type 0 where
   pub past : List Entry
   pub names : List (List ℕ)
   pub sees : Sees past names
@@ -23,12 +24,15 @@ pub record IsTold {S : Type 0} (Sees : List Entry → List (List ℕ) → Type 0
   pub named : WentOn note.names names
 
 abbrev pub IsPassTold : PassState → NoteState → PassState → Type 0
-IsPassTold old note new = IsTold (SeesMore old) (λ past names. record old { history = past; names = names }) note new
+IsPassTold old note new =
+    IsTold (SeesMore old) (λ past names. record old { history = past; names = names }) note new
 
 abbrev pub IsOwnerTold : OwnerState → NoteState → OwnerState → Type 0
-IsOwnerTold old note new = IsTold (OwnerSeesMore old) (λ past names. record old { history = past; names = names }) note new
+IsOwnerTold old note new =
+    IsTold (OwnerSeesMore old) (λ past names. record old { history = past; names = names }) note new
 
--- the owner joined the pass: both had seen a beginning of what the owner has seen now, which has of the pass just the entries that the pass had seen
+-- the owner joined the pass: both had seen a beginning of what the owner has seen now, which has of
+-- the pass just the entries that the pass had seen
 pub record IsJoined (old : OwnerState) (pass : PassState) (new : OwnerState) : Type 0 where
   pub past : List Entry
   pub names : List (List ℕ)

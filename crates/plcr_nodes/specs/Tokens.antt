@@ -11,7 +11,8 @@ use Rattle.plcr_nodes.specs.declared.view.Store.{Store}
 use Rattle.plcr_nodes.specs.Seeing.{GoesOn}
 use Rattle.plcr_nodes.specs.Payload.{image_word}
 
--- what a pass knows: its table with its sizes, its number, the history that it has seen with the names of its loads, and what its walk was given since it went in
+-- what a pass knows: its table with its sizes, its number, the history that it has seen with the
+-- names of its loads, and what its walk was given since it went in
 pub record PassState : Type 0 where
   pub table : TableId
   pub nodes : ℕ
@@ -21,7 +22,8 @@ pub record PassState : Type 0 where
   pub names : List (List ℕ)
   pub given : List ℕ
 
--- what the owner knows: likewise, with the numbers of the passes that it has joined, the last first, and what it stored in free nodes
+-- what the owner knows: likewise, with the numbers of the passes that it has joined, the last
+-- first, and what it stored in free nodes
 pub record OwnerState : Type 0 where
   pub table : TableId
   pub nodes : ℕ
@@ -39,11 +41,14 @@ pub record NoteState : Type 0 where
 
 -- the pass saw more of the history, none of it an entry of its own
 abbrev pub SeesMore : PassState → List Entry → List (List ℕ) → Type 0
-SeesMore old past names = GoesOn old.nodes old.passes false (old.number ∷ []) old.history old.names past names
+SeesMore old past names =
+    GoesOn old.nodes old.passes false (old.number ∷ []) old.history old.names past names
 
--- the owner saw more of the history, none of it an entry of an owner or of a pass that it had joined
+-- the owner saw more of the history, none of it an entry of an owner or of a pass that it had
+-- joined
 abbrev pub OwnerSeesMore : OwnerState → List Entry → List (List ℕ) → Type 0
-OwnerSeesMore old past names = GoesOn old.nodes old.passes true old.joined old.history old.names past names
+OwnerSeesMore old past names =
+    GoesOn old.nodes old.passes true old.joined old.history old.names past names
 
 -- the pass made an entry, which came last, and its walk begins anew
 pub record IsEntry (entry : Entry) (old new : PassState) : Type 0 where
@@ -71,7 +76,8 @@ pub record IsLeft (old : PassState) (found : ℕ) (new : PassState) : Type 0 whe
   pub entry : IsEntry (Leave old.number) old new
   pub gate : found ≡ counts entry.past
 
--- the walk was given where the link of a place leads: to the end, or to a node that was in the list since the pass went in
+-- the walk was given where the link of a place leads: to the end, or to a node that was in the list
+-- since the pass went in
 pub record IsFollowed (old : PassState) (node found : ℕ) (new : PassState) : Type 0 where
   pub past : List Entry
   pub names : List (List ℕ)

@@ -1,5 +1,6 @@
-//! A table of nodes that holds a linked list of loaded images. One owner changes it in single atomic steps while
-//! passes walk it, without a lock. `docs/image-list.md` has the picture of the words and the rule.
+//! A table of nodes that holds a linked list of loaded images. One owner changes it in single
+//! atomic steps while passes walk it, without a lock. `docs/image-list.md` has the picture of the
+//! words and the rule.
 #![tactic(auto)]
 
 mod counting;

@@ -50,14 +50,16 @@ impl From<AllocError> for NodesError {
 }
 
 impl Nodes {
-    /// A table with an empty list and the tokens for it: the owner, and as many passes, with the numbers from 0 on.
+    /// A table with an empty list and the tokens for it: the owner, and as many passes, with the
+    /// numbers from 0 on.
     /// `BadSize` comes exactly where there aren't 1 to 4,096 nodes and 1 to 1,024 passes.
     pub fn open(
         alloc: Global,
         nodes: u32,
         passes: u32,
     ) -> Result<(Nodes, Owner, Vec<NodePass>), NodesError>
-        ensures opened { IfOk result (λ r. IsSized nodes passes × IsOpened nodes passes r.0 r.1 r.2.items) }
+        ensures opened { IfOk result (λ r. IsSized nodes passes
+            × IsOpened nodes passes r.0 r.1 r.2.items) }
         ensures first { IfOk result (λ r. FindsNothing r.1) }
         ensures bad { ¬ IsSized nodes passes → IsErrOf result (NodesError.BadSize nodes passes) }
         ensures memory { IsSized nodes passes → IfErr result (λ e. e ≡ NodesError.Memory) }
@@ -93,7 +95,8 @@ impl Nodes {
         requires sized { IsSized nodes passes }
         requires opening { IsOpening nodes passes 0 self.now seat.old.me }
         ensures table { seat.new.table_id ≡ self.now }
-        ensures given { IfOk result (λ all. IsOpening nodes passes passes self.now seat.new.me × (all.items ≡ opened_passes self.now nodes passes passes)) }
+        ensures given { IfOk result (λ all. IsOpening nodes passes passes self.now seat.new.me
+            × (all.items ≡ opened_passes self.now nodes passes passes)) }
     {
         let mut all = Vec::with_capacity(alloc, passes as usize)?;
         for number in 0..passes {

@@ -32,7 +32,8 @@ pub(crate) fn relink(links: &mut Vec<u32>, place: u32, to: u32)
     links[place as usize] = to;
 }
 
-// Makes the link of the last place lead to a filled node, in one exchange, and gives where it led before: to the end.
+// Makes the link of the last place lead to a filled node, in one exchange, and gives where it led
+// before: to the end.
 fn exchange_tail(nodes: &Nodes, seat: &mut Seat<(), View>, tail: u32, node: u32) -> u64
     requires table { seat.old.table_id ≡ nodes.now }
     requires owner { IsOwner seat.old.table_id seat.old.me }
@@ -41,7 +42,8 @@ fn exchange_tail(nodes: &Nodes, seat: &mut Seat<(), View>, tail: u32, node: u32)
     requires ended { IsEnded node seat.old.me.0.filled }
     ensures table { seat.new.table_id ≡ seat.old.table_id }
     ensures owner { IsOwner seat.new.table_id seat.new.me }
-    ensures entry { IsLinked (owner_state seat.old.table_id seat.old.me.0) node (owner_state seat.new.table_id seat.new.me.0) }
+    ensures entry { IsLinked (owner_state seat.old.table_id seat.old.me.0) node
+        (owner_state seat.new.table_id seat.new.me.0) }
     ensures end { result ≡ 0 }
 {
     nodes
@@ -62,14 +64,17 @@ impl Model for Owner {
 }
 
 impl Owner {
-    /// Stores one payload word in a free node: 0 is the header, 1 the length of the name, and then come the words of
-    /// the name.
+    /// Stores one payload word in a free node: 0 is the header, 1 the length of the name, and then
+    /// come the words of the name.
     pub fn fill(&mut self, nodes: &Nodes, node: u32, word: u32, value: u64)
         requires table { self.old.table ≡ nodes.now }
         requires node { (0 < node) × (node ≤ self.old.nodes) }
         requires free { is_free self.old.passes node self.old.history ≡ true }
         requires word { word < PAYLOAD_WORDS }
-        ensures stored { self.new ≡ record self.old { filled = store node (word + 1) value ∷ self.old.filled } }
+        ensures stored { self.new ≡ record self.old {
+          filled =
+              store node (word + 1) value ∷ self.old.filled;
+        } }
     {
         nodes.table.shared.store::<Filling>(
             &mut self.seat,

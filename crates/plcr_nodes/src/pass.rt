@@ -51,7 +51,8 @@ impl NodePass {
         nodes.table.shared.load::<Leaving>(&mut self.seat, GATE) as u32
     }
 
-    /// Where the link of a place leads: the head, 0, or a node that the walk was given. The end is 0 too.
+    /// Where the link of a place leads: the head, 0, or a node that the walk was given. The end is
+    /// 0 too.
     pub fn next_link(&mut self, nodes: &Nodes, node: u32) -> u32
         requires table { self.old.table ≡ nodes.now }
         requires inside { is_inside self.old.number self.old.history ≡ true }
@@ -65,8 +66,8 @@ impl NodePass {
         found as u32
     }
 
-    /// One payload word of the image on a node that the walk was given: 0 is the header, 1 the length of its name,
-    /// and then come the words of the name.
+    /// One payload word of the image on a node that the walk was given: 0 is the header, 1 the
+    /// length of its name, and then come the words of the name.
     pub fn payload(&mut self, nodes: &Nodes, node: u32, word: u32) -> u64
         requires table { self.old.table ≡ nodes.now }
         requires known { (0 < node) × (among node self.old.given ≡ true) }

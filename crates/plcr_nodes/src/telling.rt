@@ -1,4 +1,5 @@
-//! What one token has seen is told to another: by a note, or as a pass is joined into the owner for good.
+//! What one token has seen is told to another: by a note, or as a pass is joined into the owner for
+//! good.
 ghost use Rattle.std.specs.Prelude.{◌≡◌, ◌<◌, [], false};
 ghost use Rattle.plcr_machine.specs.Passes.{is_announced};
 ghost use Rattle.plcr_nodes.specs.Telling.{note_of_owner, note_of_pass, IsPassTold, IsOwnerTold, IsJoined};
@@ -13,7 +14,8 @@ use crate::words::GATE;
 use atomic_table::Seat;
 use std::marker::Model;
 
-/// A copy of what a token has seen, without its rights. It has no bytes, and one that is dropped tells nobody.
+/// A copy of what a token has seen, without its rights. It has no bytes, and one that is dropped
+/// tells nobody.
 #[derive(Drop)]
 pub struct NodeNote {
     pub(crate) seat: Seat<(), View>,
@@ -30,9 +32,11 @@ impl Model for NodeNote {
     ghost invariant = { λ n. IsNote n.seat.me };
 }
 
-// Joins a seat into the owner's, which then sees what both had seen. The join by itself tells nothing of the table.
+// Joins a seat into the owner's, which then sees what both had seen. The join by itself tells
+// nothing of the table.
 fn gather(nodes: &Nodes, seat: &mut Seat<(), View>, other: Seat<(), View>)
-    requires tables { (seat.old.table_id ≡ nodes.now) × (other.table_id ≡ nodes.now) × (0 < nodes.now.words) }
+    requires tables { (seat.old.table_id ≡ nodes.now) × (other.table_id ≡ nodes.now)
+        × (0 < nodes.now.words) }
     requires lives { (seat.old.me.0.spent ≡ false) × (other.me.0.spent ≡ false) }
     requires light { other.me.1 ≡ [] }
     ensures table { seat.new.table_id ≡ seat.old.table_id }
@@ -63,7 +67,8 @@ impl Owner {
         gather(nodes, &mut self.seat, seat);
     }
 
-    /// Joins a pass that is neither in nor announced, for good. The owner then knows all that the pass did.
+    /// Joins a pass that is neither in nor announced, for good. The owner then knows all that the
+    /// pass did.
     pub fn join(&mut self, nodes: &Nodes, pass: NodePass)
         requires table { (self.old.table ≡ nodes.now) × (pass.table ≡ nodes.now) }
         requires retired { is_announced pass.number pass.history ≡ false }

@@ -1,4 +1,5 @@
-//! Tokens tell each other what they have seen: a pass inside keeps what it was given, and the owner knows what a joined pass did.
+//! Tokens tell each other what they have seen: a pass inside keeps what it was given, and the owner
+//! knows what a joined pass did.
 ghost use Rattle.std.specs.Prelude.{◌≡◌, ◌<◌, ◌≤◌, []};
 ghost use Rattle.std.specs.Thread.{IsSync};
 ghost use Rattle.plcr_nodes.specs.inner.Seats.{IsFresh};
@@ -68,7 +69,8 @@ fn tell_each_other<R: Threads + Sync>(
     owner: Owner,
     pass: NodePass,
 ) -> (Owner, NodePass)
-    requires owner { (owner.table ≡ nodes.now) × (3 ≤ owner.nodes) × (owner.history ≡ []) × (0 < owner.passes) }
+    requires owner { (owner.table ≡ nodes.now) × (3 ≤ owner.nodes) × (owner.history ≡ [])
+        × (0 < owner.passes) }
     requires pass { IsFresh nodes.now pass }
     ensures owner { (result.0.table ≡ nodes.now) × (0 < result.0.passes) }
     ensures pass { IsFresh nodes.now result.1 }
@@ -76,8 +78,10 @@ fn tell_each_other<R: Threads + Sync>(
     let ((mut owner, of_owner), (mut pass, of_pass)) = thread::join(
         rt,
         move || -> (Owner, NodeNote)
-            requires { (owner.table ≡ nodes.now) × (3 ≤ owner.nodes) × (owner.history ≡ []) × (0 < owner.passes) }
-            ensures { (result.0.table ≡ nodes.entry.now) × (result.1.table ≡ nodes.entry.now) × (0 < result.0.passes) }
+            requires { (owner.table ≡ nodes.now) × (3 ≤ owner.nodes) × (owner.history ≡ [])
+                × (0 < owner.passes) }
+            ensures { (result.0.table ≡ nodes.entry.now) × (result.1.table ≡ nodes.entry.now)
+                × (0 < result.0.passes) }
         { put_and_note(owner, nodes) },
         move || -> (NodePass, NodeNote)
             requires { IsFresh nodes.now pass }
@@ -101,7 +105,8 @@ fn looks_after_a_join(rt: HostRuntime) -> Result<(), Fail> {
     Ok(())
 }
 
-// A pass that is told inside may still read what it was given, and the owner that is told of it still finds its stamp.
+// A pass that is told inside may still read what it was given, and the owner that is told of it
+// still finds its stamp.
 #[test]
 fn tells_a_pass_inside(rt: HostRuntime) -> Result<(), Fail> {
     let Ok((nodes, mut owner, mut passes)) = Nodes::open(rt.alloc(), 1, 1) else {

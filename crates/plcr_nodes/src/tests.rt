@@ -1,5 +1,6 @@
-//! Each call where it succeeds: a table opens, stamps tell which passes may be inside, an image is read back with the words
-//! of its name, images come and go beside a pass, and two threads walk while a third links.
+//! Each call where it succeeds: a table opens, stamps tell which passes may be inside, an image is
+//! read back with the words of its name, images come and go beside a pass, and two threads walk
+//! while a third links.
 ghost use Rattle.std.specs.Prelude.{◌≡◌, ◌≢◌, ◌⊎◌, ℕ, suc, ◌+◌, ◌<◌, ◌≤◌, [], true, false};
 ghost use Rattle.std.specs.Thread.{IsSync};
 ghost use Rattle.plcr_nodes.specs.Owning.{Follows};
@@ -22,9 +23,11 @@ fn put(owner: &mut Owner, nodes: &Nodes, tail: u32, node: u32, header: u64)
     requires free { is_free owner.old.passes node owner.old.history ≡ true }
     requires tail { tail ≡ last_place 0 (live owner.old.history) }
     requires few { loads owner.old.history < MOST_CHANGES }
-    ensures table { (owner.new.table ≡ owner.old.table) × (owner.new.nodes ≡ owner.old.nodes) × (owner.new.passes ≡ owner.old.passes) }
+    ensures table { (owner.new.table ≡ owner.old.table) × (owner.new.nodes ≡ owner.old.nodes)
+        × (owner.new.passes ≡ owner.old.passes) }
     ensures tail { node ≡ last_place 0 (live owner.new.history) }
-    ensures free { (m : ℕ) → m ≢ node → is_free owner.old.passes m owner.old.history ≡ true → is_free owner.new.passes m owner.new.history ≡ true }
+    ensures free { (m : ℕ) → m ≢ node → is_free owner.old.passes m owner.old.history ≡ true →
+        is_free owner.new.passes m owner.new.history ≡ true }
     ensures loads { loads owner.new.history ≡ suc (loads owner.old.history) }
 {
     owner.fill(nodes, node, 0, header);
@@ -99,7 +102,8 @@ pub(crate) fn look_at(owner: &mut Owner, nodes: &Nodes, pass: u32) -> u64
     requires pass { pass < owner.old.passes }
     ensures sizes { (owner.new.table ≡ owner.old.table) × (owner.new.passes ≡ owner.old.passes) }
     ensures counts { counts owner.new.history ≡ counts owner.old.history }
-    ensures follows { (before node : ℕ) → Follows before node owner.old.history → Follows before node owner.new.history }
+    ensures follows { (before node : ℕ) → Follows before node owner.old.history →
+        Follows before node owner.new.history }
 {
     owner.look(nodes, pass)
 }
@@ -114,7 +118,8 @@ fn count_one(owner: &mut Owner, nodes: &Nodes) -> u32
     owner.count(nodes)
 }
 
-// A pass looks at the gate, a change is counted, and only then the pass announces what it saw and goes in.
+// A pass looks at the gate, a change is counted, and only then the pass announces what it saw and
+// goes in.
 fn go_in_late(pass: &mut NodePass, owner: &mut Owner, nodes: &Nodes) -> (u32, u32, u32)
     requires fresh { IsFresh nodes.now pass.old }
     requires owner { (owner.old.table ≡ nodes.now) × (counts owner.old.history < MOST_CHANGES) }
@@ -128,7 +133,8 @@ fn go_in_late(pass: &mut NodePass, owner: &mut Owner, nodes: &Nodes) -> (u32, u3
     (seen, counted, pass.enter(nodes))
 }
 
-// Goes in, walks to the end and comes out, and says how many images it met and whether their headers rise.
+// Goes in, walks to the end and comes out, and says how many images it met and whether their
+// headers rise.
 fn walk(mut pass: NodePass, nodes: &Nodes) -> (u32, bool)
     requires fresh { IsFresh nodes.now pass }
 {
@@ -223,7 +229,8 @@ fn walks_over_one_node(rt: HostRuntime) -> Result<(), Fail> {
     Ok(())
 }
 
-// A stamp is one more than the number of counts that its pass had seen as it announced itself, until the pass retires.
+// A stamp is one more than the number of counts that its pass had seen as it announced itself,
+// until the pass retires.
 #[test]
 fn counts_and_looks(rt: HostRuntime) -> Result<(), Fail> {
     let Ok((nodes, mut owner, mut passes)) = Nodes::open(rt.alloc(), 1, 2) else {

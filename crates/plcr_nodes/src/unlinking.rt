@@ -8,7 +8,8 @@ use crate::plays::Unlinking;
 use crate::words::place_of;
 
 impl Owner {
-    /// Takes a node out of the list: makes the link of the place before it lead to the node after it.
+    /// Takes a node out of the list: makes the link of the place before it lead to the node after
+    /// it.
     pub fn unlink(&mut self, nodes: &Nodes, before: u32, node: u32)
         requires table { self.old.table ≡ nodes.now }
         requires follows { Follows before node self.old.history }

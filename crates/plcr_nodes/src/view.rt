@@ -10,7 +10,8 @@ pub struct Sizes {
     pub passes: u32,
 }
 
-/// One word that the owner stored in a free node. Word 0 is the link, and word k + 1 the payload word k.
+/// One word that the owner stored in a free node. Word 0 is the link, and word k + 1 the payload
+/// word k.
 pub struct Store {
     pub node: u32,
     pub word: u32,
@@ -37,7 +38,8 @@ pub struct View {
     pub owns: bool,
     /// How many pass numbers were given, if the seat owns.
     pub numbered: u32,
-    /// The pass numbers under which the seat may step. An owner has those of the passes that it has joined.
+    /// The pass numbers under which the seat may step. An owner has those of the passes that it has
+    /// joined.
     pub numbers: LinkedList<u32>,
     /// The nodes that a walk was given since the last enter.
     pub given: LinkedList<u32>,

@@ -1,5 +1,5 @@
-//! How the words of a table lie: the gate, the count of pass numbers, the words of the head and of each node, and behind
-//! them a stamp for each pass.
+//! How the words of a table lie: the gate, the count of pass numbers, the words of the head and of
+//! each node, and behind them a stamp for each pass.
 ghost use Rattle.std.specs.Prelude.{◌≡◌, ℕ, ◌+◌, ◌≤◌};
 ghost use Rattle.plcr_machine.specs.declared.limits.TheConstants.{MOST_NODES};
 ghost use Rattle.plcr_nodes.specs.inner.Words.{base, stamp_place};
@@ -15,7 +15,8 @@ pub(crate) const NUMBERS: usize = 1;
 /// The first word of the head, which stands before the nodes.
 pub(crate) const HEAD: usize = 2;
 
-/// A node has so many payload words: the header, the length of the name, and the words of the longest name.
+/// A node has so many payload words: the header, the length of the name, and the words of the
+/// longest name.
 pub const PAYLOAD_WORDS: usize = 2 + IMAGE_NAME_BYTES / 8;
 
 /// A node has so many words: its link and its payload.

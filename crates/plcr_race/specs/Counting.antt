@@ -16,16 +16,19 @@ MakesChanges old count new = changes new.history ≡ changes old.history + count
 
 -- the writer made so many loads more, and no other change
 abbrev pub MakesLoads : WriterState → ℕ → WriterState → Type 0
-MakesLoads old count new = (loads new.history ≡ loads old.history + count) × MakesChanges old count new
+MakesLoads old count new = (loads new.history ≡ loads old.history + count)
+    × MakesChanges old count new
 
--- one walk: the pass announced itself and went in once, met so many images, each the one that follows, until none followed, and came out
+-- one walk: the pass announced itself and went in once, met so many images, each the one that
+-- follows, until none followed, and came out
 pub record IsWalk (old : WalkerState) (met : ℕ) (new : WalkerState) : Type 0 where
   -- the hold as its walk had ended
   pub hold : HoldState
   pub table : hold.walker.table ≡ old.table
   pub number : hold.walker.number ≡ old.number
   pub seen : ℕ
-  pub entered : own_entries old.number hold.walker.history ≡ Enter old.number ∷ Announce old.number seen ∷ own_entries old.number old.history
+  pub entered : own_entries old.number hold.walker.history ≡ Enter old.number
+      ∷ Announce old.number seen ∷ own_entries old.number old.history
   pub walking : IsWalking hold
   pub ended : hold.ended ≡ true
   pub images : met ≡ length hold.met
@@ -36,4 +39,6 @@ pub record IsWalk (old : WalkerState) (met : ℕ) (new : WalkerState) : Type 0 w
 -- so many walks, one after the other, which met so many images in all
 abbrev pub AreWalks : WalkerState → ℕ → ℕ → WalkerState → Type 0
 AreWalks old zero met new = (met ≡ 0) × (new ≡ old)
-AreWalks old (suc walks) met new = (before : ℕ) × (between : WalkerState) × AreWalks old walks before between × ((last : ℕ) × IsWalk between last new × (met ≡ before + last))
+AreWalks old (suc walks) met new = (before : ℕ) × (between : WalkerState)
+    × AreWalks old walks before between
+    × ((last : ℕ) × IsWalk between last new × (met ≡ before + last))

@@ -1,4 +1,5 @@
-//! Loads and unloads alone: the list has all images but one that it has room for, and is filled and unloaded at a place.
+//! Loads and unloads alone: the list has all images but one that it has room for, and is filled and
+//! unloaded at a place.
 ghost use Rattle.std.specs.Prelude.{◌≡◌, ◌≤◌, ◌*◌};
 ghost use Rattle.plcr_race.specs.Counting.{MakesChanges};
 
@@ -9,8 +10,9 @@ use std::io;
 use std::rt::Clock;
 use std::time::Instant;
 
-// Loads an image and unloads the one at a place, counted from 1, so often, and gives how many changes weren't refused. The
-// images behind the place move up, so each unload takes the header that comes next.
+// Loads an image and unloads the one at a place, counted from 1, so often, and gives how many
+// changes weren't refused. The images behind the place move up, so each unload takes the header
+// that comes next.
 fn change(list: &ImageList, writer: Writer, images: u32, place: u32, rounds: u32) -> (Writer, u64)
     requires { writer.table ≡ list.now }
     ensures counts { MakesChanges writer result.1 result.0 }

@@ -1,4 +1,5 @@
-//! The list that is raced, and its changes. The image with the number n of its load has the header n.
+//! The list that is raced, and its changes. The image with the number n of its load has the header
+//! n.
 ghost use Rattle.std.specs.Prelude.{◌≡◌, ◌≤◌, All, IfOk};
 ghost use Rattle.plcr_imagelist.specs.Holds.{WalkerState};
 ghost use Rattle.plcr_race.specs.Counting.{MakesChanges, MakesLoads, one_if};

@@ -1,5 +1,6 @@
-//! A race of the image list: `changes NODES PLACE ROUNDS` loads at the end and unloads at a place, alone, and `walks NODES
-//! READERS ROUNDS` walks on threads while a writer loads and unloads. `bench/imagelist.py` runs it.
+//! A race of the image list: `changes NODES PLACE ROUNDS` loads at the end and unloads at a place,
+//! alone, and `walks NODES READERS ROUNDS` walks on threads while a writer loads and unloads.
+//! `bench/imagelist.py` runs it.
 #![tactic(auto)]
 
 mod changes;

@@ -75,7 +75,8 @@ fn walk_all<R: Threads + Sync>(
     )
 }
 
-// Loads an image and unloads the oldest where the load wasn't refused, and gives how many changes were made.
+// Loads an image and unloads the oldest where the load wasn't refused, and gives how many changes
+// were made.
 fn change_once(list: &ImageList, writer: Writer, oldest: u64) -> (Writer, u64)
     requires { writer.table ≡ list.now }
     ensures list { result.0.table ≡ list.now }
@@ -142,8 +143,8 @@ fn run<R: Threads + Sync>(
     )
 }
 
-/// Prints how many walks were made in how many nanoseconds, how many images they met, and how many changes the writer made
-/// meanwhile.
+/// Prints how many walks were made in how many nanoseconds, how many images they met, and how many
+/// changes the writer made meanwhile.
 pub fn race<R: Threads + Sync + Clock + Alloc<A = Global> + Print>(
     rt: &R,
     nodes: u32,

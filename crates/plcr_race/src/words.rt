@@ -3,7 +3,8 @@
 /// What is to be raced.
 #[derive(Clone, Copy, Debug, PartialEq, Eq)]
 pub enum Task {
-    /// Loads at the end and unloads at a place, counted from 1, of a list of so many nodes, so often.
+    /// Loads at the end and unloads at a place, counted from 1, of a list of so many nodes, so
+    /// often.
     Changes {
         nodes: u32,
         place: u32,
@@ -17,7 +18,8 @@ pub enum Task {
     },
 }
 
-/// The race that the words name, if they are of one of its forms. The first image is unloaded where no place is named.
+/// The race that the words name, if they are of one of its forms. The first image is unloaded where
+/// no place is named.
 pub fn read(words: &[String]) -> Option<Task> {
     match words {
         [kind, nodes, rounds] if kind.as_str() == "changes" => {

@@ -23,9 +23,11 @@ dwarf_register state number = option_and_then (register_at state) (dwarf_place s
 -- x86-64: System V Application Binary Interface, AMD64 supplement, "Registers and the Stack Frame".
 -- arm64: Procedure Call Standard for the Arm 64-bit Architecture, "General-purpose Registers".
 abbrev pub kept_names : Arch → List (List ℕ)
-kept_names X86_64 = codes "rbx" ∷ codes "rbp" ∷ codes "r12" ∷ codes "r13" ∷ codes "r14" ∷ codes "r15" ∷ []
+kept_names X86_64 = codes "rbx" ∷ codes "rbp" ∷ codes "r12" ∷ codes "r13" ∷ codes "r14"
+    ∷ codes "r15" ∷ []
 kept_names Arm64 =
-    codes "x19" ∷ codes "x20" ∷ codes "x21" ∷ codes "x22" ∷ codes "x23" ∷ codes "x24" ∷ codes "x25" ∷
+    codes "x19" ∷ codes "x20" ∷ codes "x21" ∷ codes "x22" ∷ codes "x23" ∷ codes "x24" ∷ codes "x25"
+    ∷
     codes "x26" ∷ codes "x27" ∷ codes "x28" ∷ codes "fp" ∷ []
 
 -- whether the register at a place is one of them
@@ -38,9 +40,13 @@ kept_value state place = if is_kept state.arch place then register_at state plac
 
 -- the same registers with all others unknown
 unfoldable pub kept_of : Registers → Registers
-kept_of state = record { arch = state.arch; value = map (kept_value state) (range_with_len 0 MOST_REGISTERS) }
+kept_of state = record {
+  arch = state.arch;
+  value = map (kept_value state) (range_with_len 0 MOST_REGISTERS);
+}
 
--- an address of code of which so many low bits count: on arm64 the others may hold a signature (Arm Architecture Reference Manual, pointer authentication)
+-- an address of code of which so many low bits count: on arm64 the others may hold a signature (Arm
+-- Architecture Reference Manual, pointer authentication)
 unfoldable pub code_address : Arch → ℕ → ℕ → ℕ
 code_address X86_64 bits address = address
 code_address Arm64 bits address = address % 2 ^ bits
@@ -51,9 +57,11 @@ cut frame address = code_address frame.registers.arch frame.bits address
 
 -- the address of the frame's code, where it is known
 abbrev pub frame_pc : Frame → Option ℕ
-frame_pc frame = option_map (cut frame) (register_at frame.registers (pc_place frame.registers.arch))
+frame_pc frame = option_map (cut frame)
+    (register_at frame.registers (pc_place frame.registers.arch))
 
--- the address that is looked up for a pc: of a return address that of the byte before, which belongs to the call
+-- the address that is looked up for a pc: of a return address that of the byte before, which
+-- belongs to the call
 unfoldable pub looked_up : Bool → ℕ → ℕ
 looked_up true pc = pc
 looked_up false pc = (pc + (2 ^ 64 - 1)) % 2 ^ 64

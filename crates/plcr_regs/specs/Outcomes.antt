@@ -5,7 +5,8 @@ use Rattle.plcr_regs.specs.declared.frame.Step.TheVariants as steps
 use Rattle.plcr_regs.specs.declared.outcome.Outcome.{Outcome}
 use Rattle.plcr_regs.specs.declared.outcome.Outcome.TheVariants.{Caller, End, Bad}
 
--- the step that an answer tells, with the frame that stands in the room then; the room counts only where the caller stands there
+-- the step that an answer tells, with the frame that stands in the room then; the room counts only
+-- where the caller stands there
 abbrev pub step_in : Outcome → Frame → Step
 step_in Caller room = steps.Frame room
 step_in End room = steps.End

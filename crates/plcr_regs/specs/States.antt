@@ -1,4 +1,5 @@
--- Thread states as LC_THREAD and LC_UNIXTHREAD hold them (mach/i386/thread_status.h, mach/arm/thread_status.h).
+-- Thread states as LC_THREAD and LC_UNIXTHREAD hold them (mach/i386/thread_status.h,
+-- mach/arm/thread_status.h).
 use Rattle.std.specs.Prelude.{◌≡◌, ℕ, ◌*◌, ◌==◌, nat_lt, Bool, ◌&&◌, if◌then◌else◌, List, length, take, drop, map, codes, IsTrue, Option, Some, None, is_some}
 use Rattle.std.specs.List.{range_with_len, list_all}
 use Rattle.plcr_base.specs.Numbers.{u32_in, u64_in}
@@ -23,11 +24,13 @@ register_in Arm64 bytes i = if i == cpsr_place then u32_in bytes (8 * i) else u6
 
 -- the same where the architecture has such a register
 abbrev pub value_in : Arch → List ℕ → ℕ → Option ℕ
-value_in arch bytes i = if nat_lt i (register_count arch) then Some (register_in arch bytes i) else None
+value_in arch bytes i = if nat_lt i (register_count arch) then Some (register_in arch bytes i)
+    else None
 
 -- all registers, the first at the head of the bytes
 unfoldable pub registers_in : Arch → List ℕ → Registers
-registers_in arch bytes = record { arch = arch; value = map (value_in arch bytes) (range_with_len 0 MOST_REGISTERS) }
+registers_in arch bytes =
+    record { arch = arch; value = map (value_in arch bytes) (range_with_len 0 MOST_REGISTERS) }
 
 -- the registers alone: x86_THREAD_STATE64, ARM_THREAD_STATE64
 abbrev pub plain_form : Arch → Form
@@ -37,7 +40,8 @@ plain_form Arm64 = record { flavor = ARM_THREAD_STATE64; count = ARM_THREAD_STAT
 -- a flavor and a count before the registers: x86_THREAD_STATE, ARM_UNIFIED_THREAD_STATE
 abbrev pub wrapping_form : Arch → Form
 wrapping_form X86_64 = record { flavor = x86_THREAD_STATE; count = x86_THREAD_STATE_COUNT }
-wrapping_form Arm64 = record { flavor = ARM_UNIFIED_THREAD_STATE; count = ARM_UNIFIED_THREAD_STATE_COUNT }
+wrapping_form Arm64 =
+    record { flavor = ARM_UNIFIED_THREAD_STATE; count = ARM_UNIFIED_THREAD_STATE_COUNT }
 
 -- a state of this flavor with these bytes has the form
 abbrev pub has_form : ℕ → List ℕ → Form → Bool
@@ -47,11 +51,13 @@ has_form flavor bytes form = (flavor == form.flavor) && (length bytes == 4 * for
 abbrev pub begins : List ℕ → Form → Bool
 begins bytes form = (u32_in bytes 0 == form.flavor) && (u32_in bytes 4 == form.count)
 
--- the registers of a state: one of the plain form, or one of the wrapping form that begins with the plain form's flavor and count
+-- the registers of a state: one of the plain form, or one of the wrapping form that begins with the
+-- plain form's flavor and count
 unfoldable pub state_in : Arch → ℕ → List ℕ → Option Registers
 state_in arch flavor bytes =
     if has_form flavor bytes (plain_form arch) then Some (registers_in arch bytes) else
-    if has_form flavor bytes (wrapping_form arch) && begins bytes (plain_form arch) then Some (registers_in arch (drop HEADER bytes)) else None
+    if has_form flavor bytes (wrapping_form arch) && begins bytes (plain_form arch)
+    then Some (registers_in arch (drop HEADER bytes)) else None
 
 -- a state of this architecture in which all of its registers are known
 pub record IsWhole (arch : Arch) (state : Registers) : Type 0 where

@@ -10,9 +10,11 @@ use crate::registers::Registers;
 pub struct Frame {
     /// What is known of the registers.
     pub registers: Registers,
-    /// Whether the thread stands at the program counter itself. Else this is the address to which a call returns.
+    /// Whether the thread stands at the program counter itself. Else this is the address to which a
+    /// call returns.
     pub exact: bool,
-    /// How many low bits of an address of code count on arm64; the others may hold a signature. From 64 on all count.
+    /// How many low bits of an address of code count on arm64; the others may hold a signature.
+    /// From 64 on all count.
     pub bits: u8,
 }
 
@@ -39,7 +41,8 @@ impl Frame {
         }
     }
 
-    /// The address of the frame's code, without its signature; None where the program counter is unknown.
+    /// The address of the frame's code, without its signature; None where the program counter is
+    /// unknown.
     pub fn pc(&self) -> Option<u64>
         ensures { result ≡ frame_pc self.now }
     {
@@ -47,8 +50,9 @@ impl Frame {
         Some(self.cut(pc))
     }
 
-    /// The address by which the frame's function is looked up: `pc` where the frame is exact, else the one before it,
-    /// modulo 2^64, since a call may be the last instruction of its function. None where the program counter is unknown.
+    /// The address by which the frame's function is looked up: `pc` where the frame is exact, else
+    /// the one before it, modulo 2^64, since a call may be the last instruction of its function.
+    /// None where the program counter is unknown.
     #[tactic(auto, unfolding(crate::specs::Frames::looked_up))]
     pub fn lookup(&self) -> Option<u64>
         ensures { result ≡ frame_lookup self.now }

@@ -1,4 +1,5 @@
-//! Thread states of x86-64 and arm64: their registers, by name, by place and by number, and the frames of a thread.
+//! Thread states of x86-64 and arm64: their registers, by name, by place and by number, and the
+//! frames of a thread.
 #![tactic(auto)]
 
 mod arch;

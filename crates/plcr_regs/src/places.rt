@@ -6,10 +6,12 @@ ghost use Rattle.plcr_regs.specs.declared.limits.TheConstants.{MOST_REGISTERS};
 
 use crate::arch::Arch;
 
-// The places of x86-64's registers by their DWARF numbers: rax, rdx, rcx, rbx, rsi, rdi, rbp, rsp, r8 to r15, rip.
+// The places of x86-64's registers by their DWARF numbers: rax, rdx, rcx, rbx, rsi, rdi, rbp, rsp,
+// r8 to r15, rip.
 const X86_64_DWARF: [usize; 17] = [0, 3, 2, 1, 5, 4, 6, 7, 8, 9, 10, 11, 12, 13, 14, 15, 16];
 
-// The last of arm64's registers that have DWARF numbers, which are their places: x0 to x28, fp, lr, sp.
+// The last of arm64's registers that have DWARF numbers, which are their places: x0 to x28, fp, lr,
+// sp.
 const ARM64_DWARF_LAST: u64 = 31;
 
 /// The place of the program counter: rip, or pc.
@@ -64,8 +66,8 @@ pub fn lr_place(arch: Arch) -> Option<usize>
     }
 }
 
-/// The place of the register with a DWARF number; None where no general register has the number. On x86-64 the number
-/// of the return address is rip's.
+/// The place of the register with a DWARF number; None where no general register has the number. On
+/// x86-64 the number of the return address is rip's.
 #[tactic(auto, unfolding(crate::specs::Places::dwarf_place))]
 pub fn dwarf_place(arch: Arch, number: u64) -> Option<usize>
     ensures place { result ≡ dwarf_place arch number }

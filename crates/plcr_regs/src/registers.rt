@@ -14,7 +14,8 @@ pub struct Registers {
     pub value: [Option<u64>; MOST_REGISTERS],
 }
 
-// Whether a function keeps the register at the place for its caller: rbx, rbp, r12 to r15; x19 to x28, fp.
+// Whether a function keeps the register at the place for its caller: rbx, rbp, r12 to r15; x19 to
+// x28, fp.
 #[tactic(auto, unfolding(crate::specs::Frames::is_kept))]
 fn is_kept(arch: Arch, place: usize) -> bool
     ensures { result ≡ is_kept arch place }
@@ -56,7 +57,8 @@ impl Registers {
         }
     }
 
-    /// The registers that a function keeps for its caller, and the frame pointer; all others unknown.
+    /// The registers that a function keeps for its caller, and the frame pointer; all others
+    /// unknown.
     pub fn kept(&self) -> Registers
         ensures { result ≡ kept_of self.now }
     {

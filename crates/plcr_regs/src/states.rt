@@ -38,8 +38,9 @@ fn registers(arch: Arch, bytes: &[u8]) -> Registers
 }
 
 /// The registers of a thread state as a core file holds it: `flavor` and the state's bytes. None
-/// exactly where flavor and length are no accepted form: the flavor of the architecture's registers, or the one that
-/// wraps it. Shapes: mach/i386/thread_status.h, mach/arm/thread_status.h.
+/// exactly where flavor and length are no accepted form: the flavor of the architecture's
+/// registers, or the one that wraps it. Shapes: mach/i386/thread_status.h,
+/// mach/arm/thread_status.h.
 #[tactic(auto, unfolding(crate::specs::States::state_in), using(crate::proofs::WholeStates::whole_registers))]
 pub fn read_state(arch: Arch, flavor: u32, bytes: &[u8]) -> Option<Registers>
     ensures state { result ≡ state_in arch flavor bytes.now }

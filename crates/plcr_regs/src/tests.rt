@@ -193,7 +193,8 @@ fn a_function_keeps_some_registers(rt: HostRuntime) {
 fn a_frame_is_looked_up_without_its_signature(rt: HostRuntime) {
     let signed = 0x002a_0001_0000_4100;
     let plain = 0x1_0000_4100;
-    // The architecture, whether the frame is exact, its bits and its pc; what it is then, and what is looked up.
+    // The architecture, whether the frame is exact, its bits and its pc; what it is then, and what
+    // is looked up.
     let cases = [
         (Arch::Arm64, true, 47, signed, plain, plain),
         (Arch::Arm64, false, 47, signed, plain, plain - 1),

@@ -1,3 +1,4 @@
 pub mod Messages
 pub mod Schema
 pub mod Spelling
+pub mod Constants

@@ -1,4 +1,5 @@
--- The messages that a report is written as: a list of fields each, by the table of its kind and its values.
+-- The messages that a report is written as: a list of fields each, by the table of its kind and its
+-- values.
 use Rattle.std.specs.Prelude.{ℕ, ℤ, Bool, if◌then◌else◌, List, [], ◌∷◌, ◌++◌, map, Option, Some, None}
 use Rattle.std.specs.Int.{w64, cast_unsigned}
 use Rattle.plcr_wire.specs.Message.{Value, Number, Bytes, Field, spelling}
@@ -22,7 +23,8 @@ use Rattle.plcr_report.specs.declared.messages.Info.{Info}
 abbrev pub fields : List Row → List (List Value) → List Field
 fields [] values = []
 fields (row ∷ rows) [] = []
-fields (row ∷ rows) (here ∷ others) = map (λ v. record { number = row.number; value = v }) here ++ fields rows others
+fields (row ∷ rows) (here ∷ others) = map (λ v. record { number = row.number; value = v }) here
+    ++ fields rows others
 
 -- the message of a kind with these values, row by row of its table
 abbrev pub message : Kind → List (List Value) → List Field
@@ -58,10 +60,12 @@ abbrev pub each : {A : Type 0} → (A → List Field) → List A → List Value
 each fs xs = map (λ x. Bytes (spelling (fs x))) xs
 
 unfoldable pub symbol_message : Symbol → List Field
-symbol_message s = message kinds.Symbol (text s.name ∷ number s.start_address ∷ maybe number s.end_address ∷ [])
+symbol_message s = message kinds.Symbol
+    (text s.name ∷ number s.start_address ∷ maybe number s.end_address ∷ [])
 
 unfoldable pub frame_message : Frame → List Field
-frame_message f = message kinds.Frame (number f.pc ∷ maybe (λ s. inner (symbol_message s)) f.symbol ∷ [])
+frame_message f = message kinds.Frame (number f.pc ∷ maybe (λ s. inner (symbol_message s)) f.symbol
+    ∷ [])
 
 unfoldable pub register_message : Register → List Field
 register_message r = message kinds.Register (text r.name ∷ number r.value ∷ [])
@@ -69,7 +73,8 @@ register_message r = message kinds.Register (text r.name ∷ number r.value ∷ 
 unfoldable pub thread_message : Thread → List Field
 thread_message t =
     message kinds.Thread
-    (number t.thread_number ∷ each frame_message t.frames ∷ flag t.crashed ∷ each register_message t.registers ∷ [])
+    (number t.thread_number ∷ each frame_message t.frames ∷ flag t.crashed
+    ∷ each register_message t.registers ∷ [])
 
 unfoldable pub system_message : System → List Field
 system_message s =
@@ -81,7 +86,8 @@ unfoldable pub application_message : Application → List Field
 application_message a = message kinds.Application (text a.identifier ∷ text a.version ∷ [])
 
 unfoldable pub processor_message : Processor → List Field
-processor_message p = message kinds.Processor (number p.encoding ∷ number p.cpu ∷ number p.subtype ∷ [])
+processor_message p =
+    message kinds.Processor (number p.encoding ∷ number p.cpu ∷ number p.subtype ∷ [])
 
 unfoldable pub image_message : Image → List Field
 image_message i =
@@ -95,7 +101,8 @@ signal_message s = message kinds.Signal (text s.name ∷ text s.code ∷ number 
 unfoldable pub process_message : Process → List Field
 process_message p =
     message kinds.Process
-    (maybe text p.name ∷ number p.id ∷ maybe text p.path ∷ maybe text p.parent_name ∷ number p.parent_id
+    (maybe text p.name ∷ number p.id ∷ maybe text p.path ∷ maybe text p.parent_name
+    ∷ number p.parent_id
     ∷ flag p.native ∷ [])
 
 unfoldable pub info_message : Info → List Field
@@ -105,5 +112,7 @@ unfoldable pub report_message : Report → List Field
 report_message r =
     message kinds.Root
     (inner (system_message r.system_info) ∷ inner (application_message r.application_info)
-    ∷ each thread_message r.threads ∷ each image_message r.binary_images ∷ inner (signal_message r.signal)
-    ∷ maybe (λ p. inner (process_message p)) r.process_info ∷ maybe (λ i. inner (info_message i)) r.report_info ∷ [])
+    ∷ each thread_message r.threads ∷ each image_message r.binary_images
+    ∷ inner (signal_message r.signal)
+    ∷ maybe (λ p. inner (process_message p)) r.process_info ∷ maybe (λ i. inner (info_message i))
+    r.report_info ∷ [])

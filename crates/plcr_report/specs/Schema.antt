@@ -5,7 +5,8 @@ use Rattle.plcr_report.specs.declared.kinds.Kind.TheVariants.{Root, System, Appl
 use Rattle.plcr_report.specs.declared.kinds.Holds.{Holds}
 use Rattle.plcr_report.specs.declared.kinds.Holds.TheVariants.{Number, Text, Message}
 
--- how often a field stands in its message: once, at most once, or any number of times (the labels of proto2)
+-- how often a field stands in its message: once, at most once, or any number of times (the labels
+-- of proto2)
 pub data Label : Type 0 where
   Required : Label
   Optional : Label
@@ -34,11 +35,13 @@ rows Root =
     ∷ repeated 4 (Message Image) ∷ required 6 (Message Signal) ∷ optional 7 (Message Process)
     ∷ optional 9 (Message Info) ∷ []
 -- operating_system, os_version, architecture, timestamp, os_build
-rows System = required 1 Number ∷ required 2 Text ∷ required 3 Number ∷ required 4 Number ∷ optional 5 Text ∷ []
+rows System = required 1 Number ∷ required 2 Text ∷ required 3 Number ∷ required 4 Number
+    ∷ optional 5 Text ∷ []
 -- identifier, version
 rows Application = required 1 Text ∷ required 2 Text ∷ []
 -- thread_number, frames, crashed, registers
-rows Thread = required 1 Number ∷ repeated 2 (Message Frame) ∷ required 3 Number ∷ repeated 4 (Message Register) ∷ []
+rows Thread = required 1 Number ∷ repeated 2 (Message Frame) ∷ required 3 Number
+    ∷ repeated 4 (Message Register) ∷ []
 -- pc, symbol
 rows Frame = required 3 Number ∷ optional 6 (Message Symbol) ∷ []
 -- name, start_address, end_address
@@ -46,7 +49,8 @@ rows Symbol = required 1 Text ∷ required 2 Number ∷ optional 3 Number ∷ []
 -- name, value
 rows Register = required 1 Text ∷ required 2 Number ∷ []
 -- base_address, size, name, uuid, code_type
-rows Image = required 1 Number ∷ required 2 Number ∷ required 3 Text ∷ optional 4 Text ∷ optional 5 (Message Processor) ∷ []
+rows Image = required 1 Number ∷ required 2 Number ∷ required 3 Text ∷ optional 4 Text
+    ∷ optional 5 (Message Processor) ∷ []
 -- encoding, type, subtype
 rows Processor = required 1 Number ∷ required 2 Number ∷ required 3 Number ∷ []
 -- name, code, address

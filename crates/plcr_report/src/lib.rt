@@ -4,14 +4,14 @@
 
 mod head;
 mod kinds;
+mod laws;
 mod messages;
-mod numbers;
 
-pub use head::{MAGIC, VERSION, file_head};
+pub use head::{MAGIC, VERSION};
 pub use kinds::{Holds, Kind};
+pub use laws::constants_stand;
 pub use messages::{
     Application, Frame, Image, Info, Process, Processor, Register, Report, Signal, Symbol, System,
     Thread,
 };
-pub use numbers::field_numbers;
 pub use plcr_base::{Bytes, Rows};

@@ -11,7 +11,8 @@ use Rattle.plcr_command.specs.Endings.{HasKept, CannotWrite, CannotPrint}
 
 -- the turns of the first statements of a script
 abbrev pub run_behind : Meanings → ScriptValue → List NumberedStatement → List NumberedTurn
-run_behind process script statements = turns_from process script.nodes script.passes first_state statements
+run_behind process script statements =
+    turns_from process script.nodes script.passes first_state statements
 
 -- the line of the log for a turn
 abbrev pub line_of : NumberedTurn → List ℕ
@@ -22,15 +23,18 @@ abbrev pub IsDone : List NumberedTurn → Seen → Seen → Type 0
 IsDone run old new = HasKept (kept_by run) (log_of run) old new
 
 -- the turns before this one were done, and its file wasn't kept
-pub record CannotKeep (before : List NumberedTurn) (at : NumberedTurn) (old new : Seen) : Type 0 where
-  pub name : List ℕ
-  pub bytes : List ℕ
-  pub file : at.turn.kept ≡ (name, bytes) ∷ []
-  pub stop : CannotWrite (kept_by before) (log_of before) name bytes old new
+pub record CannotKeep (before : List NumberedTurn) (at : NumberedTurn) (old new : Seen) : Type 0
+  where
+    pub name : List ℕ
+    pub bytes : List ℕ
+    pub file : at.turn.kept ≡ (name, bytes) ∷ []
+    pub stop : CannotWrite (kept_by before) (log_of before) name bytes old new
 
--- the turns before this one were done and its file, if it has one, was kept, and the sink of the lines didn't take its line whole
+-- the turns before this one were done and its file, if it has one, was kept, and the sink of the
+-- lines didn't take its line whole
 abbrev pub CannotLog : List NumberedTurn → NumberedTurn → Seen → Seen → Type 0
-CannotLog before at old new = CannotPrint (kept_by (before ++ at ∷ [])) (log_of before) (line_of at) old new
+CannotLog before at old new =
+    CannotPrint (kept_by (before ++ at ∷ [])) (log_of before) (line_of at) old new
 
 -- the run stopped at one of its turns
 pub record IsStopped (run : List NumberedTurn) (old new : Seen) : Type 0 where

@@ -23,7 +23,10 @@ pub(crate) fn load<P: Process>(
     name: &[u8],
 ) -> (Writing, Outcome<'static>)
     requires list { (writer_of writing).table ≡ list.now }
-    ensures turns { (report : List Listed → List ℕ) → WriterTurns list.now writing (λ nodes passes. load_turn (meanings (P.image_fault process.now) report) nodes passes made_whole header name.now) result.0 result.1 }
+    ensures turns { (report : List Listed → List ℕ) →
+        WriterTurns list.now writing (λ nodes passes.
+        load_turn (meanings (P.image_fault process.now) report) nodes passes made_whole header
+        name.now) result.0 result.1 }
     ensures list { (writer_of result.0).table ≡ list.now }
 {
     match writing {
@@ -42,7 +45,8 @@ pub(crate) fn load<P: Process>(
 #[inline(always)]
 pub(crate) fn unload(list: &ImageList, writing: Writing, header: u64) -> (Writing, Outcome<'static>)
     requires list { (writer_of writing).table ≡ list.now }
-    ensures turns { WriterTurns list.now writing (λ nodes passes. unload_turn made_whole header) result.0 result.1 }
+    ensures turns { WriterTurns list.now writing (λ nodes passes. unload_turn made_whole header)
+        result.0 result.1 }
     ensures list { (writer_of result.0).table ≡ list.now }
 {
     match writing {
@@ -64,7 +68,10 @@ pub(crate) fn begin_load<P: Process>(
     name: &[u8],
 ) -> (Writing, Outcome<'static>)
     requires list { (writer_of writing).table ≡ list.now }
-    ensures turns { (report : List Listed → List ℕ) → WriterTurns list.now writing (λ nodes passes. load_turn (meanings (P.image_fault process.now) report) nodes passes left_open header name.now) result.0 result.1 }
+    ensures turns { (report : List Listed → List ℕ) →
+        WriterTurns list.now writing (λ nodes passes.
+        load_turn (meanings (P.image_fault process.now) report) nodes passes left_open header
+        name.now) result.0 result.1 }
     ensures list { (writer_of result.0).table ≡ list.now }
 {
     match writing {
@@ -87,7 +94,8 @@ pub(crate) fn begin_unload(
     header: u64,
 ) -> (Writing, Outcome<'static>)
     requires list { (writer_of writing).table ≡ list.now }
-    ensures turns { WriterTurns list.now writing (λ nodes passes. unload_turn left_open header) result.0 result.1 }
+    ensures turns { WriterTurns list.now writing (λ nodes passes. unload_turn left_open header)
+        result.0 result.1 }
     ensures list { (writer_of result.0).table ≡ list.now }
 {
     match writing {
@@ -103,7 +111,8 @@ pub(crate) fn begin_unload(
 #[inline(always)]
 pub(crate) fn step(list: &ImageList, writing: Writing, most: u32) -> (Writing, Outcome<'static>)
     requires list { (writer_of writing).table ≡ list.now }
-    ensures turns { WriterTurns list.now writing (λ nodes passes. where_open (step_turn most)) result.0 result.1 }
+    ensures turns { WriterTurns list.now writing (λ nodes passes. where_open (step_turn most))
+        result.0 result.1 }
     ensures list { (writer_of result.0).table ≡ list.now }
 {
     match writing {
@@ -126,7 +135,8 @@ pub(crate) fn step(list: &ImageList, writing: Writing, most: u32) -> (Writing, O
 #[inline(always)]
 pub(crate) fn end(list: &ImageList, writing: Writing) -> (Writing, Outcome<'static>)
     requires list { (writer_of writing).table ≡ list.now }
-    ensures turns { WriterTurns list.now writing (λ nodes passes. where_open stepped_through) result.0 result.1 }
+    ensures turns { WriterTurns list.now writing (λ nodes passes. where_open stepped_through)
+        result.0 result.1 }
     ensures list { (writer_of result.0).table ≡ list.now }
 {
     match writing {

@@ -1,5 +1,5 @@
-//! How the tokens of a script end: passes that are in come out, an open change is made to its end, and all passes meet
-//! the writer.
+//! How the tokens of a script end: passes that are in come out, an open change is made to its end,
+//! and all passes meet the writer.
 ghost use Rattle.std.specs.Prelude.{◌≡◌, ◌<◌, List, length};
 ghost use Rattle.plcr_imagelist.specs.States.{IsAtRest};
 ghost use Rattle.plcr_run.specs.declared.slots.Slot.{Slot};
@@ -16,7 +16,8 @@ use plcr_imagelist::{ImageList, Writer};
 fn leave_all(list: &ImageList, writing: &mut Writing, slots: &mut [Slot])
     requires tokens { AreTokens list.now writing.old slots.old }
     ensures tokens { AreTokens list.now writing.new slots.new }
-    ensures goes { Goes writing.old slots.old (left_below (length slots.old)) writing.new slots.new }
+    ensures goes { Goes writing.old slots.old (left_below (length slots.old)) writing.new
+        slots.new }
     ensures out { AreOut (length slots.new) slots.new }
     ensures count { length slots.new ≡ length slots.old }
 {
@@ -30,7 +31,9 @@ fn leave_all(list: &ImageList, writing: &mut Writing, slots: &mut [Slot])
 /// The change that is open, if there is one, is made to its end.
 fn finish_open(list: &ImageList, writing: Writing) -> Writer
     requires list { (writer_of writing).table ≡ list.now }
-    ensures finished { (slots : List Slot) → AreTokens list.now writing slots → AreTokens list.now (Writing.Resting result) slots × Goes writing slots finished_state (Writing.Resting result) slots }
+    ensures finished { (slots : List Slot) → AreTokens list.now writing slots →
+        AreTokens list.now (Writing.Resting result) slots
+        × Goes writing slots finished_state (Writing.Resting result) slots }
     ensures list { result.table ≡ list.now }
 {
     match writing {

@@ -1,5 +1,6 @@
-//! The run of a script over a process on an image list: what its tokens do statement by statement, each between two
-//! tellings, so that the history which the writer has seen at the end is the one that the script means.
+//! The run of a script over a process on an image list: what its tokens do statement by statement,
+//! each between two tellings, so that the history which the writer has seen at the end is the one
+//! that the script means.
 #![tactic(auto)]
 
 mod changing;

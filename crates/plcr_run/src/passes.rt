@@ -1,5 +1,5 @@
-//! The statements of a pass, each between two tellings: first the pass is told what the writer has seen, and in the end
-//! the writer what the pass has seen.
+//! The statements of a pass, each between two tellings: first the pass is told what the writer has
+//! seen, and in the end the writer what the pass has seen.
 ghost use Rattle.std.specs.Prelude.{◌≡◌, ◌≢◌, ◌<◌, ℕ, length};
 ghost use Rattle.plcr_script.specs.RunStates.{entered, left};
 ghost use Rattle.plcr_script.specs.RunTurns.{walk_turn};
@@ -69,7 +69,8 @@ pub(crate) fn leave(
     requires inside { IsInAt slots.old pass }
     ensures tokens { AreTokens list.now writing.new slots.new }
     ensures goes { Goes writing.old slots.old (left pass) writing.new slots.new }
-    ensures told { LeavesWith writing.old slots.old pass writing.new slots.new result.0 result.1.low result.1.high }
+    ensures told { LeavesWith writing.old slots.old pass writing.new slots.new result.0 result.1.low
+        result.1.high }
     ensures outside { IsOutAt slots.new pass }
     ensures others { (k : ℕ) → k ≢ pass → slot_at slots.new k ≡ slot_at slots.old k }
     ensures count { length slots.new ≡ length slots.old }

@@ -21,8 +21,8 @@ use plcr_imagelist::{Hold, ImageList};
 use plcr_io::Desk;
 use plcr_script::Process;
 
-/// Makes a file, writes the report of the process with the images that the hold has met into it and keeps it, and gives
-/// its length.
+/// Makes a file, writes the report of the process with the images that the hold has met into it and
+/// keeps it, and gives its length.
 ///
 /// # Errors
 ///
@@ -37,9 +37,14 @@ pub fn save_walk<P: Process, D: Desk>(
 ) -> Result<u64, Unsaved>
     requires list { hold.old.walker.table ≡ list.now }
     requires context { P.accepts process.now context.now }
-    ensures length { IfOk result (λ n. n ≡ length (P.report process.now context.now (images_of hold.old))) }
-    ensures saved { OnOk result (IsSaved name.now (P.report process.now context.now (images_of hold.old)) (D.told desk.old) (D.told desk.new)) }
-    ensures unsaved { OnErr result (IsUnsaved name.now (P.report process.now context.now (images_of hold.old)) (D.told desk.old) (D.told desk.new)) }
+    ensures length { IfOk result
+        (λ n. n ≡ length (P.report process.now context.now (images_of hold.old))) }
+    ensures saved { OnOk result
+        (IsSaved name.now (P.report process.now context.now (images_of hold.old)) (D.told desk.old)
+        (D.told desk.new)) }
+    ensures unsaved { OnErr result
+        (IsUnsaved name.now (P.report process.now context.now (images_of hold.old))
+        (D.told desk.old) (D.told desk.new)) }
     ensures nothing { TookNothing (D.told desk.old) (D.told desk.new) }
     ensures same { IsSameWalk hold.old hold.new }
     ensures list { hold.new.walker.table ≡ list.now }
@@ -63,7 +68,8 @@ pub(crate) fn enter_if_out(list: &ImageList, writing: &mut Writing, slots: &mut 
     }
 }
 
-/// The pass, which is in, walks to its end, and the report of what it has met is kept as a file. Gives its length.
+/// The pass, which is in, walks to its end, and the report of what it has met is kept as a file.
+/// Gives its length.
 pub(crate) fn save<P: Process, D: Desk>(
     process: &P,
     context: &Context,
@@ -79,13 +85,20 @@ pub(crate) fn save<P: Process, D: Desk>(
     requires inside { IsInAt slots.old pass }
     requires context { P.accepts process.now context.now }
     ensures tokens { AreTokens list.now writing.new slots.new }
-    ensures goes { Goes writing.old slots.old (λ state. walked pass (walk_to_end (changes_in state.events) (state.places pass)) state) writing.new slots.new }
+    ensures goes { Goes writing.old slots.old
+        (λ state. walked pass (walk_to_end (changes_in state.events) (state.places pass)) state)
+        writing.new slots.new }
     ensures inside { IsInAt slots.new pass }
     ensures others { (k : ℕ) → k ≢ pass → slot_at slots.new k ≡ slot_at slots.old k }
     ensures count { length slots.new ≡ length slots.old }
-    ensures length { IfOk result (λ n. n ≡ length (P.report process.now context.now (images_at slots.new pass))) }
-    ensures saved { OnOk result (IsSaved name.now (P.report process.now context.now (images_at slots.new pass)) (D.told desk.old) (D.told desk.new)) }
-    ensures unsaved { OnErr result (IsUnsaved name.now (P.report process.now context.now (images_at slots.new pass)) (D.told desk.old) (D.told desk.new)) }
+    ensures length { IfOk result
+        (λ n. n ≡ length (P.report process.now context.now (images_at slots.new pass))) }
+    ensures saved { OnOk result
+        (IsSaved name.now (P.report process.now context.now (images_at slots.new pass))
+        (D.told desk.old) (D.told desk.new)) }
+    ensures unsaved { OnErr result
+        (IsUnsaved name.now (P.report process.now context.now (images_at slots.new pass))
+        (D.told desk.old) (D.told desk.new)) }
     ensures nothing { TookNothing (D.told desk.old) (D.told desk.new) }
 {
     let mut hold = take_hold(slots, pass as usize);

@@ -31,11 +31,15 @@ pub(crate) fn run<P: Process, D: Desk, L: Sink>(
     requires tokens { AreTokens list.now writing slots.old }
     requires fresh { IsFresh script.now writing slots.old }
     ensures tokens { AreTokens list.now result.0 slots.new }
-    ensures done { OnOk result.1 (RunDone (meanings (P.image_fault process.now) (P.report process.now context.now)) script.now
+    ensures done { OnOk result.1
+        (RunDone (meanings (P.image_fault process.now) (P.report process.now context.now))
+        script.now
         (seen (D.told desk.old) (L.written lines.old) (L.faults lines.old))
         result.0 slots.new
         (seen (D.told desk.new) (L.written lines.new) (L.faults lines.new))) }
-    ensures stopped { OnErr result.1 (RunStopped (meanings (P.image_fault process.now) (P.report process.now context.now)) script.now
+    ensures stopped { OnErr result.1
+        (RunStopped (meanings (P.image_fault process.now) (P.report process.now context.now))
+        script.now
         (seen (D.told desk.old) (L.written lines.old) (L.faults lines.old))
         result.0 slots.new
         (seen (D.told desk.new) (L.written lines.new) (L.faults lines.new))) }

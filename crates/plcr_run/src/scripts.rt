@@ -27,10 +27,11 @@ struct Opened {
     slots: Vec<Slot>,
 }
 
-/// Runs a script over a process, on an image list that is opened with the script's sizes: keeps each report that it asks
-/// for, and prints the log. Gives 0 where all was done, 5 where a file wasn't kept or a line not printed whole, and 7 for
-/// want of memory. At 0 and 5 it leaves the writer of the list in `past`, after each pass has met it. All memory is taken
-/// before the first output is made and the first line printed.
+/// Runs a script over a process, on an image list that is opened with the script's sizes: keeps
+/// each report that it asks for, and prints the log. Gives 0 where all was done, 5 where a file
+/// wasn't kept or a line not printed whole, and 7 for want of memory. At 0 and 5 it leaves the
+/// writer of the list in `past`, after each pass has met it. All memory is taken before the first
+/// output is made and the first line printed.
 pub fn run_script<P: Process, D: Desk, L: Sink>(
     alloc: Global,
     process: &P,
@@ -42,7 +43,8 @@ pub fn run_script<P: Process, D: Desk, L: Sink>(
 ) -> u8
     requires context { P.accepts process.now context.now }
     requires empty { past.old ≡ None }
-    ensures ran { RunIs (meanings (P.image_fault process.now) (P.report process.now context.now)) script.now
+    ensures ran { RunIs (meanings (P.image_fault process.now) (P.report process.now context.now))
+        script.now
         (seen (D.told desk.old) (L.written lines.old) (L.faults lines.old))
         (seen (D.told desk.new) (L.written lines.new) (L.faults lines.new)) past.new result }
     ensures goes_on { GoesOn
@@ -65,7 +67,8 @@ pub fn play<P: Process, D: Desk, L: Sink>(
 ) -> Ending<'static>
     requires context { P.accepts process.now context.now }
     requires empty { past.old ≡ None }
-    ensures played { PlayIs (meanings (P.image_fault process.now) (P.report process.now context.now)) script.now
+    ensures played { PlayIs
+        (meanings (P.image_fault process.now) (P.report process.now context.now)) script.now
         (seen (D.told desk.old) (L.written lines.old) (L.faults lines.old))
         (seen (D.told desk.new) (L.written lines.new) (L.faults lines.new)) past.new result }
     ensures goes_on { GoesOn
@@ -126,7 +129,8 @@ fn play_on<P: Process, D: Desk, L: Sink>(
     requires context { P.accepts process.now context.now }
     requires lawful { IsLawful script.now }
     requires opened { IsOpened script.now.nodes script.now.passes opened }
-    ensures played { PlayIs (meanings (P.image_fault process.now) (P.report process.now context.now)) script.now
+    ensures played { PlayIs
+        (meanings (P.image_fault process.now) (P.report process.now context.now)) script.now
         (seen (D.told desk.old) (L.written lines.old) (L.faults lines.old))
         (seen (D.told desk.new) (L.written lines.new) (L.faults lines.new)) past.new result }
     ensures goes_on { GoesOn

@@ -1,4 +1,5 @@
-//! One step of a run: what a statement comes to, its file if it writes one, and its line of the log.
+//! One step of a run: what a statement comes to, its file if it writes one, and its line of the
+//! log.
 ghost use Rattle.std.specs.Prelude.{◌≡◌, ◌≢◌, ◌≤◌, ◌<◌, [], List, Option, ℕ, None, IsTrue, OnOk, length};
 ghost use Rattle.plcr_io.specs.Desk.{Told};
 ghost use Rattle.plcr_macho.specs.Images.{Listed};
@@ -52,7 +53,8 @@ pub(crate) fn take_step<P: Process, D: Desk, L: Sink>(
     requires tokens { AreTokens list.now writing slots.old }
     requires stands { MayStand slots.old statement.now }
     ensures tokens { AreTokens list.now result.0 slots.new }
-    ensures steps { Steps (meanings (P.image_fault process.now) (P.report process.now context.now)) number statement.now
+    ensures steps { Steps (meanings (P.image_fault process.now) (P.report process.now context.now))
+        number statement.now
         writing slots.old
         (seen (D.told desk.old) (L.written lines.old) (L.faults lines.old))
         result.0 slots.new
@@ -103,7 +105,10 @@ fn change_list<P: Process>(
 ) -> (Writing, Outcome<'static>)
     requires list { (writer_of writing).table ≡ list.now }
     requires change { IsChange statement.now }
-    ensures turns { (report : List Listed → List ℕ) → WriterTurns list.now writing (λ nodes passes state. turn_of (meanings (P.image_fault process.now) report) nodes passes state statement.now) result.0 result.1 }
+    ensures turns { (report : List Listed → List ℕ) →
+        WriterTurns list.now writing (λ nodes passes state.
+        turn_of (meanings (P.image_fault process.now) report) nodes passes state statement.now)
+        result.0 result.1 }
     ensures list { (writer_of result.0).table ≡ list.now }
 {
     match statement {
@@ -130,7 +135,10 @@ fn move_pass(
     requires stands { MayStand slots.old statement.now }
     requires moves { IsMove statement.now }
     ensures tokens { AreTokens list.now writing.new slots.new }
-    ensures turns { (fault : ℕ → Option ℕ) (report : List Listed → List ℕ) → Turns writing.old slots.old (λ state. turn_of (meanings fault report) (writer_of writing.old).nodes (writer_of writing.old).passes state statement.now) writing.new slots.new result }
+    ensures turns { (fault : ℕ → Option ℕ) (report : List Listed → List ℕ) →
+        Turns writing.old slots.old
+        (λ state. turn_of (meanings fault report) (writer_of writing.old).nodes
+        (writer_of writing.old).passes state statement.now) writing.new slots.new result }
     ensures moves { MovesOnly statement.now slots.old slots.new }
     ensures count { length slots.new ≡ length slots.old }
 {
@@ -167,7 +175,8 @@ fn tell<L: Sink>(number: u32, outcome: &Outcome, lines: &mut L) -> Result<(), St
     }
 }
 
-/// Keeps the report of a pass as a file, and prints the line of its statement. Where the file isn't kept, the pass stays in.
+/// Keeps the report of a pass as a file, and prints the line of its statement. Where the file isn't
+/// kept, the pass stays in.
 fn report<P: Process, D: Desk, L: Sink>(
     process: &P,
     context: &Context,
@@ -185,7 +194,9 @@ fn report<P: Process, D: Desk, L: Sink>(
     requires tokens { AreTokens list.now writing.old slots.old }
     requires place { pass < length slots.old }
     ensures tokens { AreTokens list.now writing.new slots.new }
-    ensures ends { ReportEnds (meanings (P.image_fault process.now) (P.report process.now context.now)) number pass file.now
+    ensures ends { ReportEnds
+        (meanings (P.image_fault process.now) (P.report process.now context.now)) number pass
+        file.now
         writing.old slots.old
         (seen (D.told desk.old) (L.written lines.old) (L.faults lines.old))
         writing.new slots.new

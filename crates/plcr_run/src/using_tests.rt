@@ -1,4 +1,5 @@
-//! The program of docs/using.md, letter for letter, and a run of it. docs/shown.py compares the two.
+//! The program of docs/using.md, letter for letter, and a run of it. docs/shown.py compares the
+//! two.
 ghost use Rattle.std.specs.Prelude.{◌≡◌};
 ghost use Rattle.plcr_regs.specs.States.{IsWhole};
 ghost use Rattle.plcr_encode.specs.Conditions.{AreWhole, IsWritable};

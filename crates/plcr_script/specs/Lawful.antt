@@ -15,14 +15,16 @@ use Rattle.plcr_script.specs.Contexts.{context_of}
 abbrev pub AreSizes : ℕ → ℕ → Type 0
 AreSizes nodes passes = (1 ≤ nodes) × (nodes ≤ MOST_NODES) × (1 ≤ passes) × (passes ≤ MOST_PASSES)
 
--- a header of an image that is loaded has 64 bits and its name fewer than 2^32 bytes, and a file has a lawful name
+-- a header of an image that is loaded has 64 bits and its name fewer than 2^32 bytes, and a file
+-- has a lawful name
 abbrev pub IsFitStatement : Statement → Type 0
 IsFitStatement (Load header name) = (header < 2 ^ 64) × (length name < 2 ^ 32)
 IsFitStatement (BeginLoad header name) = (header < 2 ^ 64) × (length name < 2 ^ 32)
 IsFitStatement (Report pass file) = IsTrue (is_file_name file)
 IsFitStatement other = Unit {0}
 
--- a script within its limits, whose statements stand in their places and whose descriptive values can be written in reports
+-- a script within its limits, whose statements stand in their places and whose descriptive values
+-- can be written in reports
 pub record IsLawful (script : ScriptValue) : Type 0 where
   pub sizes : AreSizes script.nodes script.passes
   pub places : AreInPlace script.passes script.statements

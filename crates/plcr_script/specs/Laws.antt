@@ -22,7 +22,9 @@ pub record NumberedSaying : Type 0 where
 
 -- what a numbered line says by itself, if anything
 abbrev pub said_by : ℕ → ℕ × List ℕ → Option NumberedSaying
-said_by passes line = if says_nothing line.1 then None else option_map (λ s. record { line = line.0; saying = s }) (result_ok (saying_in passes line.1))
+said_by passes line = if says_nothing line.1 then None
+    else option_map (λ s. record { line = line.0; saying = s })
+    (result_ok (saying_in passes line.1))
 
 -- what the lines from a number on say, each by itself, where statements may name this many passes
 abbrev pub sayings_from : ℕ → ℕ → List (List ℕ) → List NumberedSaying
@@ -49,7 +51,8 @@ is_sizes (Number key number) = false
 is_sizes (Words key text) = false
 is_sizes (States statement) = false
 
--- the sizes where this is said first: those that it names, or else the sizes of a script that names none
+-- the sizes where this is said first: those that it names, or else the sizes of a script that names
+-- none
 abbrev pub sizes_by : Saying → ℕ × ℕ
 sizes_by (Sizes nodes passes) = (nodes, passes)
 sizes_by (Number key number) = (DEFAULT_NODES, DEFAULT_PASSES)
@@ -60,8 +63,11 @@ abbrev pub sizes_in : List NumberedSaying → ℕ × ℕ
 sizes_in [] = (DEFAULT_NODES, DEFAULT_PASSES)
 sizes_in (first ∷ others) = sizes_by first.saying
 
--- a script is what its lines say, each read by itself: its statements in order, the sizes that the first saying names and no other does, and the values one after the other, so that the last of a key counts. No two statements write one file, and none writes that of a script before
-pub record IsSaidBy (before : List ScriptValue) (sayings : List NumberedSaying) (script : ScriptValue) : Type 0 where
+-- a script is what its lines say, each read by itself: its statements in order, the sizes that the
+-- first saying names and no other does, and the values one after the other, so that the last of a
+-- key counts. No two statements write one file, and none writes that of a script before
+pub record IsSaidBy (before : List ScriptValue) (sayings : List NumberedSaying)
+    (script : ScriptValue) : Type 0 where
   pub statements : script.statements ≡ filter_map (λ s. statement_by s.line s.saying) sayings
   pub nodes : script.nodes ≡ (sizes_in sayings).0
   pub passes : script.passes ≡ (sizes_in sayings).1
@@ -70,8 +76,10 @@ pub record IsSaidBy (before : List ScriptValue) (sayings : List NumberedSaying) 
   pub apart : AllPairs (λ f g. f ≢ g) (files_of script.statements)
   pub fresh : All (λ f. All (λ g. f ≢ g) (written_by before)) (files_of script.statements)
 
--- a line is the first that is refused: those before it make a script, after which this line is refused
-pub record IsFirstRefused (mode : Mode) (before : List ScriptValue) (texts : List (List ℕ)) (refusal : Refusal) : Type 0 where
+-- a line is the first that is refused: those before it make a script, after which this line is
+-- refused
+pub record IsFirstRefused (mode : Mode) (before : List ScriptValue) (texts : List (List ℕ))
+    (refusal : Refusal) : Type 0 where
   pub place : ℕ
   pub draft : DraftValue
   pub text : List ℕ

@@ -37,7 +37,8 @@ outcome_text (Stepped made) = codes " step" ++ numbers (made ∷ [])
 outcome_text (Entered pass) = codes " enter" ++ numbers (pass ∷ [])
 outcome_text (Walked pass met ended) = codes " walk" ++ numbers (pass ∷ met ∷ []) ++ walk_end ended
 outcome_text (Left pass met low high) = codes " leave" ++ numbers (pass ∷ met ∷ low ∷ high ∷ [])
-outcome_text (Reported file bytes images low high) = report_text file.now (bytes ∷ images ∷ low ∷ high ∷ [])
+outcome_text (Reported file bytes images low high) =
+    report_text file.now (bytes ∷ images ∷ low ∷ high ∷ [])
 
 -- the line of an outcome, with its newline
 unfoldable pub log_line : Option ℕ → ℕ → Outcome → List ℕ

@@ -23,7 +23,8 @@ in_behind pass was other = was
 unfoldable pub is_in_behind : ℕ → List NumberedStatement → Bool
 is_in_behind pass statements = fold (λ was s. in_behind pass was s.statement) false statements
 
--- whether a statement finds its pass where it may not be, behind others: one that goes in is in, or one that walks or comes out is out
+-- whether a statement finds its pass where it may not be, behind others: one that goes in is in, or
+-- one that walks or comes out is out
 abbrev pub is_misplaced : List NumberedStatement → Statement → Bool
 is_misplaced earlier (Enter pass) = is_in_behind pass earlier
 is_misplaced earlier (Walk pass most) = not (is_in_behind pass earlier)
@@ -36,4 +37,5 @@ HasPass passes statement = IfSome (pass_of statement) (λ pass. pass < passes)
 
 -- each statement names one of so many passes and finds it where it may be
 abbrev pub AreInPlace : ℕ → List NumberedStatement → Type 0
-AreInPlace passes statements = (i : ℕ) (s : NumberedStatement) → slice_get statements i ≡ Some s → HasPass passes s.statement × IsFalse (is_misplaced (take i statements) s.statement)
+AreInPlace passes statements = (i : ℕ) (s : NumberedStatement) → slice_get statements i ≡ Some s →
+    HasPass passes s.statement × IsFalse (is_misplaced (take i statements) s.statement)

@@ -43,7 +43,8 @@ abbrev pub is_taken : Option (List ℕ) → List (List ℕ) → Bool
 is_taken None names = false
 is_taken (Some file) names = is_named file names
 
--- a script as far as it is read: what it is read for, the scripts before it, and whether a line has said anything
+-- a script as far as it is read: what it is read for, the scripts before it, and whether a line has
+-- said anything
 pub record DraftValue : Type 0 where
   pub mode : Mode
   pub before : List ScriptValue
@@ -51,22 +52,26 @@ pub record DraftValue : Type 0 where
   pub begun : Bool
 
 abbrev pub draft_value : Mode → List ScriptValue → ScriptValue → Bool → DraftValue
-draft_value mode before script begun = record { mode = mode; before = before; script = script; begun = begun }
+draft_value mode before script begun =
+    record { mode = mode; before = before; script = script; begun = begun }
 
 -- the script of no lines, with the default sizes and values
 abbrev pub no_lines : Mode → List ScriptValue → DraftValue
-no_lines mode before = draft_value mode before (script_value [] DEFAULT_NODES DEFAULT_PASSES default_values) false
+no_lines mode before =
+    draft_value mode before (script_value [] DEFAULT_NODES DEFAULT_PASSES default_values) false
 
 -- the files that the scripts before, and the lines so far, write
 abbrev pub files_before : DraftValue → List (List ℕ)
 files_before draft = written_by draft.before ++ files_of draft.script.statements
 
--- how many passes the statements of a script may name: those of its sizes; the script of a worker has one
+-- how many passes the statements of a script may name: those of its sizes; the script of a worker
+-- has one
 abbrev pub passes_of : Mode → ℕ → ℕ
 passes_of Single passes = passes
 passes_of (Worker first) passes = 1
 
--- whether a script is a worker's, and whether it is one behind the first, which has the sizes and values
+-- whether a script is a worker's, and whether it is one behind the first, which has the sizes and
+-- values
 abbrev pub is_worker : Mode → Bool
 is_worker Single = false
 is_worker (Worker first) = true
@@ -83,23 +88,37 @@ is_of_open_change (Step most) = true
 is_of_open_change End = true
 is_of_open_change other = false
 
--- whether this may not be said behind the lines so far: sizes behind anything; a value behind a statement of the run; either in a worker's script that isn't the first; a statement of an open change in a worker's script; one that finds its pass where it may not be; a report into a file that an earlier one writes, in this script or in one before it
+-- whether this may not be said behind the lines so far: sizes behind anything; a value behind a
+-- statement of the run; either in a worker's script that isn't the first; a statement of an open
+-- change in a worker's script; one that finds its pass where it may not be; a report into a file
+-- that an earlier one writes, in this script or in one before it
 abbrev pub is_out_of_place : DraftValue → Saying → Bool
 is_out_of_place draft (Sizes nodes passes) = draft.begun || is_later draft.mode
-is_out_of_place draft (Number key number) = nat_lt 0 (length draft.script.statements) || is_later draft.mode
-is_out_of_place draft (Words key text) = nat_lt 0 (length draft.script.statements) || is_later draft.mode
+is_out_of_place draft (Number key number) = nat_lt 0 (length draft.script.statements)
+    || is_later draft.mode
+is_out_of_place draft (Words key text) = nat_lt 0 (length draft.script.statements)
+    || is_later draft.mode
 is_out_of_place draft (States statement) =
-    (is_worker draft.mode && is_of_open_change statement) || (is_misplaced draft.script.statements statement || is_taken (file_of statement) (files_before draft))
+    (is_worker draft.mode && is_of_open_change statement)
+    || (is_misplaced draft.script.statements statement
+    || is_taken (file_of statement) (files_before draft))
 
 -- the script with what a line says
 abbrev pub with_saying : ScriptValue → ℕ → Saying → ScriptValue
 with_saying script line (Sizes nodes passes) = record script { nodes = nodes; passes = passes }
-with_saying script line (Number key number) = record script { values = with_number key number script.values }
-with_saying script line (Words key text) = record script { values = with_text key text script.values }
-with_saying script line (States statement) = record script { statements = script.statements ++ record { line = line; statement = statement } ∷ [] }
+with_saying script line (Number key number) =
+    record script { values = with_number key number script.values }
+with_saying script line (Words key text) =
+    record script { values = with_text key text script.values }
+with_saying script line (States statement) =
+    record script {
+      statements = script.statements ++ record { line = line; statement = statement }
+          ∷ [];
+    }
 
 abbrev pub with_said : DraftValue → ℕ → Saying → DraftValue
-with_said draft line saying = record draft { script = with_saying draft.script line saying; begun = true }
+with_said draft line saying =
+    record draft { script = with_saying draft.script line saying; begun = true }
 
 -- the draft after a line, or what is wrong with the line
 unfoldable pub with_line : DraftValue → ℕ → List ℕ → Result DraftValue Kind
@@ -111,11 +130,14 @@ with_line draft number line = if says_nothing line then Ok draft else do
 -- the draft after the lines from this number on, or the first of them that is refused
 unfoldable pub with_lines : DraftValue → ℕ → List (List ℕ) → Result DraftValue Refusal
 with_lines draft number [] = Ok draft
-with_lines draft number (line ∷ others) = refused_at number (with_line draft number line) >>= λ next. with_lines next (number + 1) others
+with_lines draft number (line ∷ others) = refused_at number (with_line draft number line)
+    >>= λ next. with_lines next (number + 1) others
 
--- what the bytes of a script mean that is read for a mode, behind the scripts before it: the script, or its first refused line
+-- what the bytes of a script mean that is read for a mode, behind the scripts before it: the
+-- script, or its first refused line
 unfoldable pub script_in : Mode → List ScriptValue → List ℕ → Result ScriptValue Refusal
-script_in mode before bytes = with_lines (no_lines mode before) 1 (lines bytes) >>= λ draft. Ok draft.script
+script_in mode before bytes = with_lines (no_lines mode before) 1 (lines bytes) >>= λ draft.
+    Ok draft.script
 
 -- a fault tells the refusal that reading gives; want of memory tells nothing
 abbrev pub Tells : {A : Type 0} → ScriptFault → Result A Refusal → Type 0

@@ -1,4 +1,5 @@
--- What the changes of an image list that were made so far say of the next one: why it is refused, or what it does. The newest change stands first.
+-- What the changes of an image list that were made so far say of the next one: why it is refused,
+-- or what it does. The newest change stands first.
 use Rattle.std.specs.Prelude.{ℕ, suc, ◌+◌, ◌/◌, Bool, List, [], ◌∷◌, Option, Some, None, Result, Err, ◌==◌, length, nat_le, nat_lt, ok_or, if◌then◌else◌}
 use Rattle.std.specs.Option.{option_map}
 use Rattle.plcr_base.specs.declared.limits.TheConstants.{IMAGE_NAME_BYTES}
@@ -20,7 +21,8 @@ loads_in (Unloads header ∷ past) = loads_in past
 -- the first image of a list with a header
 abbrev pub first_with : ℕ → List Named → Option Named
 first_with header [] = None
-first_with header (image ∷ images) = if image.header == header then Some image else first_with header images
+first_with header (image ∷ images) = if image.header == header then Some image
+    else first_with header images
 
 -- a refusal, where a test holds
 abbrev pub where_so : Bool → Outcome → Option Outcome
@@ -36,7 +38,8 @@ first_refusal (Some refusal ∷ others) = Some refusal
 abbrev pub worn : List Change → Option Outcome
 worn changes = where_so (nat_le MOST_CHANGES (length changes)) (Worn (length changes))
 
--- why a load is refused before a node is looked for, by the fault at its header: there is no image, the list takes no more changes, or the name is too long
+-- why a load is refused before a node is looked for, by the fault at its header: there is no image,
+-- the list takes no more changes, or the name is too long
 abbrev pub load_refusal : Option ℕ → List Change → List ℕ → Option Outcome
 load_refusal fault changes name = first_refusal
     (option_map NotImage fault
@@ -44,13 +47,15 @@ load_refusal fault changes name = first_refusal
     ∷ where_so (nat_lt IMAGE_NAME_BYTES (length name)) (Long (length name))
     ∷ [])
 
--- a change that may be made: what it does to the list, the number of its image's load, and how many steps come before the one that does it
+-- a change that may be made: what it does to the list, the number of its image's load, and how many
+-- steps come before the one that does it
 pub record Plan : Type 0 where
   pub change : Change
   pub load : ℕ
   pub before : ℕ
 
--- a load, whose number is the next. Before it come its header, the length of its name, each eight bytes of the name, and the end link
+-- a load, whose number is the next. Before it come its header, the length of its name, each eight
+-- bytes of the name, and the end link
 abbrev pub load_plan : List Change → ℕ → List ℕ → Plan
 load_plan changes header name = record {
   change = Loads (record { load = suc (loads_in changes); header = header; name = name });
@@ -60,7 +65,8 @@ load_plan changes header name = record {
 
 -- a load, or its refusal; whether a node is free is another question
 abbrev pub planned_load : Option ℕ → List Change → ℕ → List ℕ → Result Plan Outcome
-planned_load fault changes header name = passed (load_plan changes header name) (load_refusal fault changes name)
+planned_load fault changes header name =
+    passed (load_plan changes header name) (load_refusal fault changes name)
 
 -- an unload of the first image with a header. Nothing comes before it
 abbrev pub unload_plan : ℕ → Named → Plan
@@ -68,7 +74,8 @@ unload_plan header image = record { change = Unloads header; load = image.load; 
 
 -- an unload where the list takes changes: no image may have the header
 abbrev pub found_unload : List Change → ℕ → Result Plan Outcome
-found_unload changes header = ok_or (option_map (unload_plan header) (first_with header (list_of changes))) NotLoaded
+found_unload changes header =
+    ok_or (option_map (unload_plan header) (first_with header (list_of changes))) NotLoaded
 
 -- what may be planned, unless there is a refusal
 abbrev pub unless_refusal : Option Outcome → Result Plan Outcome → Result Plan Outcome

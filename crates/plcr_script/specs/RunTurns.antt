@@ -28,7 +28,10 @@ comes_to outcome state = record { outcome = outcome; state = state; kept = [] }
 -- so many steps more of an open change, after which it is open still
 abbrev pub stepped_on : ℕ → Opened → State → Turn
 stepped_on more opened state = comes_to (Stepped (opened.made + more))
-    (record state { events = steps opened more state.events; opened = Some (record opened { made = opened.made + more }) })
+    (record state {
+      events = steps opened more state.events;
+      opened = Some (record opened { made = opened.made + more });
+    })
 
 -- all steps that are left of an open change
 abbrev pub stepped_through : Opened → State → Turn
@@ -37,7 +40,8 @@ stepped_through opened state = comes_to (made_outcome opened.plan)
 
 -- at most so many steps more of an open change
 abbrev pub step_turn : ℕ → Opened → State → Turn
-step_turn most opened state = if nat_le (steps_left opened) most then stepped_through opened state else stepped_on most opened state
+step_turn most opened state = if nat_le (steps_left opened) most then stepped_through opened state
+    else stepped_on most opened state
 
 -- what is done with the change that is open; idle where there is none
 abbrev pub with_opened : (Opened → State → Turn) → Option Opened → State → Turn
@@ -49,7 +53,9 @@ where_open done state = with_opened done state.opened state
 
 -- a change of which no step is made yet stays open, or all its steps are made at once
 abbrev pub left_open : Plan → State → Turn
-left_open plan state = comes_to (Begun (steps_in plan)) (record state { opened = Some (record { plan = plan; made = 0 }) })
+left_open plan state =
+    comes_to (Begun (steps_in plan))
+    (record state { opened = Some (record { plan = plan; made = 0 }) })
 
 abbrev pub made_whole : Plan → State → Turn
 made_whole plan state = stepped_through (record { plan = plan; made = 0 }) state
@@ -67,25 +73,31 @@ without_opened done (Some opened) state = comes_to Busy state
 abbrev pub unless_busy : (State → Turn) → State → Turn
 unless_busy done state = without_opened done state.opened state
 
--- a list of which no node is free after the looks at its passes: how many images it has, how many nodes are held back, and how many changes were made and how many passes announced
+-- a list of which no node is free after the looks at its passes: how many images it has, how many
+-- nodes are held back, and how many changes were made and how many passes announced
 abbrev pub full : ℕ → ℕ → List Event → Outcome
 full nodes passes events =
     let live = length (list_of (changes_in events)) in
-    Full live (nodes - live) (length (changes_in events) * COUNT_UNIT + announced_count passes (noted_in events))
+    Full live (nodes - live)
+    (length (changes_in events) * COUNT_UNIT + announced_count passes (noted_in events))
 
 -- what is done with a load, where it finds a free node
 abbrev pub with_node : (nodes passes : ℕ) → (Plan → State → Turn) → Plan → State → Turn
 with_node nodes passes done plan state =
     let found = record state { events = searched nodes passes state.events } in
-    if is_full nodes passes found.events then comes_to (full nodes passes found.events) found else done plan found
+    if is_full nodes passes found.events then comes_to (full nodes passes found.events) found
+    else done plan found
 
 -- a load and an unload, by what is done with them
-abbrev pub load_turn : Meanings → (nodes passes : ℕ) → (Plan → State → Turn) → ℕ → List ℕ → State → Turn
+abbrev pub load_turn : Meanings → (nodes passes : ℕ) → (Plan → State → Turn) → ℕ → List ℕ → State →
+    Turn
 load_turn process nodes passes done header name state =
-    unless_busy (unless_refused (with_node nodes passes done) (planned_load (process.fault header) (changes_in state.events) header name)) state
+    unless_busy (unless_refused (with_node nodes passes done)
+    (planned_load (process.fault header) (changes_in state.events) header name)) state
 
 abbrev pub unload_turn : (Plan → State → Turn) → ℕ → State → Turn
-unload_turn done header state = unless_busy (unless_refused done (planned_unload (changes_in state.events) header)) state
+unload_turn done header state =
+    unless_busy (unless_refused done (planned_unload (changes_in state.events) header)) state
 
 -- at most so many images more of the walk of a pass
 abbrev pub walk_turn : ℕ → ℕ → State → Turn
@@ -95,7 +107,9 @@ walk_turn pass most state =
 
 -- the pass comes out
 abbrev pub leave_turn : ℕ → State → Turn
-leave_turn pass state = comes_to (Left pass (length (met_in (state.places pass))) (low_of pass state) (high_of state)) (left pass state)
+leave_turn pass state =
+    comes_to (Left pass (length (met_in (state.places pass))) (low_of pass state) (high_of state))
+    (left pass state)
 
 -- the images without their numbers
 abbrev pub listed : List Named → List Listed
@@ -110,7 +124,8 @@ abbrev pub report_inside : Meanings → ℕ → List ℕ → State → Turn
 report_inside process pass file state =
     let bytes = process.report (listed (reported pass state)) in
     record {
-      outcome = Reported (lent file) (length bytes) (length (reported pass state)) (low_of pass state) (high_of state);
+      outcome = Reported (lent file) (length bytes) (length (reported pass state))
+          (low_of pass state) (high_of state);
       state = left pass state;
       kept = (file, bytes) ∷ [];
     }
@@ -121,13 +136,18 @@ report_turn process pass file state = report_inside process pass file (entered_i
 
 -- what a statement comes to, on a list of this many nodes and passes
 unfoldable pub turn_of : Meanings → (nodes passes : ℕ) → State → Statement → Turn
-turn_of process nodes passes state (statements.Load header name) = load_turn process nodes passes made_whole header name state
+turn_of process nodes passes state (statements.Load header name) =
+    load_turn process nodes passes made_whole header name state
 turn_of process nodes passes state (statements.Unload header) = unload_turn made_whole header state
-turn_of process nodes passes state (statements.BeginLoad header name) = load_turn process nodes passes left_open header name state
-turn_of process nodes passes state (statements.BeginUnload header) = unload_turn left_open header state
+turn_of process nodes passes state (statements.BeginLoad header name) =
+    load_turn process nodes passes left_open header name state
+turn_of process nodes passes state (statements.BeginUnload header) =
+    unload_turn left_open header state
 turn_of process nodes passes state (statements.Step most) = where_open (step_turn most) state
 turn_of process nodes passes state statements.End = where_open stepped_through state
-turn_of process nodes passes state (statements.Enter pass) = comes_to (Entered pass) (entered pass state)
+turn_of process nodes passes state (statements.Enter pass) =
+    comes_to (Entered pass) (entered pass state)
 turn_of process nodes passes state (statements.Walk pass most) = walk_turn pass most state
 turn_of process nodes passes state (statements.Leave pass) = leave_turn pass state
-turn_of process nodes passes state (statements.Report pass file) = report_turn process pass file state
+turn_of process nodes passes state (statements.Report pass file) =
+    report_turn process pass file state

@@ -34,7 +34,8 @@ is_visible b = nat_le 0x21 b && nat_le b 0x7e
 
 -- whether a word names a file: from one byte to the most that a name has, each from 0x21 to 0x7e
 abbrev pub is_file_name : List ℕ → Bool
-is_file_name word = nat_le 1 (length word) && (nat_le (length word) FILE_NAME_BYTES && list_all is_visible word)
+is_file_name word = nat_le 1 (length word)
+    && (nat_le (length word) FILE_NAME_BYTES && list_all is_visible word)
 
 -- the number that a word writes, where it is below a limit
 abbrev pub number_below : ℕ → List ℕ → Result ℕ Kind
@@ -42,7 +43,8 @@ number_below limit word = or_refuse BadNumber (below limit (number_in word))
 
 -- the number that a word writes, where it is from 1 to a greatest one
 abbrev pub number_to : ℕ → List ℕ → Result ℕ Kind
-number_to most word = number_below (most + 1) word >>= λ number. only_if BadNumber (nat_le 1 number) number
+number_to most word = number_below (most + 1) word >>= λ number.
+    only_if BadNumber (nat_le 1 number) number
 
 -- the one word that there is
 abbrev pub one_word : List (List ℕ) → Result (List ℕ) Kind
@@ -67,7 +69,8 @@ table_in arguments = do
 
 -- the number of a key that a word writes
 abbrev pub number_for : NumberKey → List ℕ → Result ℕ Kind
-number_for key word = number_below (limit_of key) word >>= λ number. only_if BadNumber (nat_le (least_of key) number) number
+number_for key word = number_below (limit_of key) word >>= λ number.
+    only_if BadNumber (nat_le (least_of key) number) number
 
 -- the value of a key: one of its numbers, or any text
 abbrev pub value_in : Option NumberKey → Option TextKey → List ℕ → Result Saying Kind
@@ -82,7 +85,8 @@ set_in arguments = do
   value ← or_refuse TooFew (first_word text).rest
   value_in (number_key_in (first_word text).front) (text_key_in (first_word text).front) value
 
--- HEADER and NAME of a load, by what stands behind its word; NAME is the rest of the line, empty where there is none
+-- HEADER and NAME of a load, by what stands behind its word; NAME is the rest of the line, empty
+-- where there is none
 abbrev pub image_in : Option (List ℕ) → Result (ℕ × List ℕ) Kind
 image_in arguments = do
   text ← or_refuse TooFew arguments
@@ -109,7 +113,8 @@ begun_in word arguments =
 
 -- `begin load HEADER NAME` or `begin unload HEADER`, by what stands behind the first word
 unfoldable pub begin_in : Option (List ℕ) → Result Saying Kind
-begin_in arguments = or_refuse TooFew arguments >>= λ text. begun_in (first_word text).front (first_word text).rest
+begin_in arguments = or_refuse TooFew arguments >>= λ text.
+    begun_in (first_word text).front (first_word text).rest
 
 -- `step K`, by the words behind the first
 unfoldable pub step_in : List (List ℕ) → Result Saying Kind
@@ -136,7 +141,8 @@ pass_in passes arguments = do
 
 -- `enter R` and `leave R`, by the words behind the first
 unfoldable pub moving_in : ℕ → (ℕ → Statement) → List (List ℕ) → Result Saying Kind
-moving_in passes statement arguments = pass_in passes arguments >>= λ pass. Ok (States (statement pass))
+moving_in passes statement arguments = pass_in passes arguments >>= λ pass.
+    Ok (States (statement pass))
 
 -- `walk R K`, by these two words, and by the words behind the first
 abbrev pub walk_by : ℕ → (pass most : List ℕ) → Result Saying Kind
@@ -160,7 +166,8 @@ report_by passes pass file = do
 unfoldable pub report_in : ℕ → List (List ℕ) → Result Saying Kind
 report_in passes arguments = two_words arguments >>= λ both. report_by passes both.0 both.1
 
--- what a line of a statement says by its first word and what stands behind it, where statements may name this many passes
+-- what a line of a statement says by its first word and what stands behind it, where statements may
+-- name this many passes
 unfoldable pub statement_in : ℕ → List ℕ → Option (List ℕ) → Result Saying Kind
 statement_in passes word arguments =
     if bytes_eq word (codes "load") then load_in Load arguments else
@@ -174,7 +181,8 @@ statement_in passes word arguments =
     if bytes_eq word (codes "report") then report_in passes (words arguments) else
     Err BadWord
 
--- what a line says by its first word and what stands behind it, with all tests but those of its place in the script
+-- what a line says by its first word and what stands behind it, with all tests but those of its
+-- place in the script
 unfoldable pub saying_of : ℕ → List ℕ → Option (List ℕ) → Result Saying Kind
 saying_of passes word arguments =
     if bytes_eq word (codes "table") then table_in (words arguments) else

@@ -5,7 +5,8 @@ use Rattle.plcr_script.specs.declared.statements.Statement.{Statement}
 use Rattle.plcr_script.specs.declared.statements.NumberedStatement.{NumberedStatement}
 use Rattle.plcr_script.specs.declared.values.DescriptiveValues.{DescriptiveValues}
 
--- the statements with the numbers of their lines, the sizes of the image list, and the descriptive values
+-- the statements with the numbers of their lines, the sizes of the image list, and the descriptive
+-- values
 pub record ScriptValue : Type 0 where
   pub statements : List NumberedStatement
   pub nodes : ℕ
@@ -13,7 +14,8 @@ pub record ScriptValue : Type 0 where
   pub values : DescriptiveValues
 
 abbrev pub script_value : List NumberedStatement → ℕ → ℕ → DescriptiveValues → ScriptValue
-script_value statements nodes passes values = record { statements = statements; nodes = nodes; passes = passes; values = values }
+script_value statements nodes passes values =
+    record { statements = statements; nodes = nodes; passes = passes; values = values }
 
 -- the i-th statement, from 0
 abbrev pub statement_at : ScriptValue → ℕ → Option Statement

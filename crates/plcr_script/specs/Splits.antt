@@ -18,7 +18,8 @@ without_empty_end ([] ∷ []) = []
 without_empty_end ((b ∷ bs) ∷ []) = (b ∷ bs) ∷ []
 without_empty_end (part ∷ next ∷ more) = part ∷ without_empty_end (next ∷ more)
 
--- the lines of a script: a last line without a newline counts, and nothing after the last newline is no line
+-- the lines of a script: a last line without a newline counts, and nothing after the last newline
+-- is no line
 abbrev pub lines : List ℕ → List (List ℕ)
 lines bytes = without_empty_end (parts 10 bytes)
 

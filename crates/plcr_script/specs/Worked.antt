@@ -57,9 +57,11 @@ script_of statements = script_value statements DEFAULT_NODES DEFAULT_PASSES defa
 
 -- the line of a report
 abbrev pub report_line : (line : ℕ) → List ℕ → (bytes images low high : ℕ) → ℕ × Outcome
-report_line line file bytes images low high = (line, outcomes.Reported (lent file) bytes images low high)
+report_line line file bytes images low high =
+    (line, outcomes.Reported (lent file) bytes images low high)
 
--- reports between the steps of a load, which stands in the list from its fourth step on and is counted at its fifth
+-- reports between the steps of a load, which stands in the list from its fourth step on and is
+-- counted at its fifth
 abbrev pub between_steps : ScriptValue
 between_steps = script_of
     (numbered 1 (BeginLoad A0 [])
@@ -180,12 +182,15 @@ never_left = script_value
 
 -- loads where there is no image
 abbrev pub no_images : ScriptValue
-no_images = script_of (numbered 1 (Load 0x5000 (codes "x")) ∷ numbered 2 (Load 0x7000 (codes "x")) ∷ [])
+no_images = script_of (numbered 1 (Load 0x5000 (codes "x")) ∷ numbered 2 (Load 0x7000 (codes "x"))
+    ∷ [])
 
 -- what the lines of two of these scripts say
 pub record WorkedScripts : Type 0 where
-  pub two_of_one_header : script_in Single [] (codes "load 0x100000000 x\nload 0x100000000 y\nunload 0x100000000\nreport 0 a\nunload 0x100000000\nunload 0x100000000\n") ≡ Ok two_of_a_header
-  pub sized : script_in Single [] (codes "table 1 1\nload 0x100000000 A\nload 0x100004000 B\nunload 0x100000000\nload 0x100004000 B\n") ≡ Ok one_node
+  pub two_of_one_header : script_in Single []
+      (codes "load 0x100000000 x\nload 0x100000000 y\nunload 0x100000000\nreport 0 a\nunload 0x100000000\nunload 0x100000000\n") ≡ Ok two_of_a_header
+  pub sized : script_in Single []
+      (codes "table 1 1\nload 0x100000000 A\nload 0x100004000 B\nunload 0x100000000\nload 0x100004000 B\n") ≡ Ok one_node
 
 -- how many bytes the reports of some lists have
 pub record AreLengths (report : List Listed → List ℕ) : Type 0 where
@@ -193,33 +198,53 @@ pub record AreLengths (report : List Listed → List ℕ) : Type 0 where
   pub unnamed : length (report (image A0 [] ∷ [])) ≡ 314
   pub named_y : length (report (image A0 (codes "y") ∷ [])) ≡ 315
   pub named_a : length (report (image A0 (codes "A") ∷ [])) ≡ 315
-  pub five : length (report (image A0 (codes "A") ∷ image A1 (codes "B") ∷ image A3 (codes "D") ∷ image A4 (codes "E") ∷ image A5 (codes "F") ∷ [])) ≡ 491
+  pub five : length (report (image A0 (codes "A") ∷ image A1 (codes "B") ∷ image A3 (codes "D")
+      ∷ image A4 (codes "E") ∷ image A5 (codes "F") ∷ [])) ≡ 491
 
 -- the runs, line by line
 pub record WorkedRuns (report : List Listed → List ℕ) : Type 0 where
   pub between : outcomes_of (run_of (process_with report) between_steps)
-      ≡ (1, outcomes.Begun 5) ∷ (2, outcomes.Stepped 3) ∷ report_line 3 (codes "a") 271 0 0 0 ∷ (4, outcomes.Stepped 4)
-      ∷ report_line 5 (codes "b") 314 1 0 0 ∷ (6, outcomes.Loaded 1) ∷ report_line 7 (codes "c") 314 1 1 1 ∷ []
+      ≡ (1, outcomes.Begun 5) ∷ (2, outcomes.Stepped 3) ∷ report_line 3 (codes "a") 271 0 0 0
+      ∷ (4, outcomes.Stepped 4)
+      ∷ report_line 5 (codes "b") 314 1 0 0 ∷ (6, outcomes.Loaded 1) ∷ report_line 7 (codes "c") 314
+      1 1 1 ∷ []
   pub long : outcomes_of (run_of (process_with report) long_name) ≡ (1, outcomes.Begun 133) ∷ []
-  pub too_long : outcomes_of (run_of (process_with report) too_long_name) ≡ (1, outcomes.Long 1025) ∷ []
+  pub too_long : outcomes_of (run_of (process_with report) too_long_name) ≡ (1, outcomes.Long 1025)
+      ∷ []
   pub two : outcomes_of (run_of (process_with report) two_of_a_header)
-      ≡ (1, outcomes.Loaded 1) ∷ (2, outcomes.Loaded 2) ∷ (3, outcomes.Unloaded 1) ∷ report_line 4 (codes "a") 315 1 3 3 ∷ (5, outcomes.Unloaded 2) ∷ (6, outcomes.NotLoaded) ∷ []
-  pub file : kept_by (run_of (process_with report) two_of_a_header) ≡ (codes "a", report (image A0 (codes "y") ∷ [])) ∷ []
+      ≡ (1, outcomes.Loaded 1) ∷ (2, outcomes.Loaded 2) ∷ (3, outcomes.Unloaded 1)
+      ∷ report_line 4 (codes "a") 315 1 3 3 ∷ (5, outcomes.Unloaded 2) ∷ (6, outcomes.NotLoaded)
+      ∷ []
+  pub file : kept_by (run_of (process_with report) two_of_a_header)
+      ≡ (codes "a", report (image A0 (codes "y") ∷ [])) ∷ []
   pub opened : outcomes_of (run_of (process_with report) left_open_at_end)
-      ≡ (1, outcomes.Begun 6) ∷ (2, outcomes.Stepped 4) ∷ report_line 3 (codes "a") 271 0 0 0 ∷ (4, outcomes.Stepped 5) ∷ report_line 5 (codes "b") 315 1 0 0 ∷ []
+      ≡ (1, outcomes.Begun 6) ∷ (2, outcomes.Stepped 4) ∷ report_line 3 (codes "a") 271 0 0 0
+      ∷ (4, outcomes.Stepped 5) ∷ report_line 5 (codes "b") 315 1 0 0 ∷ []
   -- the open change is made to its end, which counts it
   pub counted : counts (noted_in (end_of (process_with report) left_open_at_end)) ≡ 1
   pub held : outcomes_of (run_of (process_with report) held_back)
-      ≡ (2, outcomes.Loaded 1) ∷ (3, outcomes.Loaded 2) ∷ (4, outcomes.Entered 0) ∷ (5, outcomes.Walked 0 1 false) ∷ (6, outcomes.Unloaded 1) ∷ (7, outcomes.Unloaded 2)
-      ∷ (8, outcomes.Loaded 3) ∷ (9, outcomes.Full 1 2 21474836481) ∷ (10, outcomes.Walked 0 2 true) ∷ (11, outcomes.Left 0 2 2 5) ∷ (12, outcomes.Loaded 4) ∷ []
+      ≡ (2, outcomes.Loaded 1) ∷ (3, outcomes.Loaded 2) ∷ (4, outcomes.Entered 0)
+      ∷ (5, outcomes.Walked 0 1 false) ∷ (6, outcomes.Unloaded 1) ∷ (7, outcomes.Unloaded 2)
+      ∷ (8, outcomes.Loaded 3) ∷ (9, outcomes.Full 1 2 21474836481) ∷ (10, outcomes.Walked 0 2 true)
+      ∷ (11, outcomes.Left 0 2 2 5) ∷ (12, outcomes.Loaded 4) ∷ []
   pub changed : outcomes_of (run_of (process_with report) changed_under_a_walk)
-      ≡ (1, outcomes.Loaded 1) ∷ (2, outcomes.Loaded 2) ∷ (3, outcomes.Loaded 3) ∷ (4, outcomes.Entered 0) ∷ (5, outcomes.Walked 0 2 false) ∷ (6, outcomes.Loaded 4)
-      ∷ (7, outcomes.Loaded 5) ∷ (8, outcomes.Loaded 6) ∷ (9, outcomes.Unloaded 1) ∷ (10, outcomes.Unloaded 3) ∷ report_line 11 (codes "a") 491 5 3 8 ∷ []
-  pub one : outcomes_of (run_of (process_with report) one_node) ≡ (2, outcomes.Loaded 1) ∷ (3, outcomes.Full 1 0 4294967296) ∷ (4, outcomes.Unloaded 1) ∷ (5, outcomes.Loaded 2) ∷ []
-  pub list : listed (list_of (changes_in (end_of (process_with report) one_node))) ≡ image A1 (codes "B") ∷ []
-  pub busy_or_idle : outcomes_of (run_of (process_with report) busy) ≡ (1, outcomes.Begun 6) ∷ (2, outcomes.Busy) ∷ (3, outcomes.Busy) ∷ (4, outcomes.Loaded 1) ∷ (5, outcomes.Idle) ∷ []
+      ≡ (1, outcomes.Loaded 1) ∷ (2, outcomes.Loaded 2) ∷ (3, outcomes.Loaded 3)
+      ∷ (4, outcomes.Entered 0) ∷ (5, outcomes.Walked 0 2 false) ∷ (6, outcomes.Loaded 4)
+      ∷ (7, outcomes.Loaded 5) ∷ (8, outcomes.Loaded 6) ∷ (9, outcomes.Unloaded 1)
+      ∷ (10, outcomes.Unloaded 3) ∷ report_line 11 (codes "a") 491 5 3 8 ∷ []
+  pub one : outcomes_of (run_of (process_with report) one_node) ≡ (2, outcomes.Loaded 1)
+      ∷ (3, outcomes.Full 1 0 4294967296) ∷ (4, outcomes.Unloaded 1) ∷ (5, outcomes.Loaded 2) ∷ []
+  pub list : listed (list_of (changes_in (end_of (process_with report) one_node)))
+      ≡ image A1 (codes "B") ∷ []
+  pub busy_or_idle : outcomes_of (run_of (process_with report) busy) ≡ (1, outcomes.Begun 6)
+      ∷ (2, outcomes.Busy) ∷ (3, outcomes.Busy) ∷ (4, outcomes.Loaded 1) ∷ (5, outcomes.Idle) ∷ []
   pub overlap : outcomes_of (run_of (process_with report) overlapping)
-      ≡ (2, outcomes.Loaded 1) ∷ (3, outcomes.Entered 0) ∷ (4, outcomes.Unloaded 1) ∷ (5, outcomes.Entered 1) ∷ (6, outcomes.Left 0 0 1 2) ∷ (7, outcomes.Loaded 2) ∷ (8, outcomes.Loaded 3) ∷ []
+      ≡ (2, outcomes.Loaded 1) ∷ (3, outcomes.Entered 0) ∷ (4, outcomes.Unloaded 1)
+      ∷ (5, outcomes.Entered 1) ∷ (6, outcomes.Left 0 0 1 2) ∷ (7, outcomes.Loaded 2)
+      ∷ (8, outcomes.Loaded 3) ∷ []
   pub never : outcomes_of (run_of (process_with report) never_left)
-      ≡ (2, outcomes.Loaded 1) ∷ (3, outcomes.Entered 0) ∷ (4, outcomes.Unloaded 1) ∷ (5, outcomes.Loaded 2) ∷ (6, outcomes.Full 1 1 12884901889) ∷ (7, outcomes.Unloaded 2) ∷ (8, outcomes.Full 0 2 17179869185) ∷ []
-  pub refused : outcomes_of (run_of (process_with report) no_images) ≡ (1, outcomes.NotImage 1) ∷ (2, outcomes.NotImage 2) ∷ []
+      ≡ (2, outcomes.Loaded 1) ∷ (3, outcomes.Entered 0) ∷ (4, outcomes.Unloaded 1)
+      ∷ (5, outcomes.Loaded 2) ∷ (6, outcomes.Full 1 1 12884901889) ∷ (7, outcomes.Unloaded 2)
+      ∷ (8, outcomes.Full 0 2 17179869185) ∷ []
+  pub refused : outcomes_of (run_of (process_with report) no_images) ≡ (1, outcomes.NotImage 1)
+      ∷ (2, outcomes.NotImage 2) ∷ []

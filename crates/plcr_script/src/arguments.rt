@@ -12,7 +12,8 @@ use crate::splitting::first_word;
 
 /// The one word that there is.
 pub(crate) fn one_word(arguments: Option<&[u8]>) -> Result<&[u8], Kind>
-    ensures { result_map (λ word. word.now) result ≡ sayings.one_word (words (option_copied arguments.entry)) }
+    ensures { result_map (λ word. word.now) result
+        ≡ sayings.one_word (words (option_copied arguments.entry)) }
 {
     let Some(arguments) = arguments else {
         return Err(Kind::TooFew);
@@ -26,7 +27,8 @@ pub(crate) fn one_word(arguments: Option<&[u8]>) -> Result<&[u8], Kind>
 
 /// The two words that there are.
 pub(crate) fn two_words(arguments: Option<&[u8]>) -> Result<(&[u8], &[u8]), Kind>
-    ensures { result_map (λ both. (both.0.now, both.1.now)) result ≡ sayings.two_words (words (option_copied arguments.entry)) }
+    ensures { result_map (λ both. (both.0.now, both.1.now)) result
+        ≡ sayings.two_words (words (option_copied arguments.entry)) }
 {
     let Some(arguments) = arguments else {
         return Err(Kind::TooFew);
@@ -45,7 +47,8 @@ pub(crate) fn two_words(arguments: Option<&[u8]>) -> Result<(&[u8], &[u8]), Kind
 /// The header and the name of a load; no name is an empty one.
 pub(crate) fn image(arguments: Option<&[u8]>) -> Result<(u64, &[u8]), Kind>
     requires { IfSome arguments (λ text. length text.now < 2 ^ 32) }
-    ensures read { result_map (λ image. (image.0, image.1.now)) result ≡ image_in (option_copied arguments.entry) }
+    ensures read { result_map (λ image. (image.0, image.1.now)) result
+        ≡ image_in (option_copied arguments.entry) }
     ensures short { IfOk result (λ image. length image.1.now < 2 ^ 32) }
 {
     let Some(arguments) = arguments else {

@@ -29,7 +29,8 @@ impl<'a> Model for Draft<'a> {
 
     ghost Value = { DraftValue };
 
-    ghost view = { λ d. draft_value d.mode d.before.now (script_value d.statements.items d.nodes d.passes d.values) d.begun };
+    ghost view = { λ d. draft_value d.mode d.before.now
+        (script_value d.statements.items d.nodes d.passes d.values) d.begun };
 }
 
 impl<'a> Draft<'a> {
@@ -79,7 +80,8 @@ impl<'a> Draft<'a> {
 
     /// Whether descriptive values may be set no more.
     pub(crate) fn is_set(&self) -> bool
-        ensures { result ≡ (nat_lt 0 (length self.now.script.statements) || is_later self.now.mode) }
+        ensures { result ≡ (nat_lt 0 (length self.now.script.statements)
+            || is_later self.now.mode) }
     {
         !self.statements.is_empty() || self.mode.is_later()
     }

@@ -54,7 +54,8 @@ impl<'a> Index<'a> {
     /// Adds a name, and tells whether it is new.
     pub(crate) fn add(&mut self, name: &'a [u8]) -> Result<bool, AllocError>
         ensures fresh { IfOk result (λ fresh. fresh ≡ not (has self.old.names name.now)) }
-        ensures added { OnOk result ((q : List ℕ) → has self.new.names q ≡ (bytes_eq name.now q || has self.old.names q)) }
+        ensures added { OnOk result ((q : List ℕ) →
+            has self.new.names q ≡ (bytes_eq name.now q || has self.old.names q)) }
         ensures inside { self.new.inside ≡ self.old.inside }
     {
         add_name(&mut self.names, name)
@@ -77,7 +78,8 @@ fn add_names<'a>(
     names: &mut BTreeSet<&'a [u8]>,
     statements: &'a [NumberedStatement],
 ) -> Result<(), AllocError>
-    ensures { OnOk result ((files : List (List ℕ)) → IsIndex names.old files → IsIndex names.new (files ++ files_of statements.now)) }
+    ensures { OnOk result ((files : List (List ℕ)) → IsIndex names.old files →
+        IsIndex names.new (files ++ files_of statements.now)) }
 {
     for numbered in statements {
         add_file(names, &numbered.statement)?;
@@ -87,7 +89,8 @@ fn add_names<'a>(
 
 /// Adds the file that a statement writes, if it writes one.
 fn add_file<'a>(names: &mut BTreeSet<&'a [u8]>, statement: &'a Statement) -> Result<(), AllocError>
-    ensures { OnOk result ((files : List (List ℕ)) → IsIndex names.old files → IsIndex names.new (files ++ option_to_list (file_of statement.now))) }
+    ensures { OnOk result ((files : List (List ℕ)) → IsIndex names.old files →
+        IsIndex names.new (files ++ option_to_list (file_of statement.now))) }
 {
     if let Some(file) = statement.file() {
         add_name(names, file)?;
@@ -98,7 +101,8 @@ fn add_file<'a>(names: &mut BTreeSet<&'a [u8]>, statement: &'a Statement) -> Res
 /// Adds a name to a set, and tells whether it is new.
 fn add_name<'a>(names: &mut BTreeSet<&'a [u8]>, name: &'a [u8]) -> Result<bool, AllocError>
     ensures fresh { IfOk result (λ fresh. fresh ≡ not (has names.old name.now)) }
-    ensures added { OnOk result ((q : List ℕ) → has names.new q ≡ (bytes_eq name.now q || has names.old q)) }
+    ensures added { OnOk result ((q : List ℕ) →
+        has names.new q ≡ (bytes_eq name.now q || has names.old q)) }
 {
     Ok(names.insert(name)?)
 }

@@ -109,8 +109,11 @@ pub fn write_outcome<K: Sink>(
     outcome: &Outcome,
     sink: &mut K,
 ) -> Result<(), PutFailed>
-    ensures ok { OnOk result (K.written sink.new ≡ append_known (K.written sink.old) (log_line script line outcome.now)) }
-    ensures err { OnErr result (AppendsProperFront (K.written sink.old) (K.written sink.new) (log_line script line outcome.now)) }
+    ensures ok { OnOk result
+        (K.written sink.new ≡ append_known (K.written sink.old)
+        (log_line script line outcome.now)) }
+    ensures err { OnErr result (AppendsProperFront (K.written sink.old) (K.written sink.new)
+        (log_line script line outcome.now)) }
     ensures cause { OnErr result (Rose (K.faults sink.old) (K.faults sink.new)) }
     ensures later { K.faults sink.old ≤ K.faults sink.new }
     ensures mark { K.mark sink.new ≡ K.mark sink.old }
@@ -132,7 +135,8 @@ pub fn write_outcome<K: Sink>(
 fn add_end(text: &mut ArrayVec<u8, PART_ROOM>, words: &OutcomeWords)
     requires room { array_vec_len text.old + 21 * NUMBERS + END_BYTES + 1 ≤ PART_ROOM }
     requires short { length words.now.end.now ≤ END_BYTES }
-    ensures { text.new.items ≡ text.old.items ++ numbers words.now.numbers.items ++ words.now.end.now ++ codes "\n" }
+    ensures { text.new.items ≡ text.old.items ++ numbers words.now.numbers.items
+        ++ words.now.end.now ++ codes "\n" }
 {
     add_numbers(text, words.numbers.as_slice());
     add_bytes(text, words.end);
@@ -151,7 +155,8 @@ struct OutcomeWords<'a> {
 
 /// The words of an outcome.
 fn words_of<'a>(outcome: &Outcome<'a>) -> OutcomeWords<'a>
-    ensures text { result.word.now ++ result.file.now ++ numbers result.numbers.items ++ result.end.now ≡ outcome_text outcome.now }
+    ensures text { result.word.now ++ result.file.now ++ numbers result.numbers.items
+        ++ result.end.now ≡ outcome_text outcome.now }
     ensures short { length result.word.now ≤ WORD_BYTES }
     ensures short_end { length result.end.now ≤ END_BYTES }
 {

@@ -36,9 +36,13 @@ pub trait Process {
     ) -> Result<u64, PutFailed>
         requires context { accepts self.now context.now }
         requires images { AreNamable (I.images images.old) }
-        ensures written { OnOk result (K.written sink.new ≡ append_known (K.written sink.old) (report self.now context.now (I.images images.old))) }
-        ensures length { IfOk result (λ n. n ≡ length (report self.now context.now (I.images images.old))) }
-        ensures err { OnErr result (AppendsProperFront (K.written sink.old) (K.written sink.new) (report self.now context.now (I.images images.old))) }
+        ensures written { OnOk result
+            (K.written sink.new ≡ append_known (K.written sink.old)
+            (report self.now context.now (I.images images.old))) }
+        ensures length { IfOk result
+            (λ n. n ≡ length (report self.now context.now (I.images images.old))) }
+        ensures err { OnErr result (AppendsProperFront (K.written sink.old) (K.written sink.new)
+            (report self.now context.now (I.images images.old))) }
         ensures cause { OnErr result (Rose (K.faults sink.old) (K.faults sink.new)) }
         ensures later { K.faults sink.old ≤ K.faults sink.new }
         ensures mark { K.mark sink.new ≡ K.mark sink.old }

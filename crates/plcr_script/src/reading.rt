@@ -52,8 +52,10 @@ fn read_lines<'a>(
     before: &'a [Script],
 ) -> Result<Draft<'a>, ScriptFault>
     requires { length bytes.now < 2 ^ 32 }
-    ensures read { IfOk result (λ draft. with_lines (no_lines mode before.now) 1 (lines bytes.now) ≡ Ok draft) }
-    ensures refused { IfErr result (λ fault. Tells fault (with_lines (no_lines mode before.now) 1 (lines bytes.now))) }
+    ensures read { IfOk result (λ draft. with_lines (no_lines mode before.now) 1 (lines bytes.now)
+        ≡ Ok draft) }
+    ensures refused { IfErr result
+        (λ fault. Tells fault (with_lines (no_lines mode before.now) 1 (lines bytes.now))) }
     ensures lawful { IfOk result (λ draft. IsLawful draft.script) }
 {
     let mut draft = Draft::new(alloc, mode, before)?;
@@ -83,7 +85,8 @@ fn add_line<'a>(
     ensures added { OnOk result (with_line draft.old number line.now ≡ Ok draft.new) }
     ensures index { OnOk result (IsIndexOf index.new draft.new) }
     ensures lawful { OnOk result (IsLawfulDraft draft.new) }
-    ensures refused { IfErr result (λ fault. Tells fault (refused_at number (with_line draft.old number line.now))) }
+    ensures refused { IfErr result
+        (λ fault. Tells fault (refused_at number (with_line draft.old number line.now))) }
 {
     if says_nothing(line) {
         return Ok(());
@@ -109,8 +112,10 @@ fn is_out_of_place<'a>(
     requires index { IsIndexOf index.old draft.now }
     requires lawful { IsLawful draft.now.script }
     requires fits { IsFit (passes_of draft.now.mode draft.now.script.passes) (said wording) }
-    ensures out { IfOk result (λ out. out ≡ reading.is_out_of_place draft.now (said wording.entry)) }
-    ensures index { IfOk result (λ out. out ≡ false → (line : ℕ) → IsIndexOf index.new (with_said draft.now line (said wording.entry))) }
+    ensures out { IfOk result
+        (λ out. out ≡ reading.is_out_of_place draft.now (said wording.entry)) }
+    ensures index { IfOk result (λ out. out ≡ false → (line : ℕ) →
+        IsIndexOf index.new (with_said draft.now line (said wording.entry))) }
 {
     match wording {
         Wording::Sizes {
@@ -133,8 +138,10 @@ fn is_misplaced<'a>(
     requires index { IsIndexOf index.old draft.now }
     requires lawful { IsLawful draft.now.script }
     requires fits { HasPass (passes_of draft.now.mode draft.now.script.passes) (stated stating) }
-    ensures out { IfOk result (λ out. out ≡ reading.is_out_of_place draft.now (States (stated stating.entry))) }
-    ensures index { IfOk result (λ out. out ≡ false → (line : ℕ) → IsIndexOf index.new (with_said draft.now line (States (stated stating.entry)))) }
+    ensures out { IfOk result
+        (λ out. out ≡ reading.is_out_of_place draft.now (States (stated stating.entry))) }
+    ensures index { IfOk result (λ out. out ≡ false → (line : ℕ) →
+        IsIndexOf index.new (with_said draft.now line (States (stated stating.entry)))) }
 {
     match stating {
         Stating::Load { header: _, name: _ } => Ok(false),

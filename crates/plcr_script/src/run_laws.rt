@@ -26,8 +26,9 @@ pub fn passes_are_where_they_were_put()
     ensures { PassesAreWhereTheyWerePut }
 {}
 
-/// A run keeps the files that its script names. Each was written in a hold of its pass and has a report of the images of
-/// that hold's lawful walk, and its line tells the hold's window. What happened by then stays as the run ends.
+/// A run keeps the files that its script names. Each was written in a hold of its pass and has a
+/// report of the images of that hold's lawful walk, and its line tells the hold's window. What
+/// happened by then stays as the run ends.
 pub fn reports_are_kept_lawfully()
     ensures lawfully { RunsKeepLawfully }
     ensures files { RunsKeepTheirFiles }

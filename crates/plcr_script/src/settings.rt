@@ -89,7 +89,8 @@ fn number_for(key: NumberKey, word: &[u8]) -> Result<u64, Kind>
 /// The value of a key.
 fn setting<'a>(key: &[u8], value: &'a [u8]) -> Result<Wording<'a>, Kind>
     requires { length value.now < 2 ^ 32 }
-    ensures worded { IsWorded result (value_in (number_key_in key.now) (text_key_in key.now) value.now) }
+    ensures worded { IsWorded result
+        (value_in (number_key_in key.now) (text_key_in key.now) value.now) }
     ensures fits { IfOk result (λ wording. (count : ℕ) → IsFit count (said wording)) }
 {
     if let Some(key) = number_key(key) {

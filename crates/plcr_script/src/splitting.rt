@@ -10,7 +10,8 @@ use memchr::memchr;
 pub(crate) fn cut(separator: u8, bytes: &[u8]) -> (&[u8], Option<&[u8]>)
     ensures front { result.0.now ≡ (cut_in separator bytes.now).front }
     ensures rest { option_copied result.1 ≡ (cut_in separator bytes.now).rest }
-    ensures parts { parts separator bytes.now ≡ result.0.now ∷ parts_after separator (option_copied result.1) }
+    ensures parts { parts separator bytes.now ≡ result.0.now
+        ∷ parts_after separator (option_copied result.1) }
     ensures within { length result.0.now ≤ length bytes.now }
     ensures shorter { IfSome result.1 (λ rest. length rest.now < length bytes.now) }
 {

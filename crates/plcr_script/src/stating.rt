@@ -69,7 +69,8 @@ pub(crate) fn statement<'a>(
     arguments: Option<&'a [u8]>,
 ) -> Result<Stating<'a>, Kind>
     requires { IfSome arguments (λ text. length text.now < 2 ^ 32) }
-    ensures worded { IsStated result (statement_in passes word.now (option_copied arguments.entry)) }
+    ensures worded { IsStated result
+        (statement_in passes word.now (option_copied arguments.entry)) }
     ensures fits { IfOk result (λ stating. IsFit passes (States (stated stating))) }
 {
     if word == b"load".as_slice() {
@@ -118,7 +119,8 @@ fn load<'a>(arguments: Option<&'a [u8]>) -> Result<Stating<'a>, Kind>
 /// `unload`, by what stands after this word.
 #[tactic(auto, unfolding(crate::specs::Sayings::unload_in))]
 fn unload<'a>(arguments: Option<&'a [u8]>) -> Result<Stating<'a>, Kind>
-    ensures worded { IsStated result (unload_in statements.Unload (words (option_copied arguments.entry))) }
+    ensures worded { IsStated result
+        (unload_in statements.Unload (words (option_copied arguments.entry))) }
     ensures fits { IfOk result (λ stating. (count : ℕ) → IsFit count (States (stated stating))) }
 {
     match one_word(arguments) {
@@ -154,7 +156,8 @@ fn begin<'a>(arguments: Option<&'a [u8]>) -> Result<Stating<'a>, Kind>
 #[tactic(auto, unfolding(crate::specs::Sayings::load_in))]
 fn begin_load<'a>(arguments: Option<&'a [u8]>) -> Result<Stating<'a>, Kind>
     requires { IfSome arguments (λ text. length text.now < 2 ^ 32) }
-    ensures worded { IsStated result (load_in statements.BeginLoad (option_copied arguments.entry)) }
+    ensures worded { IsStated result
+        (load_in statements.BeginLoad (option_copied arguments.entry)) }
     ensures fits { IfOk result (λ stating. (count : ℕ) → IsFit count (States (stated stating))) }
 {
     match image(arguments) {
@@ -166,7 +169,8 @@ fn begin_load<'a>(arguments: Option<&'a [u8]>) -> Result<Stating<'a>, Kind>
 /// `begin unload`, by what stands after these words.
 #[tactic(auto, unfolding(crate::specs::Sayings::unload_in))]
 fn begin_unload<'a>(arguments: Option<&'a [u8]>) -> Result<Stating<'a>, Kind>
-    ensures worded { IsStated result (unload_in statements.BeginUnload (words (option_copied arguments.entry))) }
+    ensures worded { IsStated result
+        (unload_in statements.BeginUnload (words (option_copied arguments.entry))) }
     ensures fits { IfOk result (λ stating. (count : ℕ) → IsFit count (States (stated stating))) }
 {
     match one_word(arguments) {
@@ -208,7 +212,8 @@ fn end<'a>(arguments: Option<&'a [u8]>) -> Result<Stating<'a>, Kind>
 /// `enter`, by what stands after this word.
 #[tactic(auto, unfolding(crate::specs::Sayings::moving_in))]
 fn enter<'a>(passes: u32, arguments: Option<&'a [u8]>) -> Result<Stating<'a>, Kind>
-    ensures worded { IsStated result (moving_in passes statements.Enter (words (option_copied arguments.entry))) }
+    ensures worded { IsStated result
+        (moving_in passes statements.Enter (words (option_copied arguments.entry))) }
     ensures fits { IfOk result (λ stating. IsFit passes (States (stated stating))) }
 {
     match only_pass(passes, arguments) {
@@ -220,7 +225,8 @@ fn enter<'a>(passes: u32, arguments: Option<&'a [u8]>) -> Result<Stating<'a>, Ki
 /// `leave`, by what stands after this word.
 #[tactic(auto, unfolding(crate::specs::Sayings::moving_in))]
 fn leave<'a>(passes: u32, arguments: Option<&'a [u8]>) -> Result<Stating<'a>, Kind>
-    ensures worded { IsStated result (moving_in passes statements.Leave (words (option_copied arguments.entry))) }
+    ensures worded { IsStated result
+        (moving_in passes statements.Leave (words (option_copied arguments.entry))) }
     ensures fits { IfOk result (λ stating. IsFit passes (States (stated stating))) }
 {
     match only_pass(passes, arguments) {

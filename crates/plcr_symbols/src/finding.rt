@@ -21,7 +21,8 @@ fn named_or(memory: &Memory, kept: Option<SymbolAt>, below: Option<SymbolAt>) ->
 
 // Makes answers of what the gaps keep, from low to high. So the name of each row is read once.
 fn settle(memory: &Memory, found: &mut [Option<SymbolAt>])
-    ensures settled { (k : ℕ) → k < length found.old → kept_at found.new k ≡ settled memory.now found.old (k + 1) }
+    ensures settled { (k : ℕ) → k < length found.old →
+        kept_at found.new k ≡ settled memory.now found.old (k + 1) }
     ensures size { length found.new ≡ length found.old }
 {
     let mut below = None;
@@ -31,8 +32,9 @@ fn settle(memory: &Memory, found: &mut [Option<SymbolAt>])
     }
 }
 
-/// The symbols of rising addresses of one image, each that of `find`, in as much room as there are addresses. The rows of
-/// the image's table are gone through once, with a search among the addresses by halves for each that may count.
+/// The symbols of rising addresses of one image, each that of `find`, in as much room as there are
+/// addresses. The rows of the image's table are gone through once, with a search among the
+/// addresses by halves for each that may count.
 pub fn find_all(memory: &Memory, image: &Image, addresses: &[u64], found: &mut [Option<SymbolAt>])
     requires rising { IsNonDecreasing addresses.now }
     requires room { length found.old ≡ length addresses.now }
@@ -52,10 +54,10 @@ pub fn find_all(memory: &Memory, image: &Image, addresses: &[u64], found: &mut [
     settle(memory, found);
 }
 
-/// The symbol of an address of an image: of the rows of its table that are defined in a section, lie in `__TEXT` and
-/// aren't above the address the one with the greatest address, the first on a tie. None where there is no such row, or
-/// where its name doesn't stand in memory, ended by a zero within the table of names, with at most
-/// [`SYMBOL_NAME_BYTES`](crate::SYMBOL_NAME_BYTES) bytes.
+/// The symbol of an address of an image: of the rows of its table that are defined in a section,
+/// lie in `__TEXT` and aren't above the address the one with the greatest address, the first on a
+/// tie. None where there is no such row, or where its name doesn't stand in memory, ended by a zero
+/// within the table of names, with at most [`SYMBOL_NAME_BYTES`](crate::SYMBOL_NAME_BYTES) bytes.
 pub fn find(memory: &Memory, image: &Image, address: u64) -> Option<SymbolAt>
     ensures { result ≡ symbol_at memory.now image.now address }
 {

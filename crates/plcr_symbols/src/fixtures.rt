@@ -10,7 +10,8 @@ pub const ROWS: u64 = 0x1_0001_0000;
 
 pub const STRINGS: u64 = 0x1_0002_0000;
 
-/// Types of rows: defined in a section, the same and seen by other images, undefined, absolute, and a debugger's.
+/// Types of rows: defined in a section, the same and seen by other images, undefined, absolute, and
+/// a debugger's.
 pub const SECT: u8 = 0x0e;
 
 pub const EXTERNAL: u8 = 0x0f;

@@ -10,7 +10,8 @@ fn gap_of(addresses: &[u64], value: u64) -> usize
     requires { IsNonDecreasing addresses.now }
     ensures inside { result ≤ length addresses.now }
     ensures before { (k : ℕ) → k < result → slice_index addresses.now k < value }
-    ensures past { (k : ℕ) → result ≤ k → k < length addresses.now → value ≤ slice_index addresses.now k }
+    ensures past { (k : ℕ) → result ≤ k → k < length addresses.now →
+        value ≤ slice_index addresses.now k }
 {
     addresses.partition_point(|address| *address < value)
 }
@@ -29,7 +30,8 @@ fn greater(first: Option<SymbolAt>, later: SymbolAt) -> Option<SymbolAt>
 pub fn keep(addresses: &[u64], found: &mut [Option<SymbolAt>], symbol: SymbolAt)
     requires rising { IsNonDecreasing addresses.now }
     requires room { length found.old ≡ length addresses.now }
-    ensures gains { Gains addresses.now (λ k. where_its_address (in_gap addresses.now k) (Some symbol)) found.old found.new }
+    ensures gains { Gains addresses.now
+        (λ k. where_its_address (in_gap addresses.now k) (Some symbol)) found.old found.new }
     ensures size { length found.new ≡ length found.old }
 {
     let gap = gap_of(addresses, symbol.value);

@@ -18,8 +18,8 @@ fn rising_rows(alloc: Global, count: u32) -> Result<Vec<u8>, AllocError> {
     Ok(file)
 }
 
-// The address of the last row that is read of 1,000, where so many bytes of them are mapped, and those behind a place
-// are another region's.
+// The address of the last row that is read of 1,000, where so many bytes of them are mapped, and
+// those behind a place are another region's.
 fn last_row(alloc: Global, mapped: usize, cut: usize) -> Result<Option<SymbolAt>, MemoryFault> {
     let file = rising_rows(alloc, 1000)?;
     let memory = memory_of(
@@ -237,7 +237,8 @@ fn linked_image(alloc: Global) -> Result<Vec<u8>, AllocError> {
     Ok(file)
 }
 
-// Where an image lies, it is read, and an address of it has its symbol there, whatever it was linked at.
+// Where an image lies, it is read, and an address of it has its symbol there, whatever it was
+// linked at.
 #[test]
 fn moved_images(rt: HostRuntime) -> Result<(), Fail> {
     for header in [A0, 0x1000, A0 + 0x1000, 0xffff_ffff_0000_0000] {

@@ -1,5 +1,5 @@
-//! The symbols of Mach-O images (nlist.h) as they lie in the memory of a process: the symbol of an address, and where its
-//! name stands.
+//! The symbols of Mach-O images (nlist.h) as they lie in the memory of a process: the symbol of an
+//! address, and where its name stands.
 #![tactic(auto)]
 
 mod finding;

@@ -49,8 +49,8 @@ fn piece_behind(memory: &Memory, at: u64, done: u32, size: u32) -> Piece
     piece_at(memory, from, &mut bytes[..size as usize])
 }
 
-// How many bytes stand from an address on before the first zero, which is to be one of so many. A piece that isn't
-// wholly mapped is halved.
+// How many bytes stand from an address on before the first zero, which is to be one of so many. A
+// piece that isn't wholly mapped is halved.
 fn zero_within(memory: &Memory, at: u64, most: u32) -> Option<u32>
     ensures { result ≡ zero_within memory.now most at }
 {
@@ -68,7 +68,8 @@ fn zero_within(memory: &Memory, at: u64, most: u32) -> Option<u32>
     None
 }
 
-/// A symbol whose name has at most `name_len` bytes, with the length of the name, which ends with a zero among these.
+/// A symbol whose name has at most `name_len` bytes, with the length of the name, which ends with a
+/// zero among these.
 #[tactic(auto, unfolding(crate::specs::Symbols::named))]
 pub fn named(memory: &Memory, symbol: SymbolAt) -> Option<SymbolAt>
     ensures { result ≡ named memory.now symbol }

@@ -22,8 +22,8 @@ fn in_text(image: &Image, address: u64) -> bool
     image.header <= address && address - image.header < image.text_size
 }
 
-/// What a row says of its symbol, where this is defined in a section and lies in the image's `__TEXT`. Its name is not
-/// looked at: it has as many bytes as the table of names from there on.
+/// What a row says of its symbol, where this is defined in a section and lies in the image's
+/// `__TEXT`. Its name is not looked at: it has as many bytes as the table of names from there on.
 #[tactic(auto, unfolding(crate::specs::Symbols::defined_in))]
 pub fn defined_in(image: &Image, table: &Symtab, row: &[u8]) -> Option<SymbolAt>
     requires { LENGTH ≤ length row.now }

@@ -1,5 +1,5 @@
-/// A symbol of an image as it lies in memory: its address, and where its name begins, which has so many bytes before the
-/// zero that ends it.
+/// A symbol of an image as it lies in memory: its address, and where its name begins, which has so
+/// many bytes before the zero that ends it.
 #[derive(Clone, Copy, Debug, PartialEq, Eq)]
 pub struct SymbolAt {
     pub value: u64,

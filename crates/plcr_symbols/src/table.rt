@@ -17,7 +17,8 @@ use plcr_memory::Memory;
 
 const PIECE_BYTES: usize = PIECE_ROWS * LENGTH;
 
-/// The table of an image's symbols, and the addresses, in rising order, whose symbols are looked for in it.
+/// The table of an image's symbols, and the addresses, in rising order, whose symbols are looked
+/// for in it.
 #[derive(Clone, Copy)]
 pub struct Search<'a> {
     pub memory: &'a Memory,
@@ -32,7 +33,8 @@ impl Search<'_> {
     fn keep_row(&self, row: &[u8], found: &mut [Option<SymbolAt>])
         requires whole { LENGTH ≤ length row.now }
         requires room { HasRoom self.now found.old }
-        ensures gains { Gains self.now.addresses.now (row_gains self.now row.now) found.old found.new }
+        ensures gains { Gains self.now.addresses.now (row_gains self.now row.now) found.old
+            found.new }
         ensures size { length found.new ≡ length found.old }
     {
         if let Some(symbol) = defined_in(self.image, &self.table, row) {
@@ -43,7 +45,8 @@ impl Search<'_> {
     // Keeps the symbols of rows that stand one behind the other.
     fn keep_rows(&self, rows: &[u8], found: &mut [Option<SymbolAt>])
         requires room { HasRoom self.now found.old }
-        ensures gains { Gains self.now.addresses.now (rows_gain self.now (rows_in (length rows.now / LENGTH) rows.now)) found.old found.new }
+        ensures gains { Gains self.now.addresses.now
+            (rows_gain self.now (rows_in (length rows.now / LENGTH) rows.now)) found.old found.new }
         ensures size { length found.new ≡ length found.old }
     {
         let mut rest = rows;
@@ -62,8 +65,8 @@ impl Search<'_> {
         self.table.rows_at.wrapping_add(LENGTH as u64 * index)
     }
 
-    // How many rows from an index on are zeros, as far as the zeros go that one region has there behind its bytes of the
-    // file. No such row is of a symbol.
+    // How many rows from an index on are zeros, as far as the zeros go that one region has there
+    // behind its bytes of the file. No such row is of a symbol.
     #[tactic(auto, using(crate::proofs::Zeroed::none_passed))]
     fn zero_rows(&self, index: u64, left: u64) -> u64
         requires { index + left < 2 ^ 32 }
@@ -96,7 +99,8 @@ impl Search<'_> {
             found.old (to_come self.now (size + more) index)
             found.new (to_come self.now more (index + size))) }
         ensures same { OnFalse result (found.new ≡ found.old) }
-        ensures missing { OnFalse result (size ≡ 1 → row_at self.now.memory.now self.now.table.rows_at index ≡ None) }
+        ensures missing { OnFalse result (size ≡ 1 →
+            row_at self.now.memory.now self.now.table.rows_at index ≡ None) }
         ensures size { length found.new ≡ length found.old }
     {
         if !self.memory.copy(self.row_address(index), buffer) {
@@ -116,7 +120,8 @@ impl Search<'_> {
             found.old (to_come self.now (size + more) index)
             found.new (to_come self.now more (index + size))) }
         ensures same { OnFalse result (found.new ≡ found.old) }
-        ensures missing { OnFalse result (size ≡ 1 → row_at self.now.memory.now self.now.table.rows_at index ≡ None) }
+        ensures missing { OnFalse result (size ≡ 1 →
+            row_at self.now.memory.now self.now.table.rows_at index ≡ None) }
         ensures size { length found.new ≡ length found.old }
     {
         let mut buffer = [0; PIECE_BYTES];
@@ -126,7 +131,8 @@ impl Search<'_> {
     /// Goes through the rows of the table once. A piece of them that isn't wholly mapped is halved.
     pub fn keep_table(&self, found: &mut [Option<SymbolAt>])
         requires room { HasRoom self.now found.old }
-        ensures gains { Gains self.now.addresses.now (to_come self.now self.now.table.rows 0) found.old found.new }
+        ensures gains { Gains self.now.addresses.now (to_come self.now self.now.table.rows 0)
+            found.old found.new }
         ensures size { length found.new ≡ length found.old }
     {
         let rows = u64::from(self.table.rows);

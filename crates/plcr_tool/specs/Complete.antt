@@ -83,6 +83,7 @@ WordsShow = (words : List (List ℕ)) → (report : List ℕ) → (old new : See
 
 -- words of the form `make N CORE SCRIPT` do what that command does
 abbrev pub WordsMake : Type 0
-WordsMake = (words : List (List ℕ)) → (images : ℕ) → (core script : List ℕ) → (old new : Seen) → (status : ℕ)
+WordsMake = (words : List (List ℕ)) → (images : ℕ) → (core script : List ℕ) → (old new : Seen) →
+    (status : ℕ)
     → form_of words ≡ Make images core script → TopDoes words old new status
     → MakeDoes images core script old new status

@@ -35,7 +35,8 @@ use Rattle.plcr_tool.specs.Top.{Form, Report, Show, Make, SideBySide, Usage, for
 -- rise; each was in one of those lists; each that was in all of them is there; and where the list
 -- did not change, they are the list. The file decodes to the report that has each thread's
 -- registers, the frames that the unwinding rules give for them, and these images.
-pub record TellsTruly (core : Core) (script : ScriptValue) (happened : List Event) (file : List ℕ × List ℕ) : Type 0 where
+pub record TellsTruly (core : Core) (script : ScriptValue) (happened : List Event) (file : List ℕ
+    × List ℕ) : Type 0 where
   pub pass : ℕ
   pub inside : List Event
   pub hold : Follows (Noted (Leave pass) ∷ inside) happened
@@ -53,25 +54,26 @@ SinkFailed old new =
     Rose old.desk.out_faults new.desk.out_faults ⊎ Rose old.line_faults new.line_faults
 
 -- What a run of the job's script came to.
-pub record RanTruly (past : Option WriterState) (status : ℕ) (job : Job) (old new : Seen) : Type 0 where
-  pub script : ScriptValue
-  pub alone : job.scripts ≡ script ∷ []
-  -- the one history of the list that was opened for the run: its writer has met every pass
-  pub writer : WriterState
-  pub all : HasMetAll script past writer
-  pub history : IsHistory script.nodes script.passes writer.history writer.names
-  -- no node that a reader inside can reach is given again
-  pub kept : IsKept writer.history
-  -- each capture returned, and its file was kept, in the order of the script; unless the count of
-  -- faults of a sink rose
-  pub files : List (List ℕ × List ℕ)
-  pub gained : Gains old.desk.kept new.desk.kept files
-  pub others : List (List ℕ)
-  pub each : files_of script.statements ≡ kept_names files ++ others
-  pub whole : status ≡ 0 → others ≡ []
-  pub unless : status ≡ 5 → SinkFailed old new
-  -- each file tells truly of this history
-  pub truly : All (TellsTruly job.core script (events_of writer.names writer.history)) files
+pub record RanTruly (past : Option WriterState) (status : ℕ) (job : Job) (old new : Seen) : Type 0
+  where
+    pub script : ScriptValue
+    pub alone : job.scripts ≡ script ∷ []
+    -- the one history of the list that was opened for the run: its writer has met every pass
+    pub writer : WriterState
+    pub all : HasMetAll script past writer
+    pub history : IsHistory script.nodes script.passes writer.history writer.names
+    -- no node that a reader inside can reach is given again
+    pub kept : IsKept writer.history
+    -- each capture returned, and its file was kept, in the order of the script; unless the count of
+    -- faults of a sink rose
+    pub files : List (List ℕ × List ℕ)
+    pub gained : Gains old.desk.kept new.desk.kept files
+    pub others : List (List ℕ)
+    pub each : files_of script.statements ≡ kept_names files ++ others
+    pub whole : status ≡ 0 → others ≡ []
+    pub unless : status ≡ 5 → SinkFailed old new
+    -- each file tells truly of this history
+    pub truly : All (TellsTruly job.core script (events_of writer.names writer.history)) files
 
 -- For every core and every script of loads, unloads and captures, in which a change may stand
 -- frozen between any two of its steps: where the run began, it ended so. No capture takes memory,
@@ -82,8 +84,8 @@ ReportsTellTruly core script old new past status =
     → HasRead (IsJob ALONE) (report_files core script) (RanTruly past status) old new
 
 -- The same for the words of the command line. Of scripts side by side it tells that the journal and
--- the history are one another's; and where all was done, that the other lines and the files are those
--- of runs of the scripts over this history
+-- the history are one another's; and where all was done, that the other lines and the files are
+-- those of runs of the scripts over this history
 abbrev pub FormTellsTruly : Form → Seen → Seen → Option WriterState → ℕ → Type 0
 FormTellsTruly (Report core script) old new past status =
     ReportsTellTruly core script old new past status

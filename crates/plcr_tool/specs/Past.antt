@@ -16,7 +16,8 @@ use Rattle.plcr_tool.specs.Report.{report_files}
 use Rattle.plcr_tool.specs.Top.{Form, Report, Show, Make, SideBySide, Usage, form_of}
 
 -- the job has one script, and this is known of the writer that its run on the core left
-pub record Left (Leaves : Meanings → ScriptValue → Option WriterState → Type 0) (past : Option WriterState) (job : Job) : Type 0 where
+pub record Left (Leaves : Meanings → ScriptValue → Option WriterState →
+    Type 0) (past : Option WriterState) (job : Job) : Type 0 where
   pub script : ScriptValue
   pub alone : job.scripts ≡ script ∷ []
   pub leaves : Leaves (meanings_of job.core script) script past
@@ -29,7 +30,8 @@ FilesLeft Leaves core script old new past =
 
 -- What `report CORE SCRIPT` leaves, by its status: the writer of the list that was opened for the
 -- run, which has met each pass of that list, and what has happened there; or none
-pub record ReportLeaves (core script : List ℕ) (old new : Seen) (past : Option WriterState) (status : ℕ) : Type 0 where
+pub record ReportLeaves (core script : List ℕ) (old new : Seen) (past : Option WriterState)
+    (status : ℕ) : Type 0 where
   -- just what the script means
   pub done : status ≡ 0 → FilesLeft LeavesWhole core script old new past
   -- lawful, with the first of the changes that the script means
@@ -41,7 +43,8 @@ abbrev pub FormLeaves : Form → Seen → Seen → Option WriterState → ℕ �
 FormLeaves (Report core script) old new past status = ReportLeaves core script old new past status
 FormLeaves (Show report) old new past status = past ≡ None
 FormLeaves (Make images core script) old new past status = MakeLeaves images past status
-FormLeaves (SideBySide core scripts) old new past status = ThreadsLeave core scripts old new past status
+FormLeaves (SideBySide core scripts) old new past status =
+    ThreadsLeave core scripts old new past status
 FormLeaves Usage old new past status = past ≡ None
 
 -- what the program leaves for its words

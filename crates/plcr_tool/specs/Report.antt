@@ -17,7 +17,8 @@ abbrev pub report_files : List ℕ → List ℕ → List File
 report_files core script = job_files core (script ∷ [])
 
 -- the job has one script, and so its run on the core ended
-pub record Ran (Ends : List NumberedTurn → Seen → Seen → Type 0) (job : Job) (old new : Seen) : Type 0 where
+pub record Ran (Ends : List NumberedTurn → Seen → Seen →
+    Type 0) (job : Job) (old new : Seen) : Type 0 where
   pub script : ScriptValue
   pub alone : job.scripts ≡ script ∷ []
   pub ends : Ends (run_of (meanings_of job.core script) script) old new

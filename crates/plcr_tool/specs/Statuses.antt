@@ -36,7 +36,8 @@ pub record CannotTake (files : List File) (old new : Seen) : Type 0 where
       ⊎ (IsTooLong files (named word) old.desk new.desk × Refuses (TooLong word) old new)
 
 -- statuses 3, 4 and 6: all files were taken, and their bytes are refused for this
-pub record IsNone (Misread : List (List ℕ) → Refusal → Type 0) (files : List File) (refusal : Refusal) (old new : Seen) : Type 0 where
+pub record IsNone (Misread : List (List ℕ) → Refusal → Type 0) (files : List File)
+    (refusal : Refusal) (old new : Seen) : Type 0 where
   pub why : IsMisread Misread files refusal old.desk new.desk
   pub refuses : Refuses refusal old new
 
@@ -49,8 +50,8 @@ pub record WantsMemory (files : List File) (old new : Seen) : Type 0 where
 
 -- `report CORE SCRIPT`, status by status.
 
--- 0: both files were taken and the run was done: its files were kept and its log printed, and `past`
--- has the writer of its list
+-- 0: both files were taken and the run was done: its files were kept and its log printed, and
+-- `past` has the writer of its list
 abbrev pub AllReported : List ℕ → List ℕ → Seen → Seen → Option WriterState → Type 0
 AllReported core script old new past =
     HasRead (IsJob ALONE) (report_files core script) (Ran IsDone) old new

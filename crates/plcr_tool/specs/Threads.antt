@@ -1,5 +1,5 @@
--- What `threads CORE SCRIPT...` has done, by its status, if it returns; and what it answers where its
--- files are told and no count of faults rises.
+-- What `threads CORE SCRIPT...` has done, by its status, if it returns; and what it answers where
+-- its files are told and no count of faults rises.
 use Rattle.std.specs.Prelude.{◌≡◌, ◌⊎◌, ℕ, List, Option, None}
 use Rattle.plcr_base.specs.Causes.{Rose}
 use Rattle.plcr_core.specs.declared.fault.CoreFault.{CoreFault}
@@ -27,21 +27,25 @@ NoCore core scripts old new =
 abbrev pub NoScript : List ℕ → List (List ℕ) → Seen → Seen → Type 0
 NoScript core scripts old new =
     (number : ℕ) × (line : ℕ) × (kind : ℕ)
-    × IsNone (JobMisread SIDE_BY_SIDE) (job_files core scripts) (ScriptRefused number line kind) old new
+    × IsNone (JobMisread SIDE_BY_SIDE) (job_files core scripts) (ScriptRefused number line kind) old
+    new
 
 abbrev pub ThreadsIs : List ℕ → List (List ℕ) → Seen → Seen → Option WriterState → ℕ → Type 0
 ThreadsIs core scripts old new past status =
-    ((status ≡ 0) × HasRead (IsJob SIDE_BY_SIDE) (job_files core scripts) AllKept old new × LeftByScripts core scripts old new past)
+    ((status ≡ 0) × HasRead (IsJob SIDE_BY_SIDE) (job_files core scripts) AllKept old new
+    × LeftByScripts core scripts old new past)
     ⊎ ((status ≡ 2) × CannotTake (job_files core scripts) old new × (past ≡ None))
     ⊎ ((status ≡ 3) × NoCore core scripts old new × (past ≡ None))
     ⊎ ((status ≡ 4) × NoScript core scripts old new × (past ≡ None))
-    ⊎ ((status ≡ 5) × HasRead (IsJob SIDE_BY_SIDE) (job_files core scripts) HasStopped old new × LeftByScripts core scripts old new past)
+    ⊎ ((status ≡ 5) × HasRead (IsJob SIDE_BY_SIDE) (job_files core scripts) HasStopped old new
+    × LeftByScripts core scripts old new past)
     ⊎ ((status ≡ 7) × WantsMemory (job_files core scripts) old new × (past ≡ None))
 
 -- what the contract of the command says, read by the status
 abbrev pub ThreadsByStatus : Type 0
 ThreadsByStatus =
-    (core : List ℕ) → (scripts : List (List ℕ)) → (old new : Seen) → (past : Option WriterState) → (status : ℕ)
+    (core : List ℕ) → (scripts : List (List ℕ)) → (old new : Seen) → (past : Option WriterState) →
+    (status : ℕ)
     → ThreadsDoes core scripts old new status → ThreadsLeave core scripts old new past status
     → ThreadsIs core scripts old new past status
 
@@ -81,7 +85,8 @@ ThreadsRefuseLong =
 -- words of the form `threads CORE SCRIPT...` do what that command does
 abbrev pub WordsThreads : Type 0
 WordsThreads =
-    (words : List (List ℕ)) → (core : List ℕ) → (scripts : List (List ℕ)) → (old new : Seen) → (status : ℕ)
+    (words : List (List ℕ)) → (core : List ℕ) → (scripts : List (List ℕ)) → (old new : Seen) →
+    (status : ℕ)
     → form_of words ≡ SideBySide core scripts → TopDoes words old new status
     → ThreadsDoes core scripts old new status
 

@@ -28,18 +28,22 @@ make_form (Some images) core script = Make images core script
 
 -- `threads CORE SCRIPT...` has 1 to 64 scripts
 abbrev pub threads_form : (core : List ℕ) → (scripts : List (List ℕ)) → Option Form
-threads_form core scripts = if nat_le 1 (length scripts) && nat_le (length scripts) MOST_SCRIPTS then Some (SideBySide core scripts) else None
+threads_form core scripts = if nat_le 1 (length scripts) && nat_le (length scripts) MOST_SCRIPTS
+    then Some (SideBySide core scripts) else None
 
 -- what the words ask for where the first is `threads`
 abbrev pub threads_in : List (List ℕ) → Option Form
-threads_in (word ∷ core ∷ scripts) = if bytes_eq word (codes "threads") then threads_form core scripts else None
+threads_in (word ∷ core ∷ scripts) = if bytes_eq word (codes "threads")
+    then threads_form core scripts else None
 threads_in words = None
 
 -- `report CORE SCRIPT`, `show REPORT`, `make N CORE SCRIPT`
 abbrev pub other_form : List (List ℕ) → Form
 other_form (word ∷ report ∷ []) = if bytes_eq word (codes "show") then Show report else Usage
-other_form (word ∷ core ∷ script ∷ []) = if bytes_eq word (codes "report") then Report core script else Usage
-other_form (word ∷ number ∷ core ∷ script ∷ []) = if bytes_eq word (codes "make") then make_form (images_in number) core script else Usage
+other_form (word ∷ core ∷ script ∷ []) = if bytes_eq word (codes "report") then Report core script
+    else Usage
+other_form (word ∷ number ∷ core ∷ script ∷ []) = if bytes_eq word (codes "make")
+    then make_form (images_in number) core script else Usage
 other_form words = Usage
 
 abbrev pub form_or : Option Form → Form → Form

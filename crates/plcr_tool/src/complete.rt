@@ -58,8 +58,8 @@ pub fn threads_are_complete()
     ensures tells { WordsTellAsThreads }
 {}
 
-/// Words of the form `make N CORE SCRIPT` do what `make` does. What it answers where nothing fails is
-/// told by `makes_are_complete` of plcr_maker.
+/// Words of the form `make N CORE SCRIPT` do what `make` does. What it answers where nothing fails
+/// is told by `makes_are_complete` of plcr_maker.
 pub fn makes_are_chosen()
     ensures words { WordsMake }
 {}

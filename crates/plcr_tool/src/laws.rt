@@ -15,16 +15,21 @@ ghost use Rattle.plcr_tool.specs.Laws.{IsHandedContext, AreHandedStates, AreHand
 /// The file of each report that a capture may write spells that report: whatever context, threads
 /// and images are handed in, it is what a reader of the file gets.
 pub fn written_reports_are_read()
-    ensures { (about : context.Context) → (threads : List thread.Thread) → (images : List image.Image)
+    ensures { (about : context.Context) → (threads : List thread.Thread) →
+        (images : List image.Image)
         → IsHandedContext about → AreHandedThreads threads → AreHandedImages images
-        → reads (spelling_of (report_of about threads images)) ≡ Ok (report_of about threads images) }
+        → reads (spelling_of (report_of about threads images))
+        ≡ Ok (report_of about threads images) }
 {}
 
 /// The same of a process, whose threads have the frames that its memory tells of their states, and
 /// whose images are what its memory holds at the headers of the loaded images: whatever context,
 /// states, memory of bytes and loaded images are handed in, the report is read again.
 pub fn captured_reports_are_read()
-    ensures { (about : context.Context) → (states : List state.Registers) → (memory : Contents) → (listed : List Listed)
-        → IsHandedContext about → AreHandedStates about states → IsBytes memory.file → AreHandedListed listed
-        → reads (spelling_of (process_report about states memory listed)) ≡ Ok (process_report about states memory listed) }
+    ensures { (about : context.Context) → (states : List state.Registers) → (memory : Contents) →
+        (listed : List Listed)
+        → IsHandedContext about → AreHandedStates about states → IsBytes memory.file →
+        AreHandedListed listed
+        → reads (spelling_of (process_report about states memory listed))
+        ≡ Ok (process_report about states memory listed) }
 {}

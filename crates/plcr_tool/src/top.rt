@@ -109,8 +109,10 @@ fn alone<D: Desk, L: Sink>(
 /// The core and the scripts of words of the form `threads CORE SCRIPT...`, which has 1 to 64
 /// scripts.
 fn threads_words(words: &[String]) -> Option<(&str, &[String])>
-    ensures form { IfSome result (λ found. threads_in (map string_bytes words.now) ≡ Some (SideBySide found.0.now (map string_bytes found.1.now))) }
-    ensures few { IfSome result (λ found. (1 ≤ length found.1.now) × (length found.1.now ≤ MOST_SCRIPTS)) }
+    ensures form { IfSome result (λ found. threads_in (map string_bytes words.now)
+        ≡ Some (SideBySide found.0.now (map string_bytes found.1.now))) }
+    ensures few { IfSome result (λ found. (1 ≤ length found.1.now)
+        × (length found.1.now ≤ MOST_SCRIPTS)) }
     ensures none { IfNone result (threads_in (map string_bytes words.now) ≡ None) }
 {
     match words {
@@ -132,7 +134,8 @@ fn threads_words(words: &[String]) -> Option<(&str, &[String])>
 /// Prints the usage line, and gives its status.
 fn misused<L: Sink>(lines: &mut L) -> u8
     ensures status { result ≡ 1 }
-    ensures printed { Prints (L.written lines.old) (L.written lines.new) usage_line (L.faults lines.old) (L.faults lines.new) }
+    ensures printed { Prints (L.written lines.old) (L.written lines.new) usage_line
+        (L.faults lines.old) (L.faults lines.new) }
     ensures later { L.faults lines.old ≤ L.faults lines.new }
     ensures mark { L.mark lines.new ≡ L.mark lines.old }
 {

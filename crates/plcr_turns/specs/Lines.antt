@@ -1,4 +1,5 @@
--- The lines of the journal: what the loads and unloads of the scripts came to, in the order in which they were applied.
+-- The lines of the journal: what the loads and unloads of the scripts came to, in the order in
+-- which they were applied.
 use Rattle.std.specs.Prelude.{ℕ, Bool, true, false, List, filter, count_by, map, ◌==◌}
 use Rattle.plcr_turns.specs.declared.lines.Asked.{Asked}
 use Rattle.plcr_turns.specs.declared.lines.Asked.TheVariants as asked

@@ -1,5 +1,6 @@
--- The rule of the queue. It holds between any two steps, and ties what the queue holds to what each pass knows. Passes are
--- known by their numbers, and speak through their views, unless they were taken in.
+-- The rule of the queue. It holds between any two steps, and ties what the queue holds to what each
+-- pass knows. Passes are known by their numbers, and speak through their views, unless they were
+-- taken in.
 use Rattle.std.specs.Prelude.{◌≡◌, ◌≢◌, ◌⊎◌, ℕ, ◌<◌, true, false, List, [], ◌∷◌, length, Option, Some, None}
 use mathlib.Core.Option.{some}
 use mathlib.Core.List.{IsPrefix}
@@ -13,7 +14,8 @@ use Rattle.plcr_turns.specs.declared.view.View.{View}
 use Rattle.plcr_turns.specs.Turns.{TurnState}
 use Rattle.plcr_turns.specs.Views.{face_of, has_share, Agrees, AllBegin, IsUnspent, first_view}
 
--- the list with its sizes, the turn's journal and progress, the pass to which each script belongs, and the chief's pass
+-- the list with its sizes, the turn's journal and progress, the pass to which each script belongs,
+-- and the chief's pass
 pub record Truth : Type 0 where
   pub list : TableId
   pub nodes : ℕ
@@ -71,7 +73,8 @@ pub record IsWithPass (t : Truth) (items : List TurnState) (views : List View) :
   pub there : get_elem? views who ≡ some view
   pub unspent : IsUnspent view
   pub has : view.turn ≡ Some t.face
-  pub only : (pass : ℕ) (v : View) → get_elem? views pass ≡ some v → IsUnspent v → pass ≢ who → v.turn ≡ None
+  pub only : (pass : ℕ) (v : View) → get_elem? views pass ≡ some v → IsUnspent v → pass ≢ who →
+      v.turn ≡ None
 
 -- a script stands in the view of the pass to which it belongs
 pub record HasOwner (owner : ℕ → ℕ) (views : List View) (script : ℕ) : Type 0 where

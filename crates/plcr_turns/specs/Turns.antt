@@ -37,14 +37,18 @@ pub record TurnState : Type 0 where
 abbrev pub turn_state : WriterState → List ChangeLine → List Part → TurnState
 turn_state writer journal parts = record { writer = writer; journal = journal; parts = parts }
 
--- What a load came to. A refusal but for want of a free node leaves the writer as it was, and these are tested in this order: too many changes, too long a name, no free node
+-- What a load came to. A refusal but for want of a free node leaves the writer as it was, and these
+-- are tested in this order: too many changes, too long a name, no free node
 abbrev pub LoadSays : ℕ → List ℕ → WriterState → Said → WriterState → Type 0
 LoadSays header name old (NotImage kind) new = new ≡ old
 LoadSays header name old (Worn number) new = IsWorn old × (number ≡ MOST_CHANGES) × (new ≡ old)
-LoadSays header name old (Long len) new = (¬ IsWorn old) × (IMAGE_NAME_BYTES < length name) × (len ≡ length name) × (new ≡ old)
-LoadSays header name old (Full lives held seen) new = (¬ IsWorn old) × IsImageName name × IsFull old lives held seen new
+LoadSays header name old (Long len) new = (¬ IsWorn old) × (IMAGE_NAME_BYTES < length name)
+    × (len ≡ length name) × (new ≡ old)
+LoadSays header name old (Full lives held seen) new = (¬ IsWorn old) × IsImageName name
+    × IsFull old lives held seen new
 LoadSays header name old NotLoaded new = ⊥
-LoadSays header name old (Loaded load) new = (¬ IsWorn old) × IsImageName name × IsLoaded old header name load new
+LoadSays header name old (Loaded load) new = (¬ IsWorn old) × IsImageName name
+    × IsLoaded old header name load new
 LoadSays header name old (Unloaded load) new = ⊥
 
 -- what an unload came to, which takes the first image with the header
@@ -53,9 +57,12 @@ UnloadSays header old (NotImage kind) new = ⊥
 UnloadSays header old (Worn number) new = IsWorn old × (number ≡ MOST_CHANGES) × (new ≡ old)
 UnloadSays header old (Long len) new = ⊥
 UnloadSays header old (Full lives held seen) new = ⊥
-UnloadSays header old NotLoaded new = (¬ IsWorn old) × (first_with header (live old.history) ≡ None) × (new ≡ old)
+UnloadSays header old NotLoaded new = (¬ IsWorn old) × (first_with header (live old.history) ≡ None)
+    × (new ≡ old)
 UnloadSays header old (Loaded load) new = ⊥
-UnloadSays header old (Unloaded load) new = (¬ IsWorn old) × ((image : Image) × (first_with header (live old.history) ≡ Some image) × (load ≡ image.load) × IsUnloaded old image new)
+UnloadSays header old (Unloaded load) new =
+    (¬ IsWorn old) × ((image : Image) × (first_with header (live old.history) ≡ Some image)
+    × (load ≡ image.load) × IsUnloaded old image new)
 
 abbrev pub Says : Asked → List ℕ → WriterState → Said → WriterState → Type 0
 Says (asked.Load header) name old said new = LoadSays header name old said new
@@ -63,7 +70,8 @@ Says (asked.Unload header) name old said new = UnloadSays header old said new
 
 -- the changes of the list that this comes to, by header and name: one, or none
 abbrev pub changes_by : Asked → List ℕ → Said → List Change
-changes_by (asked.Load header) name (Loaded load) = changed.Loads (record { load = load; header = header; name = name }) ∷ []
+changes_by (asked.Load header) name (Loaded load) =
+    changed.Loads (record { load = load; header = header; name = name }) ∷ []
 changes_by (asked.Unload header) name (Unloaded load) = changed.Unloads header ∷ []
 changes_by asked name said = []
 
@@ -99,12 +107,15 @@ pub record IsPart (script : ℕ) (part : Part) (journal : List ChangeLine) : Typ
   pub word : part.total < 2 ^ 32
   pub lines : length (lines_of script journal) ≡ part.applied
 
--- the parts of a turn agree: no change is open, the journal is all that the writer did since its list was opened, and each script has come as far as its part says
+-- the parts of a turn agree: no change is open, the journal is all that the writer did since its
+-- list was opened, and each script has come as far as its part says
 pub record IsTurn (t : TurnState) : Type 0 where
   pub rest : IsAtRest t.writer
   pub counted : changes t.writer.history ≡ accepted t.journal
-  pub applied : Applied (opened_writer t.writer.table t.writer.nodes t.writer.passes) t.journal t.writer
-  pub progress : (script : ℕ) (part : Part) → slice_get t.parts script ≡ Some part → IsPart script part t.journal
+  pub applied : Applied (opened_writer t.writer.table t.writer.nodes t.writer.passes) t.journal
+      t.writer
+  pub progress : (script : ℕ) (part : Part) → slice_get t.parts script ≡ Some part →
+      IsPart script part t.journal
   -- no line is of another script than these
   pub alone : All (λ (l : ChangeLine). l.script < length t.parts) t.journal
 
@@ -131,11 +142,13 @@ pub record IsTold (old : TurnState) (note : NoteState) (new : TurnState) : Type 
 
 -- the script has a line left
 abbrev pub HasLeft : List Part → ℕ → Type 0
-HasLeft parts script = (part : Part) × (slice_get parts script ≡ Some part) × (part.applied < part.total)
+HasLeft parts script = (part : Part) × (slice_get parts script ≡ Some part)
+    × (part.applied < part.total)
 
 -- a line of a script came to this
 abbrev pub line_of : ℕ → ℕ → Asked → Said → ChangeLine
-line_of script line asked said = record { script = script; wanted = record { line = line; asked = asked }; said = said }
+line_of script line asked said =
+    record { script = script; wanted = record { line = line; asked = asked }; said = said }
 
 -- the parts with one line more of a script applied
 abbrev pub one_more : ℕ → List Part → List Part
@@ -155,7 +168,8 @@ FaultSaid (Load header name None) said = (kind : ℕ) → ¬ (said ≡ NotImage 
 FaultSaid (Unload header) said = Unit {0}
 
 -- the writer was asked this of an image with this name, and that came of it
-pub record HasCome (asked : Asked) (name : List ℕ) (old : WriterState) (said : Said) (new : WriterState) : Type 0 where
+pub record HasCome (asked : Asked) (name : List ℕ) (old : WriterState) (said : Said)
+    (new : WriterState) : Type 0 where
   pub table : new.table ≡ old.table
   pub rest : IsAtRest new
   pub does : Does asked name said old new
@@ -171,12 +185,14 @@ NameSaid name (Loaded load) = IsImageName name
 NameSaid name (Unloaded load) = Unit {0}
 
 -- a request was answered
-pub record HasAnswered (request : Request) (old : WriterState) (said : Said) (new : WriterState) : Type 0 where
+pub record HasAnswered (request : Request) (old : WriterState) (said : Said)
+    (new : WriterState) : Type 0 where
   pub fault : FaultSaid request said
   pub come : HasCome (asked_by request) (name_in request) old said new
 
 -- a line of a script was applied and stands last in the journal
-pub record HasApplied (old : TurnState) (script line : ℕ) (request : Request) (new : TurnState) : Type 0 where
+pub record HasApplied (old : TurnState) (script line : ℕ) (request : Request)
+    (new : TurnState) : Type 0 where
   pub said : Said
   pub answered : HasAnswered request old.writer said new.writer
   pub journal : new.journal ≡ old.journal ++ line_of script line (asked_by request) said ∷ []

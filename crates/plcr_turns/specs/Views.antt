@@ -17,7 +17,8 @@ face_of t = record { journal = t.journal; parts = t.parts }
 -- a share for each part, from a number on
 abbrev pub shares_from : ℕ → List Part → List Share
 shares_from script [] = []
-shares_from script (part ∷ parts) = record { script = script; part = part } ∷ shares_from (suc script) parts
+shares_from script (part ∷ parts) =
+    record { script = script; part = part } ∷ shares_from (suc script) parts
 
 -- whether a script is among shares
 abbrev pub has_share : ℕ → List Share → Bool
@@ -27,7 +28,8 @@ has_share script (share ∷ shares) = (share.script == script) || has_share scri
 -- the parts say what the shares say of their scripts
 abbrev pub Agrees : List Part → List Share → Type 0
 Agrees parts [] = Unit {0}
-Agrees parts (share ∷ shares) = (slice_get parts share.script ≡ Some share.part) × Agrees parts shares
+Agrees parts (share ∷ shares) = (slice_get parts share.script ≡ Some share.part)
+    × Agrees parts shares
 
 -- the part of a script, or the one that it had where there is none
 abbrev pub part_or : Option Part → Part → Part
@@ -37,7 +39,8 @@ part_or (Some new) part = new
 -- shares with the parts of their scripts as they are now
 abbrev pub renewed : List Part → List Share → List Share
 renewed parts [] = []
-renewed parts (share ∷ shares) = record share { part = part_or (slice_get parts share.script) share.part } ∷ renewed parts shares
+renewed parts (share ∷ shares) =
+    record share { part = part_or (slice_get parts share.script) share.part } ∷ renewed parts shares
 
 -- each of some journals begins a journal
 abbrev pub AllBegin : List (List ChangeLine) → List ChangeLine → Type 0
@@ -46,7 +49,17 @@ AllBegin (seen ∷ others) journal = IsPrefix seen journal × AllBegin others jo
 
 -- the view of a queue's first pass
 abbrev pub first_view : View
-first_view = record { role = Fresh; list = None; nodes = 0; passes = 0; count = 0; journal = []; joined = []; shares = []; turn = None }
+first_view = record {
+  role = Fresh;
+  list = None;
+  nodes = 0;
+  passes = 0;
+  count = 0;
+  journal = [];
+  joined = [];
+  shares = [];
+  turn = None;
+}
 
 -- the pass was not taken in
 abbrev pub is_unspent : Role → Bool
@@ -64,13 +77,24 @@ HasAll v = (script : ℕ) → script < v.count → has_share script v.shares ≡
 
 -- after the first push all scripts belong to the pass, which hands them out
 abbrev pub opened_view : TurnState → View
-opened_view x = record { role = Chief; list = Some x.writer.table; nodes = x.writer.nodes; passes = x.writer.passes; count = length x.parts; journal = x.journal; joined = []; shares = shares_from 0 x.parts; turn = None }
+opened_view x = record {
+  role = Chief;
+  list = Some x.writer.table;
+  nodes = x.writer.nodes;
+  passes = x.writer.passes;
+  count = length x.parts;
+  journal = x.journal;
+  joined = [];
+  shares = shares_from 0 x.parts;
+  turn = None;
+}
 
 -- after the turn was taken
 abbrev pub taken_view : View → TurnState → View
 taken_view v x = record v { journal = x.journal; turn = Some (face_of x) }
 
--- what is known of a turn that was taken: it is that of the list, of these sizes, its journal goes on from each one that was seen, and it has the pass's scripts as far as the pass knows
+-- what is known of a turn that was taken: it is that of the list, of these sizes, its journal goes
+-- on from each one that was seen, and it has the pass's scripts as far as the pass knows
 pub record IsTaken (v : View) (x : TurnState) : Type 0 where
   pub list : v.list ≡ Some x.writer.table
   pub sizes : (v.nodes ≡ x.writer.nodes) × (v.passes ≡ x.writer.passes)
@@ -79,7 +103,8 @@ pub record IsTaken (v : View) (x : TurnState) : Type 0 where
   pub joined : AllBegin v.joined x.journal
   pub progress : Agrees x.parts v.shares
 
--- what is asked of a turn that is given back: its journal goes on from the one that was taken, and no other script went on
+-- what is asked of a turn that is given back: its journal goes on from the one that was taken, and
+-- no other script went on
 pub record MayGive (v : View) (x : TurnState) : Type 0 where
   pub unspent : IsUnspent v
   pub list : v.list ≡ Some x.writer.table
@@ -88,7 +113,8 @@ pub record MayGive (v : View) (x : TurnState) : Type 0 where
   pub has : v.turn ≡ Some face
   pub journal : IsPrefix face.journal x.journal
   pub count : length x.parts ≡ length face.parts
-  pub others : (script : ℕ) → has_share script v.shares ≡ false → slice_get x.parts script ≡ slice_get face.parts script
+  pub others : (script : ℕ) → has_share script v.shares ≡ false →
+      slice_get x.parts script ≡ slice_get face.parts script
 
 -- after it was given back
 abbrev pub given_view : View → TurnState → View
@@ -112,10 +138,23 @@ worker_view v = record v { role = Worker; joined = []; shares = first_share v.sh
 
 -- after a worker was taken in
 abbrev pub both_view : View → View → View
-both_view v w = record v { joined = w.journal ∷ (w.joined ++ v.joined); shares = w.shares ++ v.shares }
+both_view v w = record v {
+  joined = w.journal ∷ (w.joined ++ v.joined);
+  shares = w.shares ++ v.shares;
+}
 
 abbrev pub spent_view : View
-spent_view = record { role = Spent; list = None; nodes = 0; passes = 0; count = 0; journal = []; joined = []; shares = []; turn = None }
+spent_view = record {
+  role = Spent;
+  list = None;
+  nodes = 0;
+  passes = 0;
+  count = 0;
+  journal = [];
+  joined = [];
+  shares = [];
+  turn = None;
+}
 
 -- where all scripts belong to the chief, who has not the turn, it is in the queue
 abbrev pub MustHold : View → List TurnState → Type 0

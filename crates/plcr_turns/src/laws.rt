@@ -1,4 +1,5 @@
-//! What the steps of the queue come to for a chief and its workers, each as the contract of a function that does nothing.
+//! What the steps of the queue come to for a chief and its workers, each as the contract of a
+//! function that does nothing.
 ghost use Rattle.plcr_turns.specs.Journals.{JournalIsTheChanges, EachLineDid};
 ghost use Rattle.plcr_turns.specs.Gathering.{NothingHanded, HandsNext, NobodyGathered, GathersNext, HasAllAgain, EachLineOnce};
 

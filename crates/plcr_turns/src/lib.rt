@@ -1,6 +1,7 @@
-//! The turn of an image list on threads: the writer of the list, the journal of what it was asked, and how far each script
-//! has come. It goes from worker to worker through a queue with one place, whose rule ties what the turn has to what each
-//! worker knows. `docs/threads-and-queue.md` has the picture.
+//! The turn of an image list on threads: the writer of the list, the journal of what it was asked,
+//! and how far each script has come. It goes from worker to worker through a queue with one place,
+//! whose rule ties what the turn has to what each worker knows. `docs/threads-and-queue.md` has the
+//! picture.
 #![tactic(auto)]
 
 mod handing;

@@ -20,8 +20,8 @@ pub enum Said {
     Worn { changes: u32 },
     /// The image's name has this many bytes, which are too many.
     Long { len: usize },
-    /// No node is free: the images in the list, the nodes that are held back, and the changes made with the number of
-    /// passes that were found announced.
+    /// No node is free: the images in the list, the nodes that are held back, and the changes made
+    /// with the number of passes that were found announced.
     Full { live: u32, held: u32, seen: u64 },
     /// No image of the list has the header.
     NotLoaded,
@@ -38,7 +38,8 @@ pub struct Wanted {
     pub asked: Asked,
 }
 
-/// A line of the journal: the number of its script, from 0, the line that was applied, and what it came to.
+/// A line of the journal: the number of its script, from 0, the line that was applied, and what it
+/// came to.
 #[derive(Clone, Copy, Debug, PartialEq, Eq)]
 pub struct ChangeLine {
     pub script: u32,
@@ -46,10 +47,12 @@ pub struct ChangeLine {
     pub said: Said,
 }
 
-/// A load or an unload that is asked of the writer. Whether there is an image at the header was tested before.
+/// A load or an unload that is asked of the writer. Whether there is an image at the header was
+/// tested before.
 #[derive(Clone, Copy, Debug)]
 pub enum Request<'a> {
-    /// The image with this header and name is loaded, unless it has a fault, which is given by its number.
+    /// The image with this header and name is loaded, unless it has a fault, which is given by its
+    /// number.
     Load {
         header: u64,
         name: &'a [u8],

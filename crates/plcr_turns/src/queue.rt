@@ -21,12 +21,14 @@ pub type TurnPass = Pass<Turn, View>;
 
 /// A queue with no turn yet, and its first pass.
 pub fn make(alloc: Global) -> Result<(TurnQueue, TurnPass), AllocError>
-    ensures { IfOk result (λ q. (ruled_capacity q.0 ≡ 1) × IsPassOf q.0 q.1 × (view q.1 ≡ first_view)) }
+    ensures { IfOk result (λ q. (ruled_capacity q.0 ≡ 1) × IsPassOf q.0 q.1
+        × (view q.1 ≡ first_view)) }
 {
     TurnQueue::ruled(alloc, 1)
 }
 
-/// Puts the turn into a queue that was just made. All scripts belong to this pass, until they are handed out.
+/// Puts the turn into a queue that was just made. All scripts belong to this pass, until they are
+/// handed out.
 pub fn start<R: Wait>(rt: &R, queue: &TurnQueue, pass: &mut TurnPass, turn: Turn)
     requires queue { IsPassOf queue.now pass.old × (ruled_capacity queue.now ≡ 1) }
     requires first { view pass.old ≡ first_view }
@@ -57,7 +59,8 @@ pub fn take<R: Wait>(rt: &R, queue: &TurnQueue, pass: &mut TurnPass) -> Turn
     unreachable!()
 }
 
-/// Gives the turn back, after at most its own scripts went on. The queue is empty, so it is never refused.
+/// Gives the turn back, after at most its own scripts went on. The queue is empty, so it is never
+/// refused.
 pub fn give<R: Wait>(rt: &R, queue: &TurnQueue, pass: &mut TurnPass, turn: Turn)
     requires queue { IsPassOf queue.now pass.old × (ruled_capacity queue.now ≡ 1) }
     requires may { MayGive (view pass.old) turn }
@@ -70,7 +73,8 @@ pub fn give<R: Wait>(rt: &R, queue: &TurnQueue, pass: &mut TurnPass, turn: Turn)
     }
 }
 
-/// Takes the turn by the pass that has all scripts again. It is in the queue, so there is nobody to wait for.
+/// Takes the turn by the pass that has all scripts again. It is in the queue, so there is nobody to
+/// wait for.
 pub fn take_last<R: Wait>(rt: &R, queue: &TurnQueue, pass: &mut TurnPass) -> Turn
     requires queue { IsPassOf queue.now pass.old }
     requires chief { ((view pass.old).role ≡ Chief) × ((view pass.old).turn ≡ None) }

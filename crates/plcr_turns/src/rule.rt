@@ -3,8 +3,8 @@ use crate::turn::Turn;
 use crate::view::View;
 use crossbeam_queue::protocol::{Join, Lesson, Outcome, Protocol, Split};
 
-/// The rule: the turn is in the queue or with one pass, each script belongs to one pass, which knows how far it has come,
-/// and what a pass saw of the journal begins it.
+/// The rule: the turn is in the queue or with one pass, each script belongs to one pass, which
+/// knows how far it has come, and what a pass saw of the journal begins it.
 pub struct OneTurn;
 
 impl Protocol<Turn, View> for OneTurn {

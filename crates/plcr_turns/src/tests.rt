@@ -51,9 +51,11 @@ impl Runner {
     fn run<R: Wait>(&mut self, rt: &R, queue: &TurnQueue, list: &ImageList)
         requires queue { IsPassOf queue.now self.old.turns × (ruled_capacity queue.now ≡ 1) }
         requires few { self.old.script < 64 }
-        requires ready { IsReady list.now self.old.script 0 LINES (view self.old.turns) self.old.image }
+        requires ready { IsReady list.now self.old.script 0 LINES (view self.old.turns)
+            self.old.image }
         ensures queue { IsSamePass self.old.turns self.new.turns }
-        ensures worker { ((view self.new.turns).role ≡ Worker) × ((view self.new.turns).turn ≡ None) }
+        ensures worker { ((view self.new.turns).role ≡ Worker)
+            × ((view self.new.turns).turn ≡ None) }
         ensures list { self.new.image.table ≡ list.now }
     {
         for applied in 0..LINES {
@@ -82,8 +84,11 @@ fn hire(
     requires totals { All (λ t. t ≡ LINES) totals.now }
     requires images { All (λ (i : WalkerState). i.table ≡ list.now) images.items }
     ensures queue { OnOk result (IsSamePass pass.old pass.new) }
-    ensures chief { OnOk result (((view pass.new).role ≡ Chief) × ((view pass.new).turn ≡ None) × ((view pass.new).list ≡ Some list.now)) }
-    ensures ready { IfOk result (λ all. All (λ (r : Runner). IsPassOf queue.now r.turns × (r.script < 64) × IsReady list.now r.script 0 LINES (view r.turns) r.image) all.items) }
+    ensures chief { OnOk result (((view pass.new).role ≡ Chief) × ((view pass.new).turn ≡ None)
+        × ((view pass.new).list ≡ Some list.now)) }
+    ensures ready { IfOk result
+        (λ all. All (λ (r : Runner). IsPassOf queue.now r.turns × (r.script < 64)
+        × IsReady list.now r.script 0 LINES (view r.turns) r.image) all.items) }
 {
     let _ = list;
     let mut images = images;
@@ -110,16 +115,23 @@ fn run_all<R: Threads + Wait + Sync>(
     runners: &mut [Runner],
 )
     requires queue { ruled_capacity queue.now ≡ 1 }
-    requires ready { All (λ (r : Runner). IsPassOf queue.now r.turns × (r.script < 64) × IsReady list.now r.script 0 LINES (view r.turns) r.image) runners.old }
-    ensures done { All (λ (r : Runner). IsPassOf queue.now r.turns × ((view r.turns).role ≡ Worker) × ((view r.turns).turn ≡ None) × (r.image.table ≡ list.now)) runners.new }
+    requires ready { All (λ (r : Runner). IsPassOf queue.now r.turns × (r.script < 64)
+        × IsReady list.now r.script 0 LINES (view r.turns) r.image) runners.old }
+    ensures done { All (λ (r : Runner). IsPassOf queue.now r.turns × ((view r.turns).role ≡ Worker)
+        × ((view r.turns).turn ≡ None) × (r.image.table ≡ list.now)) runners.new }
 {
     thread::for_each_mut(
         rt,
         runners,
         64,
         &|_, runner: &mut Runner|
-            requires { (ruled_capacity queue.now ≡ 1) × IsPassOf queue.now runner.old.turns × (runner.old.script < 64) × IsReady list.now runner.old.script 0 LINES (view runner.old.turns) runner.old.image }
-            ensures { IsPassOf queue.entry.now runner.new.turns × ((view runner.new.turns).role ≡ Worker) × ((view runner.new.turns).turn ≡ None) × (runner.new.image.table ≡ list.entry.now) }
+            requires { (ruled_capacity queue.now ≡ 1) × IsPassOf queue.now runner.old.turns
+                × (runner.old.script < 64)
+                × IsReady list.now runner.old.script 0 LINES (view runner.old.turns)
+                runner.old.image }
+            ensures { IsPassOf queue.entry.now runner.new.turns
+                × ((view runner.new.turns).role ≡ Worker) × ((view runner.new.turns).turn ≡ None)
+                × (runner.new.image.table ≡ list.entry.now) }
         { runner.run(rt, queue, list) },
     );
 }
@@ -132,8 +144,10 @@ fn run_each<R: Threads + Wait + Sync>(
     runners: Vec<Runner>,
 ) -> Vec<Runner>
     requires queue { ruled_capacity queue.now ≡ 1 }
-    requires ready { All (λ (r : Runner). IsPassOf queue.now r.turns × (r.script < 64) × IsReady list.now r.script 0 LINES (view r.turns) r.image) runners.items }
-    ensures done { All (λ (r : Runner). IsPassOf queue.now r.turns × ((view r.turns).role ≡ Worker) × ((view r.turns).turn ≡ None) × (r.image.table ≡ list.now)) result.items }
+    requires ready { All (λ (r : Runner). IsPassOf queue.now r.turns × (r.script < 64)
+        × IsReady list.now r.script 0 LINES (view r.turns) r.image) runners.items }
+    ensures done { All (λ (r : Runner). IsPassOf queue.now r.turns × ((view r.turns).role ≡ Worker)
+        × ((view r.turns).turn ≡ None) × (r.image.table ≡ list.now)) result.items }
 {
     let mut runners = runners;
     run_all(rt, queue, list, runners.as_mut_slice());
@@ -149,10 +163,13 @@ fn gather(
     runners: Vec<Runner>,
 ) -> Result<Vec<Pass>, AllocError>
     requires queue { IsPassOf queue.now pass.old }
-    requires chief { ((view pass.old).role ≡ Chief) × ((view pass.old).turn ≡ None) × ((view pass.old).list ≡ Some list.now) }
-    requires done { All (λ (r : Runner). IsPassOf queue.now r.turns × ((view r.turns).role ≡ Worker) × ((view r.turns).turn ≡ None) × (r.image.table ≡ list.now)) runners.items }
+    requires chief { ((view pass.old).role ≡ Chief) × ((view pass.old).turn ≡ None)
+        × ((view pass.old).list ≡ Some list.now) }
+    requires done { All (λ (r : Runner). IsPassOf queue.now r.turns × ((view r.turns).role ≡ Worker)
+        × ((view r.turns).turn ≡ None) × (r.image.table ≡ list.now)) runners.items }
     ensures queue { OnOk result (IsSamePass pass.old pass.new) }
-    ensures chief { OnOk result (((view pass.new).role ≡ Chief) × ((view pass.new).turn ≡ None) × ((view pass.new).list ≡ Some list.now)) }
+    ensures chief { OnOk result (((view pass.new).role ≡ Chief) × ((view pass.new).turn ≡ None)
+        × ((view pass.new).list ≡ Some list.now)) }
     ensures images { IfOk result (λ all. All (λ (i : WalkerState). i.table ≡ list.now) all.items) }
 {
     let _ = list;
@@ -187,8 +204,8 @@ fn meet_all(list: &ImageList, writer: Writer, images: Vec<Pass>) -> Writer
 /// How many nodes the list has: fewer than the images that are wanted.
 const NODES: u32 = 16;
 
-// What a load or an unload of a list by itself comes to, after this list was left by so many loads and changes. No pass is
-// ever inside, so nothing is held back.
+// What a load or an unload of a list by itself comes to, after this list was left by so many loads
+// and changes. No pass is ever inside, so nothing is held back.
 fn expected(
     list: &mut Vec<(u64, u32)>,
     asked: Asked,

@@ -15,9 +15,9 @@ pub struct Part {
     pub total: u32,
 }
 
-/// The writer with the journal and the progress of each script. It lies in the queue or with one worker. Contracts see what
-/// the writer knows, the lines of the journal in the order in which they were applied, and the parts in the order of their
-/// scripts.
+/// The writer with the journal and the progress of each script. It lies in the queue or with one
+/// worker. Contracts see what the writer knows, the lines of the journal in the order in which they
+/// were applied, and the parts in the order of their scripts.
 #[derive(Drop)]
 pub struct Turn {
     writer: Writer,
@@ -33,7 +33,8 @@ impl Model for Turn {
 
     ghost view = { λ t. turn_state t.writer t.journal.items t.parts.items };
 
-    ghost invariant = { λ t. IsTurn (turn_state t.writer t.journal.items t.parts.items) × (vec_len t.journal + room_wanted t.parts.items ≤ vec_capacity t.journal) };
+    ghost invariant = { λ t. IsTurn (turn_state t.writer t.journal.items t.parts.items)
+        × (vec_len t.journal + room_wanted t.parts.items ≤ vec_capacity t.journal) };
 }
 
 // So many lines in all.
@@ -48,8 +49,8 @@ fn sum_of(totals: &[u32]) -> Option<usize>
 }
 
 impl Turn {
-    /// The turn of a list that was just opened, for scripts that have so many loads and unloads each. The room for the
-    /// whole journal is taken here.
+    /// The turn of a list that was just opened, for scripts that have so many loads and unloads
+    /// each. The room for the whole journal is taken here.
     pub fn open(alloc: Global, writer: Writer, totals: &[u32]) -> Result<Turn, AllocError>
         requires { is_new writer }
         ensures turn { IfOk result (λ turn. turn ≡ opened_turn writer totals.now) }
@@ -99,7 +100,8 @@ impl Turn {
         self.writer.note(list)
     }
 
-    /// Applies the next line of a script that has one left, and writes it into the journal. Takes no memory.
+    /// Applies the next line of a script that has one left, and writes it into the journal. Takes
+    /// no memory.
     pub fn apply(self, list: &ImageList, script: u32, line: u32, request: &Request) -> Turn
         requires list { self.writer.table ≡ list.now }
         requires left { HasLeft self.parts script }

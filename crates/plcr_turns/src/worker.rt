@@ -10,7 +10,8 @@ use crate::queue::{TurnPass, TurnQueue, give, take};
 use plcr_imagelist::{Hold, ImageList, Note, Pass};
 use std::sync::Wait;
 
-/// A line of a script: the numbers of both, the script's from 0 and the line's from 1, and what is asked.
+/// A line of a script: the numbers of both, the script's from 0 and the line's from 1, and what is
+/// asked.
 #[derive(Clone, Copy, Debug)]
 pub struct ScriptLine<'a> {
     pub script: u32,
@@ -18,8 +19,9 @@ pub struct ScriptLine<'a> {
     pub request: Request<'a>,
 }
 
-/// Waits for the turn, tells its writer what the note's token has seen, applies the line, which is the next of the worker's
-/// script, and gives the turn back. The note tells what the writer has seen then.
+/// Waits for the turn, tells its writer what the note's token has seen, applies the line, which is
+/// the next of the worker's script, and gives the turn back. The note tells what the writer has
+/// seen then.
 pub fn apply_line<R: Wait>(
     rt: &R,
     queue: &TurnQueue,
@@ -34,7 +36,8 @@ pub fn apply_line<R: Wait>(
     requires left { HasNext (view pass.old) }
     ensures queue { IsSamePass pass.old pass.new }
     ensures note { result.table ≡ list.now }
-    ensures applies { AppliesLine line.now (view pass.old) note.history (view pass.new) result.history result.names }
+    ensures applies { AppliesLine line.now (view pass.old) note.history (view pass.new)
+        result.history result.names }
     ensures working { IsWorking line.now.script list.now (view pass.new) }
 {
     let mut turn = take(rt, queue, pass);
@@ -45,8 +48,8 @@ pub fn apply_line<R: Wait>(
     known
 }
 
-/// Applies the next line of a worker whose image pass is out: both the writer and this pass then know what the other had
-/// seen.
+/// Applies the next line of a worker whose image pass is out: both the writer and this pass then
+/// know what the other had seen.
 pub fn apply_outside<R: Wait>(
     rt: &R,
     queue: &TurnQueue,
@@ -61,7 +64,8 @@ pub fn apply_outside<R: Wait>(
     requires left { HasNext (view pass.old) }
     ensures queue { IsSamePass pass.old pass.new }
     ensures list { image.new.table ≡ image.old.table }
-    ensures applies { AppliesLine line.now (view pass.old) image.old.history (view pass.new) image.new.history image.new.names }
+    ensures applies { AppliesLine line.now (view pass.old) image.old.history (view pass.new)
+        image.new.history image.new.names }
     ensures working { IsWorking line.now.script list.now (view pass.new) }
     ensures sees { OnlySees image.old image.new }
 {
@@ -85,7 +89,8 @@ pub fn apply_inside<R: Wait>(
     requires left { HasNext (view pass.old) }
     ensures queue { IsSamePass pass.old pass.new }
     ensures list { hold.new.walker.table ≡ hold.old.walker.table }
-    ensures applies { AppliesLine line.now (view pass.old) hold.old.walker.history (view pass.new) hold.new.walker.history hold.new.walker.names }
+    ensures applies { AppliesLine line.now (view pass.old) hold.old.walker.history (view pass.new)
+        hold.new.walker.history hold.new.walker.names }
     ensures working { IsWorking line.now.script list.now (view pass.new) }
     ensures sees { OnlySees hold.old.walker hold.new.walker }
     ensures walk { (hold.new.met ≡ hold.old.met) × (hold.new.ended ≡ hold.old.ended) }

@@ -5,4 +5,4 @@ pub mod Pen
 pub mod Reading
 pub mod Spelled
 pub mod Sinks
-pub mod Shown
+pub mod inner

@@ -1,4 +1,5 @@
--- A message as the list of its fields, and the bytes that spell it (Protocol Buffers documentation, "Encoding").
+-- A message as the list of its fields, and the bytes that spell it (Protocol Buffers documentation,
+-- "Encoding").
 use Rattle.std.specs.Prelude.{ℕ, ◌<◌, ◌^◌, List, [], ◌∷◌, ◌++◌, length}
 use Rattle.std.specs.Int.{w32, w64, to_le_bytes}
 use Rattle.plcr_wire.specs.Varint.{varint, tag}
@@ -6,7 +7,8 @@ use Rattle.plcr_wire.specs.Wires.{wire_number}
 use Rattle.plcr_wire.specs.declared.wires.Wire.{Wire}
 use Rattle.plcr_wire.specs.declared.wires.Wire.TheVariants as wires
 
--- A value of one of the four wire types in use. A text, a run of bytes and a submessage are the bytes of their spelling.
+-- A value of one of the four wire types in use. A text, a run of bytes and a submessage are the
+-- bytes of their spelling.
 pub data Value : Type 0 where
   Number : ℕ → Value
   Fixed64 : ℕ → Value

@@ -5,7 +5,8 @@ use Rattle.std.specs.Io.KnownBytes.{append_known}
 use Rattle.plcr_base.specs.Causes.{Rose}
 use Rattle.plcr_base.specs.Told.{AppendsUpTo, AppendsProperFront}
 
--- What became of the bytes given: their number, which stays at its greatest value; or what the sink tells, and what is held for it.
+-- What became of the bytes given: their number, which stays at its greatest value; or what the sink
+-- tells, and what is held for it.
 pub data Page : Type 0 where
   Counted : ℕ → Page
   Given : Option (List ℕ) → List ℕ → Page
@@ -39,7 +40,8 @@ abbrev pub PenShows : Bool → Page → Option (List ℕ) → List ℕ → Type 
 PenShows false = Shows
 PenShows true = IsCut
 
--- It shows some list of bytes since some moment, so that what is said of all that it may show says something of it.
+-- It shows some list of bytes since some moment, so that what is said of all that it may show says
+-- something of it.
 pub record IsShown (pen : Pen) : Type 0 where
   pub base : Option (List ℕ)
   pub given : List ℕ
@@ -47,7 +49,8 @@ pub record IsShown (pen : Pen) : Type 0 where
 
 -- Between these two moments exactly these bytes were put.
 pub record Puts (old new : Pen) (bytes : List ℕ) : Type 0 where
-  pub each : (base : Option (List ℕ)) (given : List ℕ) → Shows old.page base given → Shows new.page base (given ++ bytes)
+  pub each : (base : Option (List ℕ)) (given : List ℕ) → Shows old.page base given →
+      Shows new.page base (given ++ bytes)
   pub later : old.faults ≤ new.faults
   pub failed : new.failed ≡ old.failed
   pub sink : new.sink ≡ old.sink
@@ -61,9 +64,11 @@ pub record PutsProperFront (old new : Pen) (bytes : List ℕ) : Type 0 where
   pub left : 0 < length rest
   pub put : Puts old new front
 
--- Between these two moments a pen that remembers failures was given these bytes. It failed only where the count of failures rose.
+-- Between these two moments a pen that remembers failures was given these bytes. It failed only
+-- where the count of failures rose.
 pub record Wrote (old new : Pen) (bytes : List ℕ) : Type 0 where
-  pub each : (base : Option (List ℕ)) (given : List ℕ) → PenShows old.failed old.page base given → PenShows new.failed new.page base (given ++ bytes)
+  pub each : (base : Option (List ℕ)) (given : List ℕ) → PenShows old.failed old.page base given →
+      PenShows new.failed new.page base (given ++ bytes)
   pub later : old.faults ≤ new.faults
   pub cause : new.failed ≡ true → (old.failed ≡ true) ⊎ Rose old.faults new.faults
   pub sink : new.sink ≡ old.sink
@@ -71,7 +76,14 @@ pub record Wrote (old new : Pen) (bytes : List ℕ) : Type 0 where
 
 -- a pen over a borrowed sink: what the sink tells, its failures, its mark, and what is held for it
 abbrev pub sink_pen : GName → Option (List ℕ) → ℕ → List ℕ → List ℕ → Bool → Pen
-sink_pen name told faults mark held failed = record { page = Given told held; faults = faults; failed = failed; sink = Some name; mark = mark }
+sink_pen name told faults mark held failed =
+    record {
+      page = Given told held;
+      faults = faults;
+      failed = failed;
+      sink = Some name;
+      mark = mark;
+    }
 
 -- nothing is held back from the sink
 abbrev pub HoldsNothing : Page → Type 0
@@ -80,8 +92,10 @@ HoldsNothing (Given told held) = held ≡ []
 
 -- Of what this pen was given since the sink told `base`, the sink in the end has all.
 abbrev pub Ended : Pen → Option (List ℕ) → Type 0
-Ended pen told = (base : Option (List ℕ)) (bytes : List ℕ) → PenShows pen.failed pen.page base bytes → told ≡ append_known base bytes
+Ended pen told = (base : Option (List ℕ)) (bytes : List ℕ) →
+    PenShows pen.failed pen.page base bytes → told ≡ append_known base bytes
 
 -- Of what this pen was given since the sink told `base`, the sink in the end has a front, not all.
 abbrev pub Lost : Pen → Option (List ℕ) → Type 0
-Lost pen told = (base : Option (List ℕ)) (bytes : List ℕ) → PenShows pen.failed pen.page base bytes → AppendsProperFront base told bytes
+Lost pen told = (base : Option (List ℕ)) (bytes : List ℕ) →
+    PenShows pen.failed pen.page base bytes → AppendsProperFront base told bytes

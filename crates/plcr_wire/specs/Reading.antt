@@ -1,5 +1,6 @@
--- Reading one field from the left, with the first fault that is met (Protocol Buffers documentation, "Encoding").
--- Only the end of the message is passed down: a list that is left begins at `end - length bytes`.
+-- Reading one field from the left, with the first fault that is met (Protocol Buffers
+-- documentation, "Encoding"). Only the end of the message is passed down: a list that is left
+-- begins at `end - length bytes`.
 use Rattle.std.specs.Prelude.{◌≡◌, ℕ, Option, Some, None, ok_or, zero, suc, ◌+◌, ◌-◌, ◌*◌, ◌/◌, ◌%◌, ◌^◌, ◌||◌, ◌==◌, List, [], ◌∷◌, length, take, drop, slice_range, Result, Ok, Err, nat_lt, if◌then◌else◌}
 use Rattle.std.specs.Int.{Width, w32, w64, byte_len, from_le_bytes}
 use Rattle.plcr_base.specs.Chains.{◌>>=◌}
@@ -22,18 +23,21 @@ abbrev pub Returns : {X Y E : Type 0} → (X → Y) → Result X E → Result Y 
 Returns view (Ok x) read = read ≡ Ok (view x)
 Returns view (Err e) read = read ≡ Err e
 
--- A varint, of which k more groups may follow the next: its number, and what is left. The tenth group has one bit.
+-- A varint, of which k more groups may follow the next: its number, and what is left. The tenth
+-- group has one bit.
 abbrev pub varint_at : ℕ → ℕ → ℕ → List ℕ → Result (ℕ × List ℕ) WireFault
 varint_at end first k [] = Err (Truncated end)
 varint_at end first zero (b ∷ bs) = if nat_lt b 2 then Ok (b, bs) else Err (BadVarint first)
-varint_at end first (suc k) (b ∷ bs) = if nat_lt b 128 then Ok (b, bs) else (varint_at end first k bs >>= λ n. Ok (b - 128 + 128 * n.0, n.1))
+varint_at end first (suc k) (b ∷ bs) = if nat_lt b 128 then Ok (b, bs)
+    else (varint_at end first k bs >>= λ n. Ok (b - 128 + 128 * n.0, n.1))
 
 unfoldable pub number_at : ℕ → List ℕ → Result (ℕ × List ℕ) WireFault
 number_at end bytes = varint_at end (end - length bytes) (VARINT_BYTES - 1) bytes
 
 -- a number of a fixed width, lowest byte first
 unfoldable pub fixed_at : Width → ℕ → List ℕ → Result (ℕ × List ℕ) WireFault
-fixed_at w end bytes = if nat_lt (length bytes) (byte_len w) then Err (Truncated end) else Ok (from_le_bytes w (take (byte_len w) bytes), drop (byte_len w) bytes)
+fixed_at w end bytes = if nat_lt (length bytes) (byte_len w) then Err (Truncated end)
+    else Ok (from_le_bytes w (take (byte_len w) bytes), drop (byte_len w) bytes)
 
 -- a length, and so many bytes
 unfoldable pub text_at : ℕ → List ℕ → Result (List ℕ × List ℕ) WireFault
@@ -91,9 +95,15 @@ placed to (message.Fixed64 n) = Fixed64 n
 placed to (message.Bytes bytes) = Span (to - length bytes) to
 placed to (message.Fixed32 n) = Fixed32 n
 
--- the field that these bytes, up to `end`, begin with, with places for its bytes and for what is left
+-- the field that these bytes, up to `end`, begin with, with places for its bytes and for what is
+-- left
 unfoldable pub found_at : ℕ → List ℕ → Result Field WireFault
-found_at end bytes = field_at end bytes >>= λ f. Ok (record { number = f.0.number; value = placed (end - length f.1) f.0.value; next = end - length f.1 })
+found_at end bytes = field_at end bytes >>= λ f.
+    Ok (record {
+      number = f.0.number;
+      value = placed (end - length f.1) f.0.value;
+      next = end - length f.1;
+    })
 
 -- the value that stands at these places
 abbrev pub value_in : List ℕ → Value → message.Value
@@ -104,4 +114,9 @@ value_in bytes (Fixed32 n) = message.Fixed32 n
 
 -- the message from `at` to `end` begins with this field, and what is left begins at the next place
 abbrev pub Stands : List ℕ → ℕ → ℕ → Field → Type 0
-Stands bytes at end f = field_at end (slice_range bytes at end) ≡ Ok (record { number = f.number; value = value_in bytes f.value }, slice_range bytes f.next end)
+Stands bytes at end f =
+    field_at end (slice_range bytes at end)
+    ≡ Ok (
+      record { number = f.number; value = value_in bytes f.value },
+      slice_range bytes f.next end,
+    )

@@ -1,4 +1,5 @@
--- What the bytes of a field are, long or short as its varints may be (Protocol Buffers documentation, "Encoding").
+-- What the bytes of a field are, long or short as its varints may be (Protocol Buffers
+-- documentation, "Encoding").
 use Rattle.std.specs.Prelude.{◌≡◌, ◌≤◌, ℕ, ◌+◌, ◌*◌, List, ◌++◌, length}
 use Rattle.std.specs.Int.{w32, w64, to_le_bytes}
 use Rattle.plcr_wire.specs.Varint.{IsVarint}
@@ -16,7 +17,8 @@ pub record StartsWithNumber (bytes : List ℕ) (n : ℕ) (rest : List ℕ) (most
 abbrev pub StartsWithValue : List ℕ → Value → List ℕ → Type 0
 StartsWithValue bytes (Number n) rest = StartsWithNumber bytes n rest VARINT_BYTES
 StartsWithValue bytes (Fixed64 n) rest = bytes ≡ to_le_bytes w64 n ++ rest
-StartsWithValue bytes (Bytes text) rest = StartsWithNumber bytes (length text) (text ++ rest) VARINT_BYTES
+StartsWithValue bytes (Bytes text) rest =
+    StartsWithNumber bytes (length text) (text ++ rest) VARINT_BYTES
 StartsWithValue bytes (Fixed32 n) rest = bytes ≡ to_le_bytes w32 n ++ rest
 
 -- a varint of the field's number and wire type, its value, and then this rest

@@ -26,8 +26,8 @@ pub type BufferedText<'a, K> = Pieces<'a, K, TEXT_PIECE>;
 
 /// Gathers bytes, and puts them to a sink in pieces of `ROOM` bytes, and the rest at the end.
 ///
-/// It stands directly on the borrow of the sink, so that its owner learns what the sink has at the end. It can't be
-/// dropped: only `finish` ends it, which tells whether bytes were lost.
+/// It stands directly on the borrow of the sink, so that its owner learns what the sink has at the
+/// end. It can't be dropped: only `finish` ends it, which tells whether bytes were lost.
 pub struct Pieces<'a, K: Sink, const ROOM: usize> {
     sink: &'a mut K,
     held: ArrayVec<u8, ROOM>,
@@ -43,7 +43,8 @@ impl<'a, K: Sink, const ROOM: usize> Pieces<'a, K, ROOM> {
         requires { 0 < ROOM }
         ensures same_sink { sink_of result ≡ sink.entry.ghost_name }
         ensures pen { ⟦<Pieces<'a, K, ROOM> as Put>⟧.pen result
-            ≡ sink_pen sink.entry.ghost_name (K.written sink.old) (K.faults sink.old) (K.mark sink.old) [] false }
+            ≡ sink_pen sink.entry.ghost_name (K.written sink.old) (K.faults sink.old)
+            (K.mark sink.old) [] false }
     {
         Pieces {
             sink,
@@ -52,23 +53,29 @@ impl<'a, K: Sink, const ROOM: usize> Pieces<'a, K, ROOM> {
         }
     }
 
-    // Puts what is held. At `Ok` nothing is held any more; at `Err` what the sink didn't take still is.
+    // Puts what is held. At `Ok` nothing is held any more; at `Err` what the sink didn't take still
+    // is.
     fn pass_on(&mut self) -> Result<(), PutFailed>
-        ensures given { Puts (⟦<Pieces<'a, K, ROOM> as Put>⟧.pen self.old) (⟦<Pieces<'a, K, ROOM> as Put>⟧.pen self.new) [] }
+        ensures given { Puts (⟦<Pieces<'a, K, ROOM> as Put>⟧.pen self.old)
+            (⟦<Pieces<'a, K, ROOM> as Put>⟧.pen self.new) [] }
         ensures ok { OnOk result (self.new.held.items ≡ []) }
-        ensures cause { OnErr result (Rose (⟦<Pieces<'a, K, ROOM> as Put>⟧.pen self.old).faults (⟦<Pieces<'a, K, ROOM> as Put>⟧.pen self.new).faults) }
+        ensures cause { OnErr result (Rose (⟦<Pieces<'a, K, ROOM> as Put>⟧.pen self.old).faults
+            (⟦<Pieces<'a, K, ROOM> as Put>⟧.pen self.new).faults) }
         ensures same_sink { sink_of self.new ≡ sink_of self.old }
     {
         put_held(self.sink, &mut self.held)
     }
 
-    /// Puts what is held. At `Ok` nothing is held any more, and none was lost before; at `Err` what the sink didn't
-    /// take still is, or bytes were lost before.
+    /// Puts what is held. At `Ok` nothing is held any more, and none was lost before; at `Err` what
+    /// the sink didn't take still is, or bytes were lost before.
     pub fn flush(&mut self) -> Result<(), PutFailed>
-        ensures given { Puts (⟦<Pieces<'a, K, ROOM> as Put>⟧.pen self.old) (⟦<Pieces<'a, K, ROOM> as Put>⟧.pen self.new) [] }
+        ensures given { Puts (⟦<Pieces<'a, K, ROOM> as Put>⟧.pen self.old)
+            (⟦<Pieces<'a, K, ROOM> as Put>⟧.pen self.new) [] }
         ensures ok { OnOk result (HoldsNothing (⟦<Pieces<'a, K, ROOM> as Put>⟧.pen self.new).page) }
         ensures whole { OnOk result ((⟦<Pieces<'a, K, ROOM> as Put>⟧.pen self.old).failed ≡ false) }
-        ensures cause { OnErr result (((⟦<Pieces<'a, K, ROOM> as Put>⟧.pen self.old).failed ≡ true) ⊎ Rose (⟦<Pieces<'a, K, ROOM> as Put>⟧.pen self.old).faults (⟦<Pieces<'a, K, ROOM> as Put>⟧.pen self.new).faults) }
+        ensures cause { OnErr result (((⟦<Pieces<'a, K, ROOM> as Put>⟧.pen self.old).failed ≡ true)
+            ⊎ Rose (⟦<Pieces<'a, K, ROOM> as Put>⟧.pen self.old).faults
+            (⟦<Pieces<'a, K, ROOM> as Put>⟧.pen self.new).faults) }
         ensures same_sink { sink_of self.new ≡ sink_of self.old }
     {
         if self.failed {
@@ -77,13 +84,23 @@ impl<'a, K: Sink, const ROOM: usize> Pieces<'a, K, ROOM> {
         self.pass_on()
     }
 
-    /// Puts what is held, and ends. At `Ok` the sink has all the bytes given; at `Err` a front of them, not all.
+    /// Puts what is held, and ends. At `Ok` the sink has all the bytes given; at `Err` a front of
+    /// them, not all.
     pub fn finish(self) -> Result<(), PutFailed>
-        ensures ok { OnOk result (Ended (⟦<Pieces<'a, K, ROOM> as Put>⟧.pen self.entry) (K.written (ended_sink self.exit).now)) }
-        ensures err { OnErr result (Lost (⟦<Pieces<'a, K, ROOM> as Put>⟧.pen self.entry) (K.written (ended_sink self.exit).now)) }
-        ensures later { (⟦<Pieces<'a, K, ROOM> as Put>⟧.pen self.entry).faults ≤ K.faults (ended_sink self.exit).now }
-        ensures cause { OnErr result (((⟦<Pieces<'a, K, ROOM> as Put>⟧.pen self.entry).failed ≡ true) ⊎ Rose (⟦<Pieces<'a, K, ROOM> as Put>⟧.pen self.entry).faults (K.faults (ended_sink self.exit).now)) }
-        ensures mark { K.mark (ended_sink self.exit).now ≡ (⟦<Pieces<'a, K, ROOM> as Put>⟧.pen self.entry).mark }
+        ensures ok { OnOk result
+            (Ended (⟦<Pieces<'a, K, ROOM> as Put>⟧.pen self.entry)
+            (K.written (ended_sink self.exit).now)) }
+        ensures err { OnErr result
+            (Lost (⟦<Pieces<'a, K, ROOM> as Put>⟧.pen self.entry)
+            (K.written (ended_sink self.exit).now)) }
+        ensures later { (⟦<Pieces<'a, K, ROOM> as Put>⟧.pen self.entry).faults
+            ≤ K.faults (ended_sink self.exit).now }
+        ensures cause { OnErr result
+            (((⟦<Pieces<'a, K, ROOM> as Put>⟧.pen self.entry).failed ≡ true)
+            ⊎ Rose (⟦<Pieces<'a, K, ROOM> as Put>⟧.pen self.entry).faults
+            (K.faults (ended_sink self.exit).now)) }
+        ensures mark { K.mark (ended_sink self.exit).now
+            ≡ (⟦<Pieces<'a, K, ROOM> as Put>⟧.pen self.entry).mark }
     {
         let Pieces {
             sink,
@@ -97,17 +114,20 @@ impl<'a, K: Sink, const ROOM: usize> Pieces<'a, K, ROOM> {
     #[tactic(auto, using(crate::proofs::Gathered::held_piece))]
     fn hold(&mut self, bytes: &[u8])
         requires { length self.old.held.items + length bytes.now ≤ ROOM }
-        ensures given { Puts (⟦<Pieces<'a, K, ROOM> as Put>⟧.pen self.old) (⟦<Pieces<'a, K, ROOM> as Put>⟧.pen self.new) bytes.now }
+        ensures given { Puts (⟦<Pieces<'a, K, ROOM> as Put>⟧.pen self.old)
+            (⟦<Pieces<'a, K, ROOM> as Put>⟧.pen self.new) bytes.now }
         ensures same_sink { sink_of self.new ≡ sink_of self.old }
     {
         push_all(&mut self.held, bytes);
     }
 
-    // Writes the shortest varints of two numbers. Both are held at once where there is room for any two.
+    // Writes the shortest varints of two numbers. Both are held at once where there is room for any
+    // two.
     #[inline(always)]
     #[tactic(auto, using(crate::proofs::Gathered::wrote_both, crate::proofs::Writing::wrote_twice))]
     fn two_varints(&mut self, first: u64, second: u64)
-        ensures { Wrote (⟦<Pieces<'a, K, ROOM> as Put>⟧.pen self.old) (⟦<Pieces<'a, K, ROOM> as Put>⟧.pen self.new) (varint first ++ varint second) }
+        ensures { Wrote (⟦<Pieces<'a, K, ROOM> as Put>⟧.pen self.old)
+            (⟦<Pieces<'a, K, ROOM> as Put>⟧.pen self.new) (varint first ++ varint second) }
     {
         if !self.failed && self.held.remaining_capacity() >= 2 * VARINT_BYTES {
             push_varint(&mut self.held, first);
@@ -118,11 +138,16 @@ impl<'a, K: Sink, const ROOM: usize> Pieces<'a, K, ROOM> {
         }
     }
 
-    // Holds these bytes too. Whenever there is no room for the next byte, what is held goes to the sink first.
+    // Holds these bytes too. Whenever there is no room for the next byte, what is held goes to the
+    // sink first.
     fn gather(&mut self, bytes: &[u8]) -> Result<(), PutFailed>
-        ensures ok { OnOk result (Puts (⟦<Pieces<'a, K, ROOM> as Put>⟧.pen self.old) (⟦<Pieces<'a, K, ROOM> as Put>⟧.pen self.new) bytes.now) }
-        ensures err { OnErr result (PutsProperFront (⟦<Pieces<'a, K, ROOM> as Put>⟧.pen self.old) (⟦<Pieces<'a, K, ROOM> as Put>⟧.pen self.new) bytes.now) }
-        ensures cause { OnErr result (Rose (⟦<Pieces<'a, K, ROOM> as Put>⟧.pen self.old).faults (⟦<Pieces<'a, K, ROOM> as Put>⟧.pen self.new).faults) }
+        ensures ok { OnOk result
+            (Puts (⟦<Pieces<'a, K, ROOM> as Put>⟧.pen self.old)
+            (⟦<Pieces<'a, K, ROOM> as Put>⟧.pen self.new) bytes.now) }
+        ensures err { OnErr result (PutsProperFront (⟦<Pieces<'a, K, ROOM> as Put>⟧.pen self.old)
+            (⟦<Pieces<'a, K, ROOM> as Put>⟧.pen self.new) bytes.now) }
+        ensures cause { OnErr result (Rose (⟦<Pieces<'a, K, ROOM> as Put>⟧.pen self.old).faults
+            (⟦<Pieces<'a, K, ROOM> as Put>⟧.pen self.new).faults) }
         ensures same_sink { sink_of self.new ≡ sink_of self.old }
     {
         let mut rest = bytes;
@@ -140,9 +165,10 @@ impl<'a, K: Sink, const ROOM: usize> Pieces<'a, K, ROOM> {
 }
 
 impl<'a, K: Sink, const ROOM: usize> Put for Pieces<'a, K, ROOM> {
-    ghost use Rattle.plcr_wire.specs.Shown.{sink_shown};
+    ghost use Rattle.plcr_wire.specs.inner.Shown.{sink_shown};
 
-    ghost pen = { λ b. sink_pen b.sink.ghost_name (K.written b.sink.now) (K.faults b.sink.now) (K.mark b.sink.now) b.held.items b.failed };
+    ghost pen = { λ b. sink_pen b.sink.ghost_name (K.written b.sink.now) (K.faults b.sink.now)
+        (K.mark b.sink.now) b.held.items b.failed };
 
     fn byte(&mut self, b: u8) -> Result<(), PutFailed> {
         if self.held.is_full() {

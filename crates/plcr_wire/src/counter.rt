@@ -29,7 +29,7 @@ impl Counter {
 }
 
 impl Put for Counter {
-    ghost use Rattle.plcr_wire.specs.Shown.{counter_shown};
+    ghost use Rattle.plcr_wire.specs.inner.Shown.{counter_shown};
 
     ghost pen = { λ c. counter_pen c.bytes };
 

@@ -24,7 +24,8 @@ pub(crate) fn put_held<K: Sink, const ROOM: usize>(
     sink: &mut K,
     held: &mut ArrayVec<u8, ROOM>,
 ) -> Result<(), PutFailed>
-    ensures parts { AppendsUpTo (K.written sink.old) (K.written sink.new) held.old.items held.new.items }
+    ensures parts { AppendsUpTo (K.written sink.old) (K.written sink.new) held.old.items
+        held.new.items }
     ensures ok { OnOk result (held.new.items ≡ []) }
     ensures err { OnErr result (0 < length held.new.items) }
     ensures later { K.faults sink.old ≤ K.faults sink.new }
@@ -71,7 +72,8 @@ pub(crate) fn end_held<K: Sink, const ROOM: usize>(
     held: &mut ArrayVec<u8, ROOM>,
     failed: bool,
 ) -> Result<(), PutFailed>
-    ensures parts { AppendsUpTo (K.written sink.old) (K.written sink.new) held.old.items held.new.items }
+    ensures parts { AppendsUpTo (K.written sink.old) (K.written sink.new) held.old.items
+        held.new.items }
     ensures ok { OnOk result ((held.new.items ≡ []) × (failed ≡ false)) }
     ensures err { OnErr result ((failed ≡ true) ⊎ (0 < length held.new.items)) }
     ensures kept { failed ≡ true → K.written sink.new ≡ K.written sink.old }

@@ -8,7 +8,8 @@ ghost use Rattle.plcr_wire.specs.Wires.{wire_number};
 use crate::Put;
 use crate::wires::{Wire, tag_number};
 
-/// A writer whose calls can't fail. Once a byte is lost it takes nothing any more, and its owner hears of that at the end.
+/// A writer whose calls can't fail. Once a byte is lost it takes nothing any more, and its owner
+/// hears of that at the end.
 pub trait Ink: Put {
     /// Writes these bytes as they are.
     fn raw(&mut self, bytes: &[u8])
@@ -33,7 +34,8 @@ pub trait Ink: Put {
     fn number(&mut self, field: u32, value: u64)
         requires some { 0 < field }
         requires within { field < 2 ^ 29 }
-        ensures { Wrote (Self.pen self.old) (Self.pen self.new) (field_spelling (number_field field value)) }
+        ensures { Wrote (Self.pen self.old) (Self.pen self.new)
+            (field_spelling (number_field field value)) }
     {
         self.tag(field, Wire::Number);
         self.varint(value)
@@ -54,7 +56,8 @@ pub trait Ink: Put {
     fn text(&mut self, field: u32, bytes: &[u8])
         requires some { 0 < field }
         requires within { field < 2 ^ 29 }
-        ensures { Wrote (Self.pen self.old) (Self.pen self.new) (field_spelling (bytes_field field bytes.now)) }
+        ensures { Wrote (Self.pen self.old) (Self.pen self.new)
+            (field_spelling (bytes_field field bytes.now)) }
     {
         self.head(field, bytes.len() as u64);
         self.raw(bytes)

@@ -1,7 +1,7 @@
 //! The Protocol Buffers wire format: varints, tags and fields, written and read without memory.
 //!
-//! `Put` takes bytes and says at once that one failed. `Ink` takes whole fields and remembers a failure to the end,
-//! so that the writer of a message has no error exits.
+//! `Put` takes bytes and says at once that one failed. `Ink` takes whole fields and remembers a
+//! failure to the end, so that the writer of a message has no error exits.
 #![tactic(auto)]
 
 mod buffered;

@@ -41,7 +41,8 @@ pub fn put_varint<P: Put>(p: &mut P, value: u64) -> Result<(), PutFailed>
     Ok(())
 }
 
-/// Writes the tag of a field with this number and wire type. At `Err` a front of it was written, and not all.
+/// Writes the tag of a field with this number and wire type. At `Err` a front of it was written,
+/// and not all.
 #[tactic(auto, unfolding(crate::specs::Varint::tag))]
 pub fn put_tag<P: Put>(p: &mut P, field: u32, wire: u8) -> Result<(), PutFailed>
     requires some { 0 < field }

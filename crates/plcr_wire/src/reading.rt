@@ -150,14 +150,15 @@ fn value_of(bytes: &[u8], end: usize, wire: Wire) -> Result<(ValueSlice<'_>, &[u
     }
 }
 
-/// The field that these bytes, the last of a message that ends at `end`, begin with. Its faults have places
-/// in the message. Needs no memory.
+/// The field that these bytes, the last of a message that ends at `end`, begin with. Its faults
+/// have places in the message. Needs no memory.
 #[inline(always)]
 #[tactic(auto, unfolding(crate::specs::Reading::field_at))]
 pub fn field_of(bytes: &[u8], end: usize) -> Result<FieldSlice<'_>, WireFault>
     requires { length bytes.now ≤ end }
     ensures reads { Returns field_slice result (field_at end bytes.now) }
-    ensures shorter { IfOk result (λ p. value_slice_len p.value + length p.rest.now < length bytes.now) }
+    ensures shorter { IfOk result (λ p. value_slice_len p.value + length p.rest.now
+        < length bytes.now) }
 {
     let (tag, rest) = number_of(bytes, end)?;
     let Some(wire) = tag_wire(tag) else {
@@ -210,20 +211,25 @@ fn placed(value: ValueSlice<'_>, to: usize) -> Value
 /// A field that was spelled is read again, whatever follows it.
 #[tactic(auto, using(crate::proofs::ReadAgain::field_again))]
 pub fn reads_again()
-    ensures { (end : ℕ) (f : message.Field) (rest : List ℕ) → FitsField f → field_at end (field_spelling f ++ rest) ≡ Ok (f, rest) }
+    ensures { (end : ℕ) (f : message.Field) (rest : List ℕ) → FitsField f →
+        field_at end (field_spelling f ++ rest) ≡ Ok (f, rest) }
 {}
 
-/// What is read as a number is a varint of it, of ten bytes at most; and each such varint of 64 bits is read, the
-/// shortest or not.
+/// What is read as a number is a varint of it, of ten bytes at most; and each such varint of 64
+/// bits is read, the shortest or not.
 #[tactic(auto, using(crate::proofs::ReadVarints::number_was, crate::proofs::ReadVarints::number_reads))]
 pub fn reads_varints()
-    ensures found { (end n : ℕ) (bytes rest : List ℕ) → IsBytes bytes → number_at end bytes ≡ Ok (n, rest) → StartsWithNumber bytes n rest VARINT_BYTES }
-    ensures all { (end n : ℕ) (front rest : List ℕ) → IsVarint front n → length front ≤ VARINT_BYTES → n < 2 ^ 64 → number_at end (front ++ rest) ≡ Ok (n, rest) }
+    ensures found { (end n : ℕ) (bytes rest : List ℕ) → IsBytes bytes →
+        number_at end bytes ≡ Ok (n, rest) → StartsWithNumber bytes n rest VARINT_BYTES }
+    ensures all { (end n : ℕ) (front rest : List ℕ) → IsVarint front n →
+        length front ≤ VARINT_BYTES → n < 2 ^ 64 → number_at end (front ++ rest) ≡ Ok (n, rest) }
 {}
 
-/// What is read as a field is a varint of its number and wire type, in some length, then its value, in some length,
-/// and then what is left; and whatever is spelled so is read as that field.
+/// What is read as a field is a varint of its number and wire type, in some length, then its value,
+/// in some length, and then what is left; and whatever is spelled so is read as that field.
 pub fn reads_fields()
-    ensures found { (end : ℕ) (bytes : List ℕ) (f : message.Field) (rest : List ℕ) → IsBytes bytes → field_at end bytes ≡ Ok (f, rest) → StartsWithField bytes f rest }
-    ensures all { (end : ℕ) (bytes : List ℕ) (f : message.Field) (rest : List ℕ) → FitsField f → StartsWithField bytes f rest → field_at end bytes ≡ Ok (f, rest) }
+    ensures found { (end : ℕ) (bytes : List ℕ) (f : message.Field) (rest : List ℕ) → IsBytes bytes →
+        field_at end bytes ≡ Ok (f, rest) → StartsWithField bytes f rest }
+    ensures all { (end : ℕ) (bytes : List ℕ) (f : message.Field) (rest : List ℕ) → FitsField f →
+        StartsWithField bytes f rest → field_at end bytes ≡ Ok (f, rest) }
 {}

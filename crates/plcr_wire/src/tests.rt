@@ -5,7 +5,8 @@ use plcr_io::{MemOut, PutFailed, Sink};
 use std::alloc::Global;
 use std::test::Fail;
 
-// A sink that takes whole pieces, and keeps their number and the lengths of the longest and of all of them.
+// A sink that takes whole pieces, and keeps their number and the lengths of the longest and of all
+// of them.
 #[derive(Drop)]
 struct Lengths {
     puts: u64,

@@ -6,13 +6,15 @@ ghost use Rattle.plcr_wire.specs.declared.varint.TheConstants.{VARINT_BYTES};
 
 use arrayvec::ArrayVec;
 
-/// Each byte of a varint has one of so many values of its number: the number is spelled to this base.
+/// Each byte of a varint has one of so many values of its number: the number is spelled to this
+/// base.
 pub(crate) const BASE: u64 = 128;
 
 /// Each byte has so many bits of the number.
 const GROUP_BITS: u64 = 7;
 
-/// The shortest varint of a number of 64 bits has at most so many bytes, and none that is read has more.
+/// The shortest varint of a number of 64 bits has at most so many bytes, and none that is read has
+/// more.
 pub const VARINT_BYTES: usize = 10;
 
 /// How many bytes the shortest varint of the value has: 1 to 10.
@@ -55,10 +57,12 @@ fn push_groups<const ROOM: usize>(held: &mut ArrayVec<u8, ROOM>, value: u64)
     held.push(rest as u8);
 }
 
-/// The spelling of a number is a varint of it, no other is shorter, and none that is as short is another.
+/// The spelling of a number is a varint of it, no other is shorter, and none that is as short is
+/// another.
 #[tactic(auto, using(crate::proofs::Shortest::varint_is, crate::proofs::Shortest::varint_least, crate::proofs::Shortest::varint_only))]
 pub fn shortest_varint()
     ensures is { (n : ℕ) → IsVarint (varint n) n }
     ensures least { (bytes : List ℕ) (n : ℕ) → IsVarint bytes n → length (varint n) ≤ length bytes }
-    ensures only { (bytes : List ℕ) (n : ℕ) → IsVarint bytes n → length bytes ≤ length (varint n) → bytes ≡ varint n }
+    ensures only { (bytes : List ℕ) (n : ℕ) → IsVarint bytes n → length bytes ≤ length (varint n) →
+        bytes ≡ varint n }
 {}

@@ -20,16 +20,21 @@ asked_in other = None
 
 -- the lines of statements that ask something of the writer, in order
 abbrev pub change_lines : List NumberedStatement → List Wanted
-change_lines statements = filter_map (λ (s : NumberedStatement). option_map (λ a. record { line = s.line; asked = a }) (asked_in s.statement)) statements
+change_lines statements =
+    filter_map (λ (s : NumberedStatement).
+    option_map (λ a. record { line = s.line; asked = a }) (asked_in s.statement)) statements
 
 -- the statement on a line of a script
 abbrev pub statement_on : ℕ → List NumberedStatement → Option Statement
 statement_on line [] = None
-statement_on line (s ∷ statements) = if s.line == line then Some s.statement else statement_on line statements
+statement_on line (s ∷ statements) = if s.line == line then Some s.statement
+    else statement_on line statements
 
 -- the statement of a line of the journal
 abbrev pub statement_of : List ScriptValue → ChangeLine → Option Statement
-statement_of scripts line = option_and_then (λ (script : ScriptValue). statement_on line.wanted.line script.statements) (slice_get scripts line.script)
+statement_of scripts line =
+    option_and_then (λ (script : ScriptValue). statement_on line.wanted.line script.statements)
+    (slice_get scripts line.script)
 
 -- the name in a statement
 abbrev pub name_in : Option Statement → List ℕ
@@ -38,7 +43,8 @@ name_in other = []
 
 -- the change that a line of the journal makes, if it was accepted
 abbrev pub change_of : List ScriptValue → ChangeLine → List Change
-change_of scripts line = changes_by line.wanted.asked (name_in (statement_of scripts line)) line.said
+change_of scripts line =
+    changes_by line.wanted.asked (name_in (statement_of scripts line)) line.said
 
 -- the changes of the accepted lines of a journal, the last first
 abbrev pub accepted_changes : List ScriptValue → List ChangeLine → List Change

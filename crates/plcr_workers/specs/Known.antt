@@ -1,4 +1,5 @@
--- What is known of the lines of a journal by the workers that applied them, and that the journal then runs.
+-- What is known of the lines of a journal by the workers that applied them, and that the journal
+-- then runs.
 use Rattle.std.specs.Prelude.{◌≡◌, ℕ, List, [], ◌∷◌, Option, Some, None}
 use Rattle.plcr_machine.specs.Lists.{Grows, name_of}
 use Rattle.plcr_machine.specs.Changes.{changes_of}
@@ -25,8 +26,10 @@ abbrev pub StatementFault : Meanings → Statement → Said → Type 0
 StatementFault process (Load header name) said = FaultTold (process.fault header) said
 StatementFault process other said = Unit {0}
 
--- what the worker of a line knows: the statement that asked for it, the fault that was tested before, and its name
-pub record IsKnownLine (process : Meanings) (scripts : List ScriptValue) (names : List (List ℕ)) (line : ChangeLine) : Type 0 where
+-- what the worker of a line knows: the statement that asked for it, the fault that was tested
+-- before, and its name
+pub record IsKnownLine (process : Meanings) (scripts : List ScriptValue) (names : List (List ℕ))
+    (line : ChangeLine) : Type 0 where
   pub statement : Statement
   pub stands : statement_of scripts line ≡ Some statement
   pub asks : asked_in statement ≡ Some line.wanted.asked
@@ -36,7 +39,8 @@ pub record IsKnownLine (process : Meanings) (scripts : List ScriptValue) (names 
 
 abbrev pub AreKnown : Meanings → List ScriptValue → List (List ℕ) → List ChangeLine → Type 0
 AreKnown process scripts names [] = Unit {0}
-AreKnown process scripts names (line ∷ lines) = IsKnownLine process scripts names line × AreKnown process scripts names lines
+AreKnown process scripts names (line ∷ lines) = IsKnownLine process scripts names line
+    × AreKnown process scripts names lines
 
 -- the writer went on from a turn that ended, and made nothing more: it met passes
 pub record HasEnded (t : TurnState) (w : WriterState) : Type 0 where
@@ -47,9 +51,13 @@ pub record HasEnded (t : TurnState) (w : WriterState) : Type 0 where
 
 -- then each line of the journal is the outcome of a run, with all that a full list tells
 abbrev pub KnownJournalsRun : Type 0
-KnownJournalsRun = (process : Meanings) (scripts : List ScriptValue) (t : TurnState) (w : WriterState) → IsTurn t → HasEnded t w → AreKnown process scripts w.names t.journal → JournalRuns process scripts w [] [] t.journal
+KnownJournalsRun = (process : Meanings) (scripts : List ScriptValue) (t : TurnState)
+    (w : WriterState) → IsTurn t → HasEnded t w → AreKnown process scripts w.names t.journal →
+    JournalRuns process scripts w [] [] t.journal
 
 -- and its accepted lines are the changes of the history, in order, by the names in the scripts
 abbrev pub KnownJournalsAreTheChanges : Type 0
-KnownJournalsAreTheChanges = (process : Meanings) (scripts : List ScriptValue) (t : TurnState) (w : WriterState) → IsTurn t → HasEnded t w → AreKnown process scripts w.names t.journal
+KnownJournalsAreTheChanges =
+    (process : Meanings) (scripts : List ScriptValue) (t : TurnState) (w : WriterState) → IsTurn t →
+    HasEnded t w → AreKnown process scripts w.names t.journal
     → changes_of w.names w.history ≡ accepted_changes scripts t.journal

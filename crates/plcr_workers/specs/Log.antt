@@ -1,5 +1,5 @@
--- The log of scripts on threads: first the journal, in the order in which its lines were applied, and then the other lines,
--- script by script. Scripts are numbered from 1.
+-- The log of scripts on threads: first the journal, in the order in which its lines were applied,
+-- and then the other lines, script by script. Scripts are numbered from 1.
 use Rattle.std.specs.Prelude.{ℕ, ◌+◌, List, [], ◌∷◌, ◌++◌, Option, Some, None, flat_map, slice_get}
 use Rattle.plcr_script.specs.declared.statements.Statement.{Statement}
 use Rattle.plcr_script.specs.declared.statements.NumberedStatement.{NumberedStatement}
@@ -34,21 +34,27 @@ abbrev pub pass_outcome : List ℕ → PassSaid → Outcome
 pass_outcome file Entered = outcomes.Entered 0
 pass_outcome file (Walked met ended) = outcomes.Walked 0 met ended
 pass_outcome file (Left met low high) = outcomes.Left 0 met low high
-pass_outcome file (Reported bytes images low high) = outcomes.Reported (lent file) bytes images low high
+pass_outcome file (Reported bytes images low high) =
+    outcomes.Reported (lent file) bytes images low high
 
 -- the text of the journal
 abbrev pub journal_text : List ChangeLine → List ℕ
-journal_text journal = flat_map (λ (l : ChangeLine). log_line (Some (l.script + 1)) l.wanted.line (outcome_of l.said)) journal
+journal_text journal =
+    flat_map (λ (l : ChangeLine). log_line (Some (l.script + 1)) l.wanted.line (outcome_of l.said))
+    journal
 
 -- the text of the other lines of a script
 abbrev pub script_text : ℕ → ScriptValue → List PassLine → List ℕ
-script_text number script lines = flat_map (λ (l : PassLine). log_line (Some number) (line_of (slice_get script.statements l.at)) (pass_outcome (file_of (slice_get script.statements l.at)) l.said)) lines
+script_text number script lines =
+    flat_map (λ (l : PassLine). log_line (Some number) (line_of (slice_get script.statements l.at))
+    (pass_outcome (file_of (slice_get script.statements l.at)) l.said)) lines
 
 -- the text of the other lines of scripts, from a number on
 abbrev pub scripts_text : ℕ → List ScriptValue → List (List PassLine) → List ℕ
 scripts_text number [] others = []
 scripts_text number (script ∷ scripts) [] = []
-scripts_text number (script ∷ scripts) (lines ∷ others) = script_text number script lines ++ scripts_text (number + 1) scripts others
+scripts_text number (script ∷ scripts) (lines ∷ others) =
+    script_text number script lines ++ scripts_text (number + 1) scripts others
 
 abbrev pub threads_log : List ScriptValue → List ChangeLine → List (List PassLine) → List ℕ
 threads_log scripts journal others = journal_text journal ++ scripts_text 1 scripts others

@@ -29,11 +29,16 @@ pub record IsLawfulReport (process : Meanings) (w : WriterState) (bytes : List �
   pub lawful : IsLawfulWalk load_of (lists w) from to met
   pub written : bytes ≡ process.report (listed met)
 
--- Scripts of which some may have ended early: of the load and unload lines of each, the first ones were applied, each once. The files kept are the first of the scripts' files, in order of script and line, and each is a lawful report
-pub record StoppedOnThreads (process : Meanings) (nodes : ℕ) (scripts : List ScriptValue) (kept : List (List ℕ × List ℕ)) (w : WriterState) : Type 0 where
+-- Scripts of which some may have ended early: of the load and unload lines of each, the first ones
+-- were applied, each once. The files kept are the first of the scripts' files, in order of script
+-- and line, and each is a lawful report
+pub record StoppedOnThreads (process : Meanings) (nodes : ℕ) (scripts : List ScriptValue)
+    (kept : List (List ℕ × List ℕ)) (w : WriterState) : Type 0 where
   pub history : HasMetAll nodes scripts w
   pub journal : List ChangeLine
-  pub lines : (number : ℕ) (script : ScriptValue) → slice_get scripts number ≡ Some script → (count : ℕ) × (wanted_by (lines_of number journal) ≡ take count (change_lines script.statements))
+  pub lines : (number : ℕ) (script : ScriptValue) → slice_get scripts number ≡ Some script →
+      (count : ℕ) × (wanted_by (lines_of number journal)
+      ≡ take count (change_lines script.statements))
   pub alone : All (λ (l : ChangeLine). l.script < length scripts) journal
   pub changes_are : changes_of w.names w.history ≡ accepted_changes scripts journal
   pub names : (rest : List (List ℕ)) × (written_by scripts ≡ file_names kept ++ rest)

@@ -58,7 +58,8 @@ pub(crate) fn request_of<'a, P: Process>(
     }
 }
 
-/// Applies a line once the worker has the turn: its pass and the writer then know what the other had seen.
+/// Applies a line once the worker has the turn: its pass and the writer then know what the other
+/// had seen.
 pub(crate) fn apply<R: Wait>(
     rt: &R,
     queue: &TurnQueue,
@@ -75,7 +76,8 @@ pub(crate) fn apply<R: Wait>(
     ensures list { IsAt list.now result }
     ensures hears { OnlyHears place result }
     ensures goes { PassGoes (walker_of place) (walker_of result) }
-    ensures applies { AppliesLine line.now (view turns.old) (walker_of place).history (view turns.new) (walker_of result).history (walker_of result).names }
+    ensures applies { AppliesLine line.now (view turns.old) (walker_of place).history
+        (view turns.new) (walker_of result).history (walker_of result).names }
     ensures working { IsWorking line.now.script list.now (view turns.new) }
 {
     match place {
@@ -92,8 +94,8 @@ pub(crate) fn apply<R: Wait>(
     }
 }
 
-/// The pass goes in, if it is out, walks to its end, and comes out; before it does, the report of the process with the
-/// images that it met is written.
+/// The pass goes in, if it is out, walks to its end, and comes out; before it does, the report of
+/// the process with the images that it met is written.
 pub(crate) fn report<P: Process, G: Gate, K: Sink>(
     process: &P,
     context: &Context,
@@ -108,9 +110,12 @@ pub(crate) fn report<P: Process, G: Gate, K: Sink>(
     requires list { IsAt list.now place }
     requires few { script < MOST_SCRIPTS }
     ensures list { result.0.table ≡ list.now }
-    ensures reports { ReportsTo K.written (P.report process.now context.now) place result.0 result.1 draft.old draft.new }
+    ensures reports { ReportsTo K.written (P.report process.now context.now) place result.0 result.1
+        draft.old draft.new }
     ensures goes { PassGoes (walker_of place) result.0 }
-    ensures output { IsOutput K.faults (HasReport K.written (P.report process.now context.now) result.0) result.1 draft.old draft.new }
+    ensures output { IsOutput K.faults
+        (HasReport K.written (P.report process.now context.now) result.0) result.1 draft.old
+        draft.new }
 {
     let mut hold = come_in(list, gate, script, line, place);
     walk_to_end(&mut hold, list);
@@ -145,8 +150,10 @@ fn write_walk<P: Process, K: Sink>(
     ensures same { IsSameWalk hold.old hold.new }
     ensures place { (draft.new.script ≡ draft.old.script) × (draft.new.at ≡ draft.old.at) }
     ensures ok { OnOk result (draft.new.progress ≡ Progress.Written) }
-    ensures written { OnOk result (K.written draft.new.out ≡ append_known (K.written draft.old.out) (P.report process.now context.now (images_of hold.old))) }
-    ensures length { IfOk result (λ n. n ≡ length (P.report process.now context.now (images_of hold.old))) }
+    ensures written { OnOk result (K.written draft.new.out ≡ append_known (K.written draft.old.out)
+        (P.report process.now context.now (images_of hold.old))) }
+    ensures length { IfOk result
+        (λ n. n ≡ length (P.report process.now context.now (images_of hold.old))) }
     ensures err { OnErr result (draft.new.progress ≡ Progress.Failed) }
     ensures cause { OnErr result (Rose (K.faults draft.old.out) (K.faults draft.new.out)) }
 {
@@ -178,9 +185,12 @@ fn write_next<P: Process, G: Gate, K: Sink>(
     requires few { script < MOST_SCRIPTS }
     requires next { next < length drafts.old.items }
     ensures list { IsAt list.now result.0 }
-    ensures reports { ReportsNext K.written (P.report process.now context.now) place result.0 result.1 next drafts.old.items drafts.new.items }
+    ensures reports { ReportsNext K.written (P.report process.now context.now) place result.0
+        result.1 next drafts.old.items drafts.new.items }
     ensures goes { PassGoes (walker_of place) (walker_of result.0) }
-    ensures outputs { WritesNext K.faults (HasReport K.written (P.report process.now context.now) (walker_of result.0)) next result.1 drafts.old.items drafts.new.items }
+    ensures outputs { WritesNext K.faults
+        (HasReport K.written (P.report process.now context.now) (walker_of result.0)) next result.1
+        drafts.old.items drafts.new.items }
 {
     let draft = &mut drafts[next];
     let (pass, took) = report(process, context, list, gate, script, line, place, draft);
@@ -201,7 +211,8 @@ fn move_on<G: Gate>(
     ensures list { IsAt list.now result.0 }
     ensures goes { PassGoes (walker_of place) (walker_of result.0) }
     ensures said { IsNoReport result.1 }
-    ensures moves { asked_in statement.now ≡ None → file_of statement.now ≡ None → Moves statement.now place result.0 result.1 }
+    ensures moves { asked_in statement.now ≡ None → file_of statement.now ≡ None →
+        Moves statement.now place result.0 result.1 }
 {
     let (place, said) = move_pass(list, gate, script, line, statement, place);
     match said {
@@ -210,7 +221,8 @@ fn move_on<G: Gate>(
     }
 }
 
-/// Takes a statement of a script. The script's number counts from 0, and `next` is the number of its next output.
+/// Takes a statement of a script. The script's number counts from 0, and `next` is the number of
+/// its next output.
 pub(crate) fn take_statement<R: Wait, P: Process, G: Gate, K: Sink>(
     rt: &R,
     queue: &TurnQueue,
@@ -236,12 +248,19 @@ pub(crate) fn take_statement<R: Wait, P: Process, G: Gate, K: Sink>(
     ensures queue { IsSamePass turns.old turns.new }
     ensures list { IsAt list.now result.0 }
     ensures goes { PassGoes (walker_of place) (walker_of result.0) }
-    ensures acts { Acts K.written (P.report process.now context.now) statement.now place result.0 result.1 next drafts.old.items drafts.new.items }
-    ensures applies { Applies script line (asked_in statement.now) (walker_of place).history (view turns.old) (walker_of result.0).history (view turns.new) }
+    ensures acts { Acts K.written (P.report process.now context.now) statement.now place result.0
+        result.1 next drafts.old.items drafts.new.items }
+    ensures applies { Applies script line (asked_in statement.now) (walker_of place).history
+        (view turns.old) (walker_of result.0).history (view turns.new) }
     ensures working { IsWorking script list.now (view turns.new) }
-    ensures advances { Advances script line (asked_in statement.now) (view turns.old) (view turns.new) }
-    ensures outputs { TakesOutputs K.faults (HasReport K.written (P.report process.now context.now) (walker_of result.0)) next (file_of statement.now) result.1 drafts.old.items drafts.new.items }
-    ensures own { AddsOwn (meanings (P.image_fault process.now) (P.report process.now context.now)) script line statement.now (asked_in statement.now) (view turns.old) (view turns.new) (walker_of result.0).names }
+    ensures advances { Advances script line (asked_in statement.now) (view turns.old)
+        (view turns.new) }
+    ensures outputs { TakesOutputs K.faults
+        (HasReport K.written (P.report process.now context.now) (walker_of result.0)) next
+        (file_of statement.now) result.1 drafts.old.items drafts.new.items }
+    ensures own { AddsOwn (meanings (P.image_fault process.now) (P.report process.now context.now))
+        script line statement.now (asked_in statement.now) (view turns.old) (view turns.new)
+        (walker_of result.0).names }
 {
     if let Some(request) = request_of(process, statement) {
         gate.before_change(script + 1, line);

@@ -25,10 +25,11 @@ pub const SIDE_BY_SIDE: Modes = Modes {
     later: Mode::Worker { first: false },
 };
 
-/// Runs scripts on a core, each on a worker of its own, over one image list: keeps each report that they ask for, and prints
-/// the log. Gives the status: 0 done, 2 a file couldn't be taken, 3 no core, 4 no script, 5 a file not kept or a line not
-/// printed, 7 want of memory. All memory is taken before the first output is made. At 0 and 5 it leaves the writer of the
-/// image list in `past`, after each pass of that list has met it. It waits for the turn, so it may never return.
+/// Runs scripts on a core, each on a worker of its own, over one image list: keeps each report that
+/// they ask for, and prints the log. Gives the status: 0 done, 2 a file couldn't be taken, 3 no
+/// core, 4 no script, 5 a file not kept or a line not printed, 7 want of memory. All memory is
+/// taken before the first output is made. At 0 and 5 it leaves the writer of the image list in
+/// `past`, after each pass of that list has met it. It waits for the turn, so it may never return.
 pub fn threads_command<R: Threads + Wait + Sync, D: Desk, L: Sink, G: Gate>(
     rt: &R,
     alloc: Global,

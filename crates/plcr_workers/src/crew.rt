@@ -29,8 +29,9 @@ use std::sync::Wait;
 use std::thread;
 use std::thread::Threads;
 
-/// What workers leave: their passes of the list; for each script the outputs of its reports, the first script and the first
-/// report last; and the other lines of each script, in the order of the scripts.
+/// What workers leave: their passes of the list; for each script the outputs of its reports, the
+/// first script and the first report last; and the other lines of each script, in the order of the
+/// scripts.
 #[derive(Drop)]
 pub(crate) struct Left<K> {
     pub(crate) images: Vec<Pass>,
@@ -115,7 +116,8 @@ pub(crate) fn hire<K: Sink + Drop>(
     ensures sizes { OnOk result (KnowsSameSizes (view chief.old) (view chief.new)) }
     ensures count { IfOk result (λ workers. vec_len workers ≡ length scripts.now) }
     ensures new { IfOk result (λ workers. AreNew scripts.now workers.items) }
-    ensures hired { IfOk result (λ workers. All (λ w. IsHired queue.now.table.shared.table_id list.now scripts.now w) workers.items) }
+    ensures hired { IfOk result (λ workers.
+        All (λ w. IsHired queue.now.table.shared.table_id list.now scripts.now w) workers.items) }
 {
     let mut images = from_the_last(list, images);
     let mut workers = Vec::with_capacity(alloc, scripts.len())?;
@@ -170,12 +172,18 @@ pub(crate) fn run_all<R: Threads + Wait + Sync, P: Process + Sync, G: Gate, K: S
 )
     requires context { P.accepts process.now context.now }
     requires queue { ruled_capacity queue.now ≡ 1 }
-    requires ready { All (λ w. IsReadyToRun K.faults queue.now.table.shared.table_id list.now scripts.now w) workers.old }
+    requires ready { All (λ w. IsReadyToRun K.faults queue.now.table.shared.table_id list.now
+        scripts.now w) workers.old }
     ensures taken { HaveTaken K.faults workers.old workers.new }
-    ensures reports { HaveReports K.written (P.report process.now context.now) workers.old workers.new }
-    ensures acted { HaveActed K.written (P.report process.now context.now) scripts.now workers.old workers.new }
-    ensures own { All (λ w. KnowsOwnOf (meanings (P.image_fault process.now) (P.report process.now context.now)) scripts.now w) workers.new }
-    ensures gone { All (λ w. IsGone queue.now.table.shared.table_id list.now scripts.now w) workers.new }
+    ensures reports { HaveReports K.written (P.report process.now context.now) workers.old
+        workers.new }
+    ensures acted { HaveActed K.written (P.report process.now context.now) scripts.now workers.old
+        workers.new }
+    ensures own { All (λ w.
+        KnowsOwnOf (meanings (P.image_fault process.now) (P.report process.now context.now))
+        scripts.now w) workers.new }
+    ensures gone { All (λ w. IsGone queue.now.table.shared.table_id list.now scripts.now w)
+        workers.new }
     ensures whole { All (λ w. IsWholeOf scripts.now w) workers.new }
 {
     thread::for_each_mut(
@@ -183,8 +191,18 @@ pub(crate) fn run_all<R: Threads + Wait + Sync, P: Process + Sync, G: Gate, K: S
         workers,
         MOST_SCRIPTS,
         &|_, worker: &mut Worker<K>|
-            requires { P.accepts process.now context.now × (ruled_capacity queue.now ≡ 1) × IsReadyToRun K.faults queue.now.table.shared.table_id list.now scripts.now worker.old }
-            ensures { IsGone queue.entry.now.table.shared.table_id list.entry.now scripts.entry.now worker.new × HasTaken K.faults worker.old worker.new × HasReports K.written (P.report process.entry.now context.entry.now) worker.old worker.new × KnowsOwnOf (meanings (P.image_fault process.entry.now) (P.report process.entry.now context.entry.now)) scripts.entry.now worker.new × IsWholeOf scripts.entry.now worker.new × ActsWholeOf K.written (P.report process.entry.now context.entry.now) scripts.entry.now worker.old worker.new }
+            requires { P.accepts process.now context.now × (ruled_capacity queue.now ≡ 1)
+                × IsReadyToRun K.faults queue.now.table.shared.table_id list.now scripts.now
+                worker.old }
+            ensures { IsGone queue.entry.now.table.shared.table_id list.entry.now scripts.entry.now
+                worker.new × HasTaken K.faults worker.old worker.new
+                × HasReports K.written (P.report process.entry.now context.entry.now) worker.old
+                worker.new × KnowsOwnOf
+                (meanings (P.image_fault process.entry.now)
+                (P.report process.entry.now context.entry.now)) scripts.entry.now worker.new
+                × IsWholeOf scripts.entry.now worker.new
+                × ActsWholeOf K.written (P.report process.entry.now context.entry.now)
+                scripts.entry.now worker.old worker.new }
         {
             let script = &scripts[worker.script as usize];
             worker.run(rt, queue, list, script, process, context, gate)
@@ -197,9 +215,12 @@ pub(crate) fn room_for<K: Sink + Drop>(
     alloc: Global,
     scripts: &[Script],
 ) -> Result<Left<K>, AllocError>
-    ensures images { IfOk result (λ left. (vec_len left.images ≡ 0) × (length scripts.now ≤ vec_capacity left.images)) }
-    ensures drafts { IfOk result (λ left. (vec_len left.drafts ≡ 0) × (length scripts.now ≤ vec_capacity left.drafts)) }
-    ensures others { IfOk result (λ left. (vec_len left.others ≡ 0) × (length scripts.now ≤ vec_capacity left.others)) }
+    ensures images { IfOk result (λ left. (vec_len left.images ≡ 0)
+        × (length scripts.now ≤ vec_capacity left.images)) }
+    ensures drafts { IfOk result (λ left. (vec_len left.drafts ≡ 0)
+        × (length scripts.now ≤ vec_capacity left.drafts)) }
+    ensures others { IfOk result (λ left. (vec_len left.others ≡ 0)
+        × (length scripts.now ≤ vec_capacity left.others)) }
 {
     let images = Vec::with_capacity(alloc, scripts.len())?;
     let others = Vec::with_capacity(alloc, scripts.len())?;
@@ -224,13 +245,16 @@ pub(crate) fn gather<K: Sink + Drop>(
     requires chief { HasGathered (length scripts.now) list.now [] (view chief.old) }
     requires count { vec_len workers ≡ length scripts.now }
     requires numbers { AreNumbered workers.items }
-    requires gone { All (λ w. IsGone queue.now.table.shared.table_id list.now scripts.now w) workers.items }
+    requires gone { All (λ w. IsGone queue.now.table.shared.table_id list.now scripts.now w)
+        workers.items }
     requires images_room { vec_len room.images + vec_len workers ≤ vec_capacity room.images }
     requires drafts_room { vec_len room.drafts + vec_len workers ≤ vec_capacity room.drafts }
     requires others_room { vec_len room.others + vec_len workers ≤ vec_capacity room.others }
-    requires none { (vec_len room.images ≡ 0) × (vec_len room.drafts ≡ 0) × (vec_len room.others ≡ 0) }
+    requires none { (vec_len room.images ≡ 0) × (vec_len room.drafts ≡ 0)
+        × (vec_len room.others ≡ 0) }
     ensures queue { IsSamePass chief.old chief.new }
-    ensures chief { HasGathered (length scripts.now) list.now (views_of workers.items) (view chief.new) }
+    ensures chief { HasGathered (length scripts.now) list.now (views_of workers.items)
+        (view chief.new) }
     ensures sizes { KnowsSameSizes (view chief.old) (view chief.new) }
     ensures working { AreWorking 0 list.now (views_of workers.items) }
     ensures all { HasAll (view chief.new) }
@@ -272,7 +296,8 @@ pub(crate) fn gather<K: Sink + Drop>(
 /// Adds the pass of a worker.
 fn add_image(images: &mut Vec<Pass>, image: Option<Pass>)
     requires room { vec_len images.old < vec_capacity images.old }
-    ensures added { IfSome image (λ (i : WalkerState). images.new.items ≡ images.old.items ++ i ∷ []) }
+    ensures added { IfSome image (λ (i : WalkerState). images.new.items ≡ images.old.items ++ i
+        ∷ []) }
     ensures capacity { vec_capacity images.new ≡ vec_capacity images.old }
     ensures len { vec_len images.new ≤ vec_len images.old + 1 }
 {

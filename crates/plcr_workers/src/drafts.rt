@@ -20,7 +20,8 @@ pub enum Progress {
     Failed,
 }
 
-/// The output of a report: the number of its script, and the place of its statement there, both from 0.
+/// The output of a report: the number of its script, and the place of its statement there, both
+/// from 0.
 #[derive(Drop)]
 pub struct Draft<K> {
     pub script: u32,
@@ -41,8 +42,11 @@ impl<K: Sink> Draft<K> {
         requires images { AreNamable (I.images images.old) }
         ensures place { (self.new.script ≡ self.old.script) × (self.new.at ≡ self.old.at) }
         ensures ok { OnOk result (self.new.progress ≡ Progress.Written) }
-        ensures written { OnOk result (K.written self.new.out ≡ append_known (K.written self.old.out) (P.report process.now context.now (I.images images.old))) }
-        ensures length { IfOk result (λ n. n ≡ length (P.report process.now context.now (I.images images.old))) }
+        ensures written { OnOk result
+            (K.written self.new.out ≡ append_known (K.written self.old.out)
+            (P.report process.now context.now (I.images images.old))) }
+        ensures length { IfOk result
+            (λ n. n ≡ length (P.report process.now context.now (I.images images.old))) }
         ensures err { OnErr result (self.new.progress ≡ Progress.Failed) }
         ensures cause { OnErr result (Rose (K.faults self.old.out) (K.faults self.new.out)) }
         ensures same { I.images images.new ≡ I.images images.old }

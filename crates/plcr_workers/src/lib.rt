@@ -1,5 +1,6 @@
-//! Loaders and reporters on threads: each script runs on a worker of its own, and all workers share one image list, whose
-//! writer goes from worker to worker. `docs/threads-and-queue.md` has the picture.
+//! Loaders and reporters on threads: each script runs on a worker of its own, and all workers share
+//! one image list, whose writer goes from worker to worker. `docs/threads-and-queue.md` has the
+//! picture.
 #![tactic(auto)]
 
 mod acting;

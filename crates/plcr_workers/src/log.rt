@@ -1,4 +1,5 @@
-//! The log of scripts that ran on threads: first the journal, then the other lines, script by script.
+//! The log of scripts that ran on threads: first the journal, then the other lines, script by
+//! script.
 ghost use Rattle.std.specs.Prelude.{◌≡◌, ◌≤◌, ◌<◌, All, length, OnOk, OnErr};
 ghost use Rattle.std.specs.Io.KnownBytes.{append_known};
 ghost use Rattle.plcr_base.specs.Causes.{Rose};
@@ -37,8 +38,10 @@ fn outcome_of(said: Said) -> Outcome<'static>
 /// `PutFailed` where the sink didn't take them all. A front of them was then written.
 pub(crate) fn print_journal<L: Sink>(journal: &[ChangeLine], lines: &mut L) -> Result<(), PutFailed>
     requires { All (λ (l : JournalLine). l.script < MOST_SCRIPTS) journal.now }
-    ensures ok { OnOk result (L.written lines.new ≡ append_known (L.written lines.old) (journal_text journal.now)) }
-    ensures err { OnErr result (AppendsProperFront (L.written lines.old) (L.written lines.new) (journal_text journal.now)) }
+    ensures ok { OnOk result
+        (L.written lines.new ≡ append_known (L.written lines.old) (journal_text journal.now)) }
+    ensures err { OnErr result (AppendsProperFront (L.written lines.old) (L.written lines.new)
+        (journal_text journal.now)) }
     ensures cause { OnErr result (Rose (L.faults lines.old) (L.faults lines.new)) }
     ensures later { L.faults lines.old ≤ L.faults lines.new }
     ensures mark { L.mark lines.new ≡ L.mark lines.old }
@@ -104,8 +107,10 @@ pub(crate) fn print_script<L: Sink>(
     lines: &mut L,
 ) -> Result<(), PutFailed>
     requires { All (λ (l : OtherLine). l.at < length script.now.statements) told.now }
-    ensures ok { OnOk result (L.written lines.new ≡ append_known (L.written lines.old) (script_text number script.now told.now)) }
-    ensures err { OnErr result (AppendsProperFront (L.written lines.old) (L.written lines.new) (script_text number script.now told.now)) }
+    ensures ok { OnOk result (L.written lines.new
+        ≡ append_known (L.written lines.old) (script_text number script.now told.now)) }
+    ensures err { OnErr result (AppendsProperFront (L.written lines.old) (L.written lines.new)
+        (script_text number script.now told.now)) }
     ensures cause { OnErr result (Rose (L.faults lines.old) (L.faults lines.new)) }
     ensures later { L.faults lines.old ≤ L.faults lines.new }
     ensures mark { L.mark lines.new ≡ L.mark lines.old }

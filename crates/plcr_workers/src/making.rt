@@ -1,4 +1,5 @@
-//! The outputs of all reports: made before the workers start, and kept or given up after they have ended.
+//! The outputs of all reports: made before the workers start, and kept or given up after they have
+//! ended.
 ghost use Rattle.std.specs.Prelude.{◌≡◌, ◌⊎◌, ◌+◌, ◌≤◌, ◌<◌, [], ◌∷◌, ℕ, length, All, reverse, vec_len, vec_capacity, OnOk, OnErr, IfErr, IsTrue};
 ghost use Rattle.plcr_io.specs.Desk.{HasOpen};
 ghost use Rattle.plcr_script.specs.Lawful.{IsLawful};
@@ -13,7 +14,8 @@ use plcr_command::MOST_SCRIPTS;
 use plcr_io::{Desk, MakeFailed};
 use plcr_script::{Script, Statement};
 
-/// A report whose file was not made or not kept: the number of its script and the place of its statement there, from 0.
+/// A report whose file was not made or not kept: the number of its script and the place of its
+/// statement there, from 0.
 #[derive(Clone, Copy, Debug, PartialEq, Eq)]
 pub(crate) struct Unwritten {
     pub(crate) script: u32,
@@ -34,8 +36,10 @@ pub(crate) fn make_all<D: Desk>(
     requires few { length scripts.now ≤ MOST_SCRIPTS }
     requires count { length workers.old ≡ length scripts.now }
     requires new { AreNew scripts.now workers.old }
-    ensures ok { OnOk result (AllMade D.Out.faults scripts.now workers.new (D.told desk.old) (D.told desk.new)) }
-    ensures err { IfErr result (λ unwritten. NotAllMade scripts.now workers.new unwritten.script unwritten.at (D.told desk.old) (D.told desk.new)) }
+    ensures ok { OnOk result
+        (AllMade D.Out.faults scripts.now workers.new (D.told desk.old) (D.told desk.new)) }
+    ensures err { IfErr result (λ unwritten. NotAllMade scripts.now workers.new unwritten.script
+        unwritten.at (D.told desk.old) (D.told desk.new)) }
     ensures empty { HaveEmpty D.Out.written workers.new }
     ensures same { AreSameWorkers workers.old workers.new }
 {
@@ -58,8 +62,12 @@ fn make_for<D: Desk>(
     requires script { IsLawful script.now }
     requires none { vec_len worker.old.drafts ≡ 0 }
     requires room { length (files_of script.now.statements) ≤ vec_capacity worker.old.drafts }
-    ensures ok { OnOk result (AreMade D.Out.faults number script.now.statements (length script.now.statements) worker.new.drafts.items × HasMade (files_of script.now.statements) (D.told desk.old) (D.told desk.new)) }
-    ensures err { IfErr result (λ at. IsUnmade D.Out.faults number script.now.statements at worker.new.drafts.items (D.told desk.old) (D.told desk.new)) }
+    ensures ok { OnOk result
+        (AreMade D.Out.faults number script.now.statements (length script.now.statements)
+        worker.new.drafts.items
+        × HasMade (files_of script.now.statements) (D.told desk.old) (D.told desk.new)) }
+    ensures err { IfErr result (λ at. IsUnmade D.Out.faults number script.now.statements at
+        worker.new.drafts.items (D.told desk.old) (D.told desk.new)) }
     ensures empty { AreEmpty D.Out.written worker.new.drafts.items }
     ensures same { IsSameWorker worker.old worker.new }
 {
@@ -80,8 +88,12 @@ fn make_drafts<D: Desk>(
     requires script { IsLawful script.now }
     requires none { vec_len drafts.old ≡ 0 }
     requires room { length (files_of script.now.statements) ≤ vec_capacity drafts.old }
-    ensures ok { OnOk result (AreMade D.Out.faults number script.now.statements (length script.now.statements) drafts.new.items × HasMade (files_of script.now.statements) (D.told desk.old) (D.told desk.new)) }
-    ensures err { IfErr result (λ at. IsUnmade D.Out.faults number script.now.statements at drafts.new.items (D.told desk.old) (D.told desk.new)) }
+    ensures ok { OnOk result
+        (AreMade D.Out.faults number script.now.statements (length script.now.statements)
+        drafts.new.items × HasMade (files_of script.now.statements) (D.told desk.old)
+        (D.told desk.new)) }
+    ensures err { IfErr result (λ at. IsUnmade D.Out.faults number script.now.statements at
+        drafts.new.items (D.told desk.old) (D.told desk.new)) }
     ensures empty { AreEmpty D.Out.written drafts.new.items }
 {
     for at in 0..script.len() {
@@ -100,8 +112,8 @@ fn make_drafts<D: Desk>(
     Ok(())
 }
 
-/// Keeps the files of all scripts, of which the last is the first, up to the first that was not written whole or is not
-/// kept; the others are given up.
+/// Keeps the files of all scripts, of which the last is the first, up to the first that was not
+/// written whole or is not kept; the others are given up.
 ///
 /// # Errors
 ///
@@ -115,8 +127,11 @@ pub(crate) fn keep_all<D: Desk>(
     requires drafts { All (IsDraftOf scripts.now) (in_order all.items) }
     requires done { AreDone D.Out.faults (in_order all.items) }
     requires open { HasOpenFor (length (in_order all.items)) (D.told desk.old) }
-    ensures ok { OnOk result (HasKeptAll D.Out.written scripts.now (in_order all.items) (D.told desk.old) (D.told desk.new)) }
-    ensures err { IfErr result (λ unwritten. HasKeptUpTo D.Out.written scripts.now (in_order all.items) unwritten.script unwritten.at (D.told desk.old) (D.told desk.new)) }
+    ensures ok { OnOk result (HasKeptAll D.Out.written scripts.now (in_order all.items)
+        (D.told desk.old) (D.told desk.new)) }
+    ensures err { IfErr result (λ unwritten.
+        HasKeptUpTo D.Out.written scripts.now (in_order all.items) unwritten.script unwritten.at
+        (D.told desk.old) (D.told desk.new)) }
 {
     let mut all = all;
     while let Some(drafts) = all.pop() {
@@ -138,9 +153,13 @@ fn keep_each<D: Desk>(
     requires drafts { All (IsDraftOf scripts.now) (reverse drafts.items) }
     requires done { AreDone D.Out.faults (reverse drafts.items) }
     requires open { HasOpenFor (length drafts.items) (D.told desk.old) }
-    ensures ok { OnOk result (HasKeptAll D.Out.written scripts.now (reverse drafts.items) (D.told desk.old) (D.told desk.new)) }
-    ensures err { IfErr result (λ unwritten. HasKeptUpTo D.Out.written scripts.now (reverse drafts.items) unwritten.script unwritten.at (D.told desk.old) (D.told desk.new)) }
-    ensures open { (count : ℕ) → HasOpenFor (count + length drafts.items) (D.told desk.old) → HasOpenFor count (D.told desk.new) }
+    ensures ok { OnOk result (HasKeptAll D.Out.written scripts.now (reverse drafts.items)
+        (D.told desk.old) (D.told desk.new)) }
+    ensures err { IfErr result (λ unwritten.
+        HasKeptUpTo D.Out.written scripts.now (reverse drafts.items) unwritten.script unwritten.at
+        (D.told desk.old) (D.told desk.new)) }
+    ensures open { (count : ℕ) → HasOpenFor (count + length drafts.items) (D.told desk.old) →
+        HasOpenFor count (D.told desk.new) }
 {
     let mut drafts = drafts;
     while let Some(draft) = drafts.pop() {
@@ -158,9 +177,12 @@ fn keep<D: Desk>(scripts: &[Script], desk: &mut D, draft: Draft<D::Out>) -> Resu
     requires draft { IsDraftOf scripts.now draft }
     requires done { AreDone D.Out.faults (draft ∷ []) }
     requires open { HasOpen (D.told desk.old) }
-    ensures ok { OnOk result (HasKeptAll D.Out.written scripts.now (draft ∷ []) (D.told desk.old) (D.told desk.new)) }
-    ensures err { IfErr result (λ unwritten. HasKeptUpTo D.Out.written scripts.now (draft ∷ []) unwritten.script unwritten.at (D.told desk.old) (D.told desk.new)) }
-    ensures open { (count : ℕ) → HasOpenFor (count + 1) (D.told desk.old) → HasOpenFor count (D.told desk.new) }
+    ensures ok { OnOk result (HasKeptAll D.Out.written scripts.now (draft ∷ []) (D.told desk.old)
+        (D.told desk.new)) }
+    ensures err { IfErr result (λ unwritten. HasKeptUpTo D.Out.written scripts.now (draft ∷ [])
+        unwritten.script unwritten.at (D.told desk.old) (D.told desk.new)) }
+    ensures open { (count : ℕ) → HasOpenFor (count + 1) (D.told desk.old) →
+        HasOpenFor count (D.told desk.new) }
 {
     let Draft {
         script,
@@ -199,7 +221,8 @@ pub(crate) fn abandon_all<D: Desk>(desk: &mut D, all: Vec<Vec<Draft<D::Out>>>)
 fn abandon_each<D: Desk>(desk: &mut D, drafts: Vec<Draft<D::Out>>)
     requires open { HasOpenFor (length drafts.items) (D.told desk.old) }
     ensures dropped { HasDropped (D.told desk.old) (D.told desk.new) }
-    ensures open { (count : ℕ) → HasOpenFor (count + length drafts.items) (D.told desk.old) → HasOpenFor count (D.told desk.new) }
+    ensures open { (count : ℕ) → HasOpenFor (count + length drafts.items) (D.told desk.old) →
+        HasOpenFor count (D.told desk.new) }
 {
     let mut drafts = drafts;
     while let Some(draft) = drafts.pop() {

@@ -1,4 +1,5 @@
-//! The list that all workers share, with the queue through which its writer goes round, and the workers.
+//! The list that all workers share, with the queue through which its writer goes round, and the
+//! workers.
 ghost use Rattle.std.specs.Prelude.{◌≡◌, ◌≤◌, All, IfOk, length, vec_len};
 ghost use Rattle.crossbeam_queue.specs.Passes.{view, IsPassOf, ruled_capacity};
 ghost use Rattle.plcr_imagelist.specs.Holds.{WalkerState};
@@ -29,8 +30,8 @@ pub(crate) struct Stage<K> {
     pub(crate) room: Left<K>,
 }
 
-/// A list with the first script's number of nodes and a pass for each script, whose turn lies in the queue, and a worker for
-/// each script. All memory of a run is taken here.
+/// A list with the first script's number of nodes and a pass for each script, whose turn lies in
+/// the queue, and a worker for each script. All memory of a run is taken here.
 pub(crate) fn open<R: Wait, K: Sink + Drop>(
     rt: &R,
     alloc: Global,
@@ -84,8 +85,10 @@ fn open_queue<R: Wait>(
 ) -> Result<(TurnQueue, TurnPass), AllocError>
     requires new { is_new writer }
     ensures queue { IfOk result (λ q. (ruled_capacity q.0 ≡ 1) × IsPassOf q.0 q.1) }
-    ensures handed { IfOk result (λ q. HasHanded 0 writer.table (totals_in scripts.now) (view q.1)) }
-    ensures sizes { IfOk result (λ q. ((view q.1).nodes ≡ writer.nodes) × ((view q.1).passes ≡ writer.passes)) }
+    ensures handed { IfOk result
+        (λ q. HasHanded 0 writer.table (totals_in scripts.now) (view q.1)) }
+    ensures sizes { IfOk result
+        (λ q. ((view q.1).nodes ≡ writer.nodes) × ((view q.1).passes ≡ writer.passes)) }
 {
     let totals = totals_of(alloc, scripts)?;
     let turn = Turn::open(alloc, writer, totals.as_slice())?;

@@ -72,8 +72,8 @@ pub(crate) fn come_out(list: &ImageList, place: Place) -> Pass
     }
 }
 
-/// Takes a statement of the pass that writes no file, and gives what it came to. One that finds the pass where it may not be
-/// is never read, and does nothing.
+/// Takes a statement of the pass that writes no file, and gives what it came to. One that finds the
+/// pass where it may not be is never read, and does nothing.
 pub(crate) fn move_pass<G: Gate>(
     list: &ImageList,
     gate: &G,
@@ -86,7 +86,8 @@ pub(crate) fn move_pass<G: Gate>(
     requires few { script < MOST_SCRIPTS }
     ensures list { IsAt list.now result.0 }
     ensures said { IfSome result.1 IsNoReportSaid }
-    ensures moves { asked_in statement.now ≡ None → file_of statement.now ≡ None → Moves statement.now place result.0 (took_of result.1) }
+    ensures moves { asked_in statement.now ≡ None → file_of statement.now ≡ None →
+        Moves statement.now place result.0 (took_of result.1) }
     ensures goes { PassGoes (walker_of place) (walker_of result.0) }
 {
     match place {
@@ -133,7 +134,8 @@ fn walk_on(list: &ImageList, hold: Hold, most: u32) -> (Hold, PassSaid)
 fn leave(list: &ImageList, hold: Hold) -> (Pass, PassSaid)
     requires list { hold.walker.table ≡ list.now }
     ensures list { result.0.table ≡ list.now }
-    ensures said { (low : ℕ) × (high : ℕ) × IsReleased hold result.0 low high × (result.1 ≡ PassSaid.Left (length hold.met) low high) }
+    ensures said { (low : ℕ) × (high : ℕ) × IsReleased hold result.0 low high
+        × (result.1 ≡ PassSaid.Left (length hold.met) low high) }
     ensures goes { PassGoes hold.walker result.0 }
 {
     let met = hold.met();

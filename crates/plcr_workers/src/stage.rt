@@ -38,8 +38,8 @@ use plcr_turns::{ChangeLine, TurnPass, TurnQueue, take_last};
 use std::sync::Wait;
 use std::thread::Threads;
 
-/// What a run leaves: the writer, which has met all passes; the journal; the outputs, of which the last is the first; and
-/// the other lines of each script.
+/// What a run leaves: the writer, which has met all passes; the journal; the outputs, of which the
+/// last is the first; and the other lines of each script.
 #[derive(Drop)]
 struct Ran<K> {
     writer: Writer,
@@ -142,15 +142,23 @@ where
     requires queue { ruled_capacity queue.now ≡ 1 }
     requires count { length workers.old ≡ length scripts.now }
     requires new { AreNew scripts.now workers.old }
-    requires hired { All (λ w. IsHired queue.now.table.shared.table_id list.now scripts.now w) workers.old }
-    ensures ok { OnOk result (HasWorked D.Out.faults scripts.now workers.new (D.told desk.old) (D.told desk.new)) }
-    ensures err { IfErr result (λ unwritten. NotAllMade scripts.now workers.new unwritten.script unwritten.at (D.told desk.old) (D.told desk.new)) }
-    ensures reports { OnOk result (HasReported D.Out.written D.Out.faults (meanings_in core.now scripts.now) workers.new) }
-    ensures acted { OnOk result (All (λ w. IsActed D.Out.written (meanings_in core.now scripts.now).report scripts.now w) workers.new) }
-    ensures own { All (λ w. KnowsOwnOf (meanings_in core.now scripts.now) scripts.now w) workers.new }
+    requires hired { All (λ w. IsHired queue.now.table.shared.table_id list.now scripts.now w)
+        workers.old }
+    ensures ok { OnOk result
+        (HasWorked D.Out.faults scripts.now workers.new (D.told desk.old) (D.told desk.new)) }
+    ensures err { IfErr result (λ unwritten. NotAllMade scripts.now workers.new unwritten.script
+        unwritten.at (D.told desk.old) (D.told desk.new)) }
+    ensures reports { OnOk result
+        (HasReported D.Out.written D.Out.faults (meanings_in core.now scripts.now) workers.new) }
+    ensures acted { OnOk result
+        (All (λ w. IsActed D.Out.written (meanings_in core.now scripts.now).report scripts.now w)
+        workers.new) }
+    ensures own { All (λ w. KnowsOwnOf (meanings_in core.now scripts.now) scripts.now w)
+        workers.new }
     ensures count { length workers.new ≡ length scripts.now }
     ensures numbers { AreNumbered workers.new }
-    ensures gone { All (λ w. IsGone queue.now.table.shared.table_id list.now scripts.now w) workers.new }
+    ensures gone { All (λ w. IsGone queue.now.table.shared.table_id list.now scripts.now w)
+        workers.new }
 {
     if let Err(unwritten) = make_all(scripts, desk, workers) {
         return Err(unwritten);
@@ -177,16 +185,25 @@ fn end_workers<R: Wait, K: Sink + Drop>(
     requires sizes { AreSizesOf scripts.now (view chief.old).nodes (view chief.old).passes }
     requires count { vec_len workers ≡ length scripts.now }
     requires numbers { AreNumbered workers.items }
-    requires gone { All (λ w. IsGone queue.now.table.shared.table_id list.now scripts.now w) workers.items }
+    requires gone { All (λ w. IsGone queue.now.table.shared.table_id list.now scripts.now w)
+        workers.items }
     requires images_room { vec_len room.images + vec_len workers ≤ vec_capacity room.images }
     requires drafts_room { vec_len room.drafts + vec_len workers ≤ vec_capacity room.drafts }
     requires others_room { vec_len room.others + vec_len workers ≤ vec_capacity room.others }
-    requires none { (vec_len room.images ≡ 0) × (vec_len room.drafts ≡ 0) × (vec_len room.others ≡ 0) }
+    requires none { (vec_len room.images ≡ 0) × (vec_len room.drafts ≡ 0)
+        × (vec_len room.others ≡ 0) }
     ensures writer { IsWriterOf scripts.now (Some result.writer) }
-    ensures tells { (process : Meanings) → All (λ w. KnowsOwnOf process scripts.now w) workers.items → IsJournalOf process scripts.now result.journal.items result.writer × AppliesAll scripts.now workers.items result.journal.items }
-    ensures reported { (process : Meanings) → HasReported K.written K.faults process workers.items → ToldReports K.written process result.writer workers.items }
-    ensures runs { (process : Meanings) → RunWhole K.written process scripts.now workers.items result.writer result.journal.items (items_of result.others.items) }
-    ensures journal { All (λ (l : JournalLine). l.script < length scripts.now) result.journal.items }
+    ensures tells { (process : Meanings) →
+        All (λ w. KnowsOwnOf process scripts.now w) workers.items →
+        IsJournalOf process scripts.now result.journal.items result.writer
+        × AppliesAll scripts.now workers.items result.journal.items }
+    ensures reported { (process : Meanings) → HasReported K.written K.faults process workers.items →
+        ToldReports K.written process result.writer workers.items }
+    ensures runs { (process : Meanings) →
+        RunWhole K.written process scripts.now workers.items result.writer result.journal.items
+        (items_of result.others.items) }
+    ensures journal { All (λ (l : JournalLine). l.script < length scripts.now)
+        result.journal.items }
     ensures drafts { in_order result.drafts.items ≡ outputs_of workers.items }
     ensures others { AreLinesOf scripts.now result.others.items }
 {
@@ -221,7 +238,8 @@ fn settle<D: Desk>(
     requires drafts { made ≡ Ok tt → All (IsDraftOf scripts.now) (in_order drafts.items) }
     requires done { made ≡ Ok tt → AreDone D.Out.faults (in_order drafts.items) }
     requires open { HasOpenFor (length (in_order drafts.items)) (D.told desk.old) }
-    ensures settles { Settles D.Out.written scripts.now (in_order drafts.items) made (D.told desk.old) (D.told desk.new) result }
+    ensures settles { Settles D.Out.written scripts.now (in_order drafts.items) made
+        (D.told desk.old) (D.told desk.new) result }
 {
     match made {
         Ok(()) => keep_all(scripts, desk, drafts),
@@ -242,7 +260,9 @@ fn print_log<L: Sink>(
     requires few { length scripts.now ≤ MOST_SCRIPTS }
     requires journal { All (λ (l : JournalLine). l.script < length scripts.now) journal.now }
     requires others { AreLinesOf scripts.now others.now }
-    ensures ends { LogEnds (L.written lines.old) (L.written lines.new) (threads_log scripts.now journal.now (items_of others.now)) (L.faults lines.old) (L.faults lines.new) result }
+    ensures ends { LogEnds (L.written lines.old) (L.written lines.new)
+        (threads_log scripts.now journal.now (items_of others.now)) (L.faults lines.old)
+        (L.faults lines.new) result }
     ensures later { L.faults lines.old ≤ L.faults lines.new }
     ensures mark { L.mark lines.new ≡ L.mark lines.old }
 {
@@ -261,8 +281,11 @@ fn print_all<L: Sink>(
     requires few { length scripts.now ≤ MOST_SCRIPTS }
     requires journal { All (λ (l : JournalLine). l.script < length scripts.now) journal.now }
     requires others { AreLinesOf scripts.now others.now }
-    ensures ok { OnOk result (L.written lines.new ≡ append_known (L.written lines.old) (threads_log scripts.now journal.now (items_of others.now))) }
-    ensures err { OnErr result (AppendsProperFront (L.written lines.old) (L.written lines.new) (threads_log scripts.now journal.now (items_of others.now))) }
+    ensures ok { OnOk result
+        (L.written lines.new ≡ append_known (L.written lines.old)
+        (threads_log scripts.now journal.now (items_of others.now))) }
+    ensures err { OnErr result (AppendsProperFront (L.written lines.old) (L.written lines.new)
+        (threads_log scripts.now journal.now (items_of others.now))) }
     ensures cause { OnErr result (Rose (L.faults lines.old) (L.faults lines.new)) }
     ensures later { L.faults lines.old ≤ L.faults lines.new }
     ensures mark { L.mark lines.new ≡ L.mark lines.old }
@@ -281,8 +304,10 @@ fn print_others<L: Sink>(
 ) -> Result<(), PutFailed>
     requires few { length scripts.now ≤ MOST_SCRIPTS }
     requires others { AreLinesOf scripts.now others.now }
-    ensures ok { OnOk result (L.written lines.new ≡ append_known (L.written lines.old) (scripts_text 1 scripts.now (items_of others.now))) }
-    ensures err { OnErr result (AppendsProperFront (L.written lines.old) (L.written lines.new) (scripts_text 1 scripts.now (items_of others.now))) }
+    ensures ok { OnOk result (L.written lines.new
+        ≡ append_known (L.written lines.old) (scripts_text 1 scripts.now (items_of others.now))) }
+    ensures err { OnErr result (AppendsProperFront (L.written lines.old) (L.written lines.new)
+        (scripts_text 1 scripts.now (items_of others.now))) }
     ensures cause { OnErr result (Rose (L.faults lines.old) (L.faults lines.new)) }
     ensures later { L.faults lines.old ≤ L.faults lines.new }
     ensures mark { L.mark lines.new ≡ L.mark lines.old }
@@ -300,7 +325,9 @@ fn print_others<L: Sink>(
 fn print_failed<L: Sink>(scripts: &[Script], unwritten: Unwritten, lines: &mut L)
     requires scripts { All IsLawful scripts.now }
     requires stands { StandsAt scripts.now unwritten.script unwritten.at }
-    ensures printed { Prints (L.written lines.old) (L.written lines.new) (cannot_write (name_at scripts.now unwritten.script unwritten.at)) (L.faults lines.old) (L.faults lines.new) }
+    ensures printed { Prints (L.written lines.old) (L.written lines.new)
+        (cannot_write (name_at scripts.now unwritten.script unwritten.at)) (L.faults lines.old)
+        (L.faults lines.new) }
     ensures later { L.faults lines.old ≤ L.faults lines.new }
     ensures mark { L.mark lines.new ≡ L.mark lines.old }
 {

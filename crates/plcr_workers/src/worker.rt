@@ -23,8 +23,8 @@ use plcr_script::{Process, Script};
 use plcr_turns::{TurnPass, TurnQueue};
 use std::sync::Wait;
 
-/// A worker: the number of its script, from 0, its passes of the queue and of the list, the outputs of its reports, and the
-/// lines of its script that don't stand in the journal.
+/// A worker: the number of its script, from 0, its passes of the queue and of the list, the outputs
+/// of its reports, and the lines of its script that don't stand in the journal.
 #[derive(Drop)]
 pub struct Worker<K> {
     pub(crate) script: u32,
@@ -35,7 +35,8 @@ pub struct Worker<K> {
 }
 
 impl<K: Sink> Worker<K> {
-    /// Runs the script, up to its end or to the first output that fails. The pass comes out at the end.
+    /// Runs the script, up to its end or to the first output that fails. The pass comes out at the
+    /// end.
     pub(crate) fn run<R: Wait, P: Process, G: Gate>(
         &mut self,
         rt: &R,
@@ -51,12 +52,17 @@ impl<K: Sink> Worker<K> {
         requires ready { IsReady queue.now.table.shared.table_id list.now script.now self.old }
         requires outputs { HasOutputs K.faults script.now self.old }
         requires apart { HaveOwnLines script.now.statements }
-        ensures run { HasRun queue.entry.now.table.shared.table_id list.entry.now script.entry.now self.old self.new }
+        ensures run { HasRun queue.entry.now.table.shared.table_id list.entry.now script.entry.now
+            self.old self.new }
         ensures taken { HasTaken K.faults self.old self.new }
         ensures whole { IsWhole script.entry.now self.new }
-        ensures reports { HasReports K.written (P.report process.entry.now context.entry.now) self.old self.new }
-        ensures acted { ActsWhole K.written (P.report process.entry.now context.entry.now) script.entry.now.statements self.old self.new }
-        ensures own { KnowsOwn (meanings (P.image_fault process.entry.now) (P.report process.entry.now context.entry.now)) script.entry.now.statements self.new }
+        ensures reports { HasReports K.written (P.report process.entry.now context.entry.now)
+            self.old self.new }
+        ensures acted { ActsWhole K.written (P.report process.entry.now context.entry.now)
+            script.entry.now.statements self.old self.new }
+        ensures own { KnowsOwn
+            (meanings (P.image_fault process.entry.now)
+            (P.report process.entry.now context.entry.now)) script.entry.now.statements self.new }
     {
         let Some(pass) = self.image.take() else {
             return;
@@ -84,14 +90,20 @@ impl<K: Sink> Worker<K> {
         requires outputs { HasOutputs K.faults script.now self.old }
         requires apart { HaveOwnLines script.now.statements }
         requires place { IsAt list.now place }
-        ensures goes { Goes queue.entry.now.table.shared.table_id list.entry.now script.entry.now self.old self.new }
+        ensures goes { Goes queue.entry.now.table.shared.table_id list.entry.now script.entry.now
+            self.old self.new }
         ensures place { IsAt list.entry.now result }
         ensures image { PassGoes (walker_of place) (walker_of result) }
         ensures taken { HasTaken K.faults self.old self.new }
         ensures whole { IsWhole script.entry.now self.new }
-        ensures reports { AreReports K.written (P.report process.entry.now context.entry.now) (walker_of result) self.old.drafts.items self.new.drafts.items }
-        ensures traced { TracesWhole K.written (P.report process.entry.now context.entry.now) script.entry.now.statements place result self.old self.new }
-        ensures own { AreOwn (meanings (P.image_fault process.entry.now) (P.report process.entry.now context.entry.now)) script.entry.now.statements (walker_of result).names (lines_of self.new.script (view self.new.turns).journal) }
+        ensures reports { AreReports K.written (P.report process.entry.now context.entry.now)
+            (walker_of result) self.old.drafts.items self.new.drafts.items }
+        ensures traced { TracesWhole K.written (P.report process.entry.now context.entry.now)
+            script.entry.now.statements place result self.old self.new }
+        ensures own { AreOwn
+            (meanings (P.image_fault process.entry.now)
+            (P.report process.entry.now context.entry.now)) script.entry.now.statements
+            (walker_of result).names (lines_of self.new.script (view self.new.turns).journal) }
     {
         let mut place = place;
         let mut next = 0;
@@ -121,12 +133,13 @@ impl<K: Sink> Worker<K> {
     }
 }
 
-/// Adds the line of a statement, if it has one here. Gives the number of the script's next output, behind this one; none
-/// where an output failed.
+/// Adds the line of a statement, if it has one here. Gives the number of the script's next output,
+/// behind this one; none where an output failed.
 fn add_line(lines: &mut Vec<PassLine>, at: usize, took: Took, next: usize) -> Option<usize>
     requires room { vec_len lines.old < vec_capacity lines.old }
     requires small { next + 1 < 2 ^ 64 }
-    ensures lines { (n : ℕ) → at < n → All (λ (l : Line). l.at < n) lines.old.items → All (λ (l : Line). l.at < n) lines.new.items }
+    ensures lines { (n : ℕ) → at < n → All (λ (l : Line). l.at < n) lines.old.items →
+        All (λ (l : Line). l.at < n) lines.new.items }
     ensures said { lines.new.items ≡ lines.old.items ++ lines_said at took }
     ensures len { vec_len lines.new ≤ vec_len lines.old + 1 }
     ensures capacity { vec_capacity lines.new ≡ vec_capacity lines.old }

@@ -15,6 +15,8 @@ CoreMisread bytes refusal = ⊥
 
 -- what the bytes of the script of this number are refused for, behind these scripts
 abbrev pub ScriptMisread : ℕ → Mode → List ScriptValue → List ℕ → Refusal → Type 0
-ScriptMisread number mode before bytes (ScriptRefused script line kind) = numbered number (script_in mode before bytes) ≡ Err (record { script = script; line = line; kind = kind })
+ScriptMisread number mode before bytes (ScriptRefused script line kind) =
+    numbered number (script_in mode before bytes)
+    ≡ Err (record { script = script; line = line; kind = kind })
 ScriptMisread number mode before bytes OutOfMemory = Unit {0}
 ScriptMisread number mode before bytes refusal = ⊥

@@ -11,10 +11,12 @@ use Rattle.plcr_compact.specs.Callers.{Caller, kept_in, saved_place, saved_word}
 -- the registers before the stack is read: those that functions keep, and the pc where it is known
 abbrev pub value_before : Frame → Option ℕ → List (Option ℕ)
 value_before frame None = kept_in frame
-value_before frame (Some back) = slice_set (kept_in frame) (pc_place frame.registers.arch) (Some back)
+value_before frame (Some back) =
+    slice_set (kept_in frame) (pc_place frame.registers.arch) (Some back)
 
 abbrev pub caller_of : Frame → List SavedWord → kept.Caller → Caller
-caller_of frame words caller = record { value = value_before frame caller.back; stack = caller.stack; words = words }
+caller_of frame words caller =
+    record { value = value_before frame caller.back; stack = caller.stack; words = words }
 
 -- the word of a register, where one was saved
 abbrev pub field_word : ℤ → Option SavedRegister → List SavedWord

@@ -17,7 +17,8 @@ pub record IndexIs (memory : Contents) (part : Part) (answer : Answer SectionHea
   pub near : IfOk answer (λ header. IsNear header.common × IsNear header.index)
 
 -- the answer is what reading the page of an entry gives
-pub record PageIs (memory : Contents) (part : Part) (entry : Entry) (answer : Answer PageHeader) : Type 0 where
+pub record PageIs (memory : Contents) (part : Part) (entry : Entry)
+    (answer : Answer PageHeader) : Type 0 where
   pub header : answer ≡ page_header (section_at memory part) entry
   pub near : IfOk answer IsNearPage
 
@@ -31,6 +32,7 @@ PageHolds memory None = Unit {0}
 PageHolds memory (Some known) = PageIs memory known.part known.entry known.answer
 
 -- and so is what all slots have
-pub record HoldAll (memory : Contents) (headers : List (Option KnownIndex)) (heads : List (Option KnownPage)) : Type 0 where
+pub record HoldAll (memory : Contents) (headers : List (Option KnownIndex))
+    (heads : List (Option KnownPage)) : Type 0 where
   pub indexes : All (IndexHolds memory) headers
   pub pages : All (PageHolds memory) heads

@@ -31,7 +31,8 @@ empty = record { function = 0; value = 0 }
 
 -- the entries of a table
 unfoldable pub entries_in : Source → EntryKind → Table → Answer (List Entry)
-entries_in section kind table = entries_at (entry_by kind section) (size_by kind) table.count table.at
+entries_in section kind table =
+    entries_at (entry_by kind section) (size_by kind) table.count table.at
 
 -- the same where they don't fall
 abbrev pub lawful_in : Source → EntryKind → Table → Answer (List Entry)

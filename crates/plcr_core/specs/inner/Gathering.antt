@@ -29,7 +29,12 @@ Gives view (Err fault) read = Fails fault read
 
 -- a load command that was read
 abbrev pub command_of : WholeCommand → Command
-command_of f = record { cmd = f.cmd; cmdsize = length f.bytes.now; place = f.place; bytes = f.bytes.now }
+command_of f = record {
+  cmd = f.cmd;
+  cmdsize = length f.bytes.now;
+  place = f.place;
+  bytes = f.bytes.now;
+}
 
 -- what one command gives
 abbrev pub gain_of : Arch → Command → Gain
@@ -44,11 +49,16 @@ pub record Gains : Type 0 where
 abbrev pub gains_of : Arch → List Command → Gains
 gains_of arch cs =
     let threads = filter_map (thread_of arch) cs in
-    record { regions = filter_map region_of cs; threads = take MOST_THREADS threads; count = length threads }
+    record {
+      regions = filter_map region_of cs;
+      threads = take MOST_THREADS threads;
+      count = length threads;
+    }
 
 -- what a command gives, or its trouble
 abbrev pub gain_in : Arch → ℕ → ℕ → Command → Result Gain Trouble
-gain_in arch file_length index c = result_map (gain_of arch) (passed c (core_trouble file_length index c))
+gain_in arch file_length index c =
+    result_map (gain_of arch) (passed c (core_trouble file_length index c))
 
 -- what all commands of the file give, or the first fault among them
 abbrev pub gains_in : List ℕ → Header → Result Gains CoreFault

@@ -18,15 +18,20 @@ or_next answer next = if is_bad answer.step then next else answer
 -- the answer that counts for a frame of code in an image, or in none
 abbrev pub answer_by : Contents → Frame → Option Image → Answer
 answer_by memory frame None = saved_answer memory frame
-answer_by memory frame (Some image) = or_next (or_next (compact_answer memory frame image) (call_frame_answer memory frame image)) (saved_answer memory frame)
+answer_by memory frame (Some image) =
+    or_next (or_next (compact_answer memory frame image) (call_frame_answer memory frame image))
+    (saved_answer memory frame)
 
 -- the image that was located
 abbrev pub image_in : Option Located → Option Image
 image_in over = option_map (λ located. located.image) over
 
--- the image that was located, where one was, stands no higher than the address by which the frame's function is looked up
+-- the image that was located, where one was, stands no higher than the address by which the frame's
+-- function is looked up
 abbrev pub IsBelow : Frame → Option Located → Type 0
-IsBelow frame over = IfSome over (λ located. IsSomeAnd (frame_lookup frame) (λ address. located.image.header ≤ address))
+IsBelow frame over =
+    IfSome over (λ located.
+    IsSomeAnd (frame_lookup frame) (λ address. located.image.header ≤ address))
 
 -- the answer that is told with a frame in room
 abbrev pub answer_in : Told → Frame → Answer

@@ -29,13 +29,14 @@ shown k = if k.count == 0 then None else Some (value_slice k.value)
 abbrev pub again : Kept → ValueSlice → Kept
 again k c = record { value = c; count = suc k.count }
 
--- What is kept under a number and the fields that are left give its last value and how many there are; of none or of
--- one, also its messages.
+-- What is kept under a number and the fields that are left give its last value and how many there
+-- are; of none or of one, also its messages.
 pub record KeepsOne (k : Kept) (n : ℕ) (whole rest : List Field) : Type 0 where
   pub value : last_or (shown k) n rest ≡ last_value n whole
   pub count : k.count + length (messages_in n rest) ≡ length (messages_in n whole)
   pub none : k.count ≡ 0 → messages_in n whole ≡ messages_in n rest
-  pub only : k.count ≡ 1 → messages_in n whole ≡ fields_of (value_bytes (value_slice k.value)) ∷ messages_in n rest
+  pub only : k.count ≡ 1 → messages_in n whole ≡ fields_of (value_bytes (value_slice k.value))
+      ∷ messages_in n rest
 
 -- the same under each number
 abbrev pub KeepsUpTo : List Kept → List Field → List Field → Type 0

@@ -25,7 +25,8 @@ told_lack None = Ok tt
 told_lack (Some l) = Err (lack_fault l)
 
 -- the first of two faults
-abbrev pub before : Result (Unit {0}) DecodeFault → Result (Unit {0}) DecodeFault → Result (Unit {0}) DecodeFault
+abbrev pub before : Result (Unit {0}) DecodeFault → Result (Unit {0}) DecodeFault →
+    Result (Unit {0}) DecodeFault
 before r s = r >>= λ u. s
 
 -- a message that may stand in parts
@@ -72,31 +73,38 @@ SeesMore old new fs = (m : ℕ) → m < NUMBERS → seen new m ≡ (if seen old 
 -- a message is passed that stands in a field of this number
 abbrev pub MessageTakes : Bool → Kind → ℕ → List ℕ → Marks → Marks → Type 0
 MessageTakes true kind n text old new = SeesMore (part old n) (part new n) (fields_of text)
-MessageTakes false kind n text old new = told_lack (lack new n) ≡ (told_lack (lack old n) >>= λ u. whole kind (fields_of text))
+MessageTakes false kind n text old new =
+    told_lack (lack new n) ≡ (told_lack (lack old n) >>= λ u. whole kind (fields_of text))
 
 abbrev pub HeldTakes : Option Holds → ℕ → List ℕ → Marks → Marks → Type 0
 HeldTakes None n text old new = Unit {0}
 HeldTakes (Some holds.Number) n text old new = Unit {0}
 HeldTakes (Some holds.Text) n text old new = Unit {0}
-HeldTakes (Some (holds.Message kind)) n text old new = MessageTakes (is_joined kind) kind n text old new
+HeldTakes (Some (holds.Message kind)) n text old new =
+    MessageTakes (is_joined kind) kind n text old new
 
 -- one more field is passed
 pub record Takes (kind : Kind) (f : Field) (old new : Marks) : Type 0 where
-  pub fields : (n : ℕ) → n < NUMBERS → seen new.fields n ≡ (if f.number == n then true else seen old.fields n)
+  pub fields : (n : ℕ) → n < NUMBERS →
+      seen new.fields n ≡ (if f.number == n then true else seen old.fields n)
   pub parts : (n : ℕ) → n < NUMBERS → n ≢ f.number → part new n ≡ part old n
   pub lacks : (n : ℕ) → n < NUMBERS → n ≢ f.number → lack new n ≡ lack old n
   pub here : HeldTakes (rule kind f.number) f.number (value_bytes f.value) old new
 
 -- what is known of a number and the fields that are left tell what all fields do
 abbrev pub MessageUpTo : Bool → Kind → Marks → ℕ → List Field → List Field → Type 0
-MessageUpTo true kind marks n all rest = (m : ℕ) → m < NUMBERS → (if seen (part marks n) m then true else has m (joined n rest)) ≡ has m (joined n all)
-MessageUpTo false kind marks n all rest = (told_lack (lack marks n) >>= λ u. each_whole (whole kind) (messages_in n rest)) ≡ each_whole (whole kind) (messages_in n all)
+MessageUpTo true kind marks n all rest = (m : ℕ) → m < NUMBERS →
+    (if seen (part marks n) m then true else has m (joined n rest)) ≡ has m (joined n all)
+MessageUpTo false kind marks n all rest =
+    (told_lack (lack marks n) >>= λ u. each_whole (whole kind) (messages_in n rest))
+    ≡ each_whole (whole kind) (messages_in n all)
 
 abbrev pub HeldUpTo : Option Holds → Marks → ℕ → List Field → List Field → Type 0
 HeldUpTo None marks n all rest = Unit {0}
 HeldUpTo (Some holds.Number) marks n all rest = Unit {0}
 HeldUpTo (Some holds.Text) marks n all rest = Unit {0}
-HeldUpTo (Some (holds.Message kind)) marks n all rest = MessageUpTo (is_joined kind) kind marks n all rest
+HeldUpTo (Some (holds.Message kind)) marks n all rest =
+    MessageUpTo (is_joined kind) kind marks n all rest
 
 pub record MarkUpTo (kind : Kind) (marks : Marks) (n : ℕ) (all rest : List Field) : Type 0 where
   pub field : (if seen marks.fields n then true else has n rest) ≡ has n all
@@ -108,10 +116,12 @@ MarksUpTo kind marks all rest = (n : ℕ) → n < NUMBERS → MarkUpTo kind mark
 -- what lacks by what is known
 abbrev pub needs_by : Kind → List ℕ → Seen → Result (Unit {0}) DecodeFault
 needs_by kind [] fields = Ok tt
-needs_by kind (n ∷ ns) fields = if seen fields n then needs_by kind ns fields else Err (Missing kind n)
+needs_by kind (n ∷ ns) fields = if seen fields n then needs_by kind ns fields
+    else Err (Missing kind n)
 
 abbrev pub joined_by : Marks → Kind → ℕ → Result (Unit {0}) DecodeFault
-joined_by marks kind n = if seen marks.fields n then needs_by kind (required_of (rows kind)) (part marks n) else Ok tt
+joined_by marks kind n = if seen marks.fields n
+    then needs_by kind (required_of (rows kind)) (part marks n) else Ok tt
 
 abbrev pub held_by : Marks → Holds → Label → ℕ → Result (Unit {0}) DecodeFault
 held_by marks holds.Number label n = Ok tt
@@ -122,7 +132,9 @@ held_by marks (holds.Message kind) Repeated n = told_lack (lack marks n)
 
 abbrev pub inner_by : Marks → List Row → Result (Unit {0}) DecodeFault
 inner_by marks [] = Ok tt
-inner_by marks (row ∷ rows) = held_by marks row.holds row.label row.number >>= λ u. inner_by marks rows
+inner_by marks (row ∷ rows) = held_by marks row.holds row.label row.number >>= λ u.
+    inner_by marks rows
 
 abbrev pub marks_by : Kind → Marks → Result (Unit {0}) DecodeFault
-marks_by kind marks = needs_by kind (required_of (rows kind)) marks.fields >>= λ u. inner_by marks (rows kind)
+marks_by kind marks = needs_by kind (required_of (rows kind)) marks.fields >>= λ u.
+    inner_by marks (rows kind)

@@ -25,7 +25,8 @@ is_outside run a = nat_lt a run.lowest || nat_lt run.highest a
 
 -- a search for such an address may pass over the run
 pub record IsRun (s : Section) (run : Run) : Type 0 where
-  pub passes : (a left : ℕ) → a < 2 ^ 64 → is_outside run a ≡ true → found_from s a (run.entries + left) run.from ≡ found_from s a left run.to
+  pub passes : (a left : ℕ) → a < 2 ^ 64 → is_outside run a ≡ true →
+      found_from s a (run.entries + left) run.from ≡ found_from s a left run.to
 
 -- no entries
 abbrev pub run_at : ℕ → Run
@@ -40,14 +41,23 @@ abbrev pub lowest_with : Run → ℕ → ℕ → ℕ
 lowest_with run start range = if range == 0 then run.lowest else min run.lowest start
 
 abbrev pub highest_with : Run → ℕ → ℕ → ℕ
-highest_with run start range = if range == 0 then run.highest else max run.highest (last_of start range)
+highest_with run start range = if range == 0 then run.highest
+    else max run.highest (last_of start range)
 
 -- a run with one entry more
 abbrev pub with_bounds : Run → ℕ → ℕ → ℕ → Run
-with_bounds run next lowest highest = record { from = run.from; to = next; entries = run.entries + 1; lowest = lowest; highest = highest }
+with_bounds run next lowest highest =
+    record {
+      from = run.from;
+      to = next;
+      entries = run.entries + 1;
+      lowest = lowest;
+      highest = highest;
+    }
 
 abbrev pub with_code : Run → ℕ → ℕ → ℕ → Run
-with_code run start range next = with_bounds run next (lowest_with run start range) (highest_with run start range)
+with_code run start range next =
+    with_bounds run next (lowest_with run start range) (highest_with run start range)
 
 abbrev pub with_entry : Run → Entry → ℕ → Run
 with_entry run (Common c) next = with_bounds run next run.lowest run.highest
@@ -55,9 +65,16 @@ with_entry run (Description d) next = with_code run d.initial_location d.address
 
 -- a description of the code that was read
 abbrev pub described : Extent → CommonInformation → Code → FrameDescription
-described e c code = record { common = c; initial_location = code.start; address_range = code.range; rest = record { start = code.rest; end = e.end } }
+described e c code =
+    record {
+      common = c;
+      initial_location = code.start;
+      address_range = code.range;
+      rest = record { start = code.rest; end = e.end };
+    }
 
--- the extent and the id of an entry at a place that isn't the end; the id is none of a common information entry
+-- the extent and the id of an entry at a place that isn't the end; the id is none of a common
+-- information entry
 pub record IsNamed (s : Section) (place : ℕ) (e : Extent) (id : ℕ) : Type 0 where
   pub inside : nat_le s.size place ≡ false
   pub extent : extent_at s place ≡ Ok e
@@ -78,7 +95,8 @@ abbrev pub IsGrowing : Section → Option Run → ℕ → Type 0
 IsGrowing s run place = IfSome run (λ r. IsRun s r × (r.to ≡ place))
 
 -- a search has come to a place, with so many steps left
-pub record Walking (s : Section) (a left place : ℕ) (recent : Option Recent) (run : Option Run) (runs : List Run) : Type 0 where
+pub record Walking (s : Section) (a left place : ℕ) (recent : Option Recent) (run : Option Run)
+    (runs : List Run) : Type 0 where
   pub same : found_from s a left place ≡ description_for s a
   pub last : IsRecent s recent
   pub growing : IsGrowing s run place

@@ -12,7 +12,8 @@ use Rattle.plcr_dwarf_cfi.specs.inner.Fronts.{IsRun}
 
 -- the answer is what a search of the section for the address gives
 abbrev pub IsFound : Contents → Part → ℕ → Result FrameDescription CallFrameFault → Type 0
-IsFound memory part address answer = answer ≡ description_for (section_at memory part.at part.size) address
+IsFound memory part address answer =
+    answer ≡ description_for (section_at memory part.at part.size) address
 
 -- what a slot has is so
 abbrev pub Holds : Contents → Option KnownDescription → Type 0
@@ -23,6 +24,7 @@ abbrev pub FrontHolds : Contents → KnownFront → Type 0
 FrontHolds memory known = All (IsRun (section_at memory known.part.at known.part.size)) known.runs
 
 -- and so is what all slots have
-pub record HoldAll (memory : Contents) (answers : List (Option KnownDescription)) (heads : List KnownFront) : Type 0 where
+pub record HoldAll (memory : Contents) (answers : List (Option KnownDescription))
+    (heads : List KnownFront) : Type 0 where
   pub descriptions : All (Holds memory) answers
   pub fronts : All (FrontHolds memory) heads

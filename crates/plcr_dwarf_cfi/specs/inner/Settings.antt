@@ -5,4 +5,5 @@ use Rattle.plcr_dwarf_cfi.specs.Sections.{Section}
 
 -- bytes in their surroundings
 abbrev pub section : Source → Surroundings → Section
-section cells around = record { cells = cells; at = around.at; size = around.size; memory = around.memory.now }
+section cells around =
+    record { cells = cells; at = around.at; size = around.size; memory = around.memory.now }

@@ -32,12 +32,14 @@ summary_of Accepted next = Ok (record { augmented = true; next = next })
 summary_of Refused next = Err UnknownAugmentation
 
 -- the same of a text of which letters have been read up to a place
-abbrev pub unless : Option CallFrameFault → Result Summary CallFrameFault → Result Summary CallFrameFault
+abbrev pub unless : Option CallFrameFault → Result Summary CallFrameFault →
+    Result Summary CallFrameFault
 unless None result = result
 unless (Some fault) result = Err fault
 
 abbrev pub summarized : TextForm → ℕ → Listed ℕ → Result Summary CallFrameFault
-summarized form place list = unless list.fault (summary_of (with_letters form list.items) (place + length list.items + 1))
+summarized form place list =
+    unless list.fault (summary_of (with_letters form list.items) (place + length list.items + 1))
 
 -- the same of a text
 abbrev pub has_letters : List ℕ → Bool
@@ -53,11 +55,22 @@ IsRecent s recent = IfSome recent (λ r. common_at s r.place ≡ Ok r.common)
 
 -- a common information entry by what is kept of its text
 abbrev pub rest_by : Section → Extent → Bool → List ℕ → ℕ → Result Rest CallFrameFault
-rest_by s e false letters place = Ok (record { augmented = false; signal_frame = false; pointers = plain_pointers; instructions = place })
+rest_by s e false letters place =
+    Ok (record {
+      augmented = false;
+      signal_frame = false;
+      pointers = plain_pointers;
+      instructions = place;
+    })
 rest_by s e true letters place =
     passed_over s e place >>= λ bytes.
     augmentation_from s letters bytes.value >>= λ a.
-    Ok (record { augmented = true; signal_frame = a.signal_frame; pointers = a.pointers; instructions = bytes.next })
+    Ok (record {
+      augmented = true;
+      signal_frame = a.signal_frame;
+      pointers = a.pointers;
+      instructions = bytes.next;
+    })
 
 abbrev pub common_by : Section → Extent → Result CommonInformation CallFrameFault
 common_by s e =
@@ -65,5 +78,6 @@ common_by s e =
     ok_or (version_of n) UnknownVersion >>= λ version.
     result_map summary (augmentation_text s (e.start + 5)) >>= λ text.
     numbers_at version s.cells text.next >>= λ numbers.
-    rest_by s e text.augmented (listed (letter_at s.cells) s.size (e.start + 5)).items numbers.next >>= λ rest.
+    rest_by s e text.augmented (listed (letter_at s.cells) s.size (e.start + 5)).items numbers.next
+    >>= λ rest.
     Ok (common_of e numbers rest)

@@ -5,4 +5,10 @@ use Rattle.plcr_dwarf_expr.specs.Runs.{Setting}
 
 -- code in its surroundings
 abbrev pub setting : Source → Surroundings → Setting
-setting code around = record { code = code; size = around.size; memory = around.memory.now; registers = around.registers.now }
+setting code around =
+    record {
+      code = code;
+      size = around.size;
+      memory = around.memory.now;
+      registers = around.registers.now;
+    }

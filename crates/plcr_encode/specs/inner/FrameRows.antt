@@ -25,7 +25,8 @@ tabled (Some located) = option_map (λ _. located.place) located.image.symtab
 
 -- that of the image that has an address
 abbrev pub position_of : Contents → Arch → List Listed → ℕ → Option ℕ
-position_of memory arch listed address = tabled (option_map located_at (first_over memory arch address 0 listed))
+position_of memory arch listed address =
+    tabled (option_map located_at (first_over memory arch address 0 listed))
 
 -- what is kept of a frame as it is told, without its symbol
 abbrev pub row_of : Contents → Arch → List Listed → Given → FrameRow
@@ -45,7 +46,8 @@ symbol_within memory (Err fault) address = None
 -- the symbol of an address in the image at a position
 abbrev pub symbol_by : Contents → Arch → List Listed → Option ℕ → ℕ → Option SymbolAt
 symbol_by memory arch listed None address = None
-symbol_by memory arch listed (Some i) address = symbol_within memory (image_at memory arch (listed_at listed i).header) address
+symbol_by memory arch listed (Some i) address =
+    symbol_within memory (image_at memory arch (listed_at listed i).header) address
 
 -- the position in a row, where there is one, is in the list
 abbrev pub IsPlaced : List Listed → FrameRow → Type 0

@@ -14,18 +14,23 @@ use Rattle.plcr_encode.specs.inner.FrameRows.{frame_in, row_of}
 
 -- the rows of a thread's frames as they are told, without their symbols
 abbrev pub walked : Contents → List Listed → ℕ → Registers → List FrameRow
-walked memory listed bits state = map (row_of memory state.arch listed) (frames_of memory listed state bits)
+walked memory listed bits state =
+    map (row_of memory state.arch listed) (frames_of memory listed state bits)
 
 -- how many a state has
 abbrev pub count_of : {A : Type 0} → (Registers → List A) → Registers → ℕ
 count_of of state = length (of state)
 
--- the rows are those of the frames that these states have, one thread behind the other, so many for each
-pub record AreRowsOf (frames : Registers → List Frame) (memory : Contents) (rows : List FrameRow) (counts : List ℕ) (states : List Registers) : Type 0 where
+-- the rows are those of the frames that these states have, one thread behind the other, so many for
+-- each
+pub record AreRowsOf (frames : Registers → List Frame) (memory : Contents) (rows : List FrameRow)
+    (counts : List ℕ) (states : List Registers) : Type 0 where
   pub told : map (frame_in memory) rows ≡ flat_map frames states
   pub split : counts ≡ map (count_of frames) states
   pub few : (state : Registers) → length (frames state) ≤ MOST_FRAMES
 
--- a thread by its number and its state, with these frames, where `crashed` is the number of the thread that crashed
+-- a thread by its number and its state, with these frames, where `crashed` is the number of the
+-- thread that crashed
 abbrev pub numbered_thread : ℕ → (Registers → List Frame) → ℕ × Registers → Thread
-numbered_thread crashed frames numbered = thread_with crashed numbered.0 (frames numbered.1) numbered.1
+numbered_thread crashed frames numbered =
+    thread_with crashed numbered.0 (frames numbered.1) numbered.1

@@ -8,7 +8,8 @@ use Rattle.plcr_encode.specs.declared.lookups.Lookup.{Lookup}
 
 -- what is looked for a numbered row
 abbrev pub lookup_for : ℕ × FrameRow → Lookup
-lookup_for numbered = record { position = numbered.1.position; address = numbered.1.lookup; frame = numbered.0 }
+lookup_for numbered =
+    record { position = numbered.1.position; address = numbered.1.lookup; frame = numbered.0 }
 
 -- what is looked for all rows
 abbrev pub lookups_for : List FrameRow → List Lookup

@@ -12,7 +12,14 @@ use Rattle.plcr_nodes.specs.Tokens.{PassState}
 use Rattle.plcr_imagelist.specs.Holds.{WalkerState, IsWalking}
 
 abbrev pub walker_state : PassState → WalkerState
-walker_state s = record { table = s.table; nodes = s.nodes; passes = s.passes; number = s.number; history = s.history; names = s.names }
+walker_state s = record {
+  table = s.table;
+  nodes = s.nodes;
+  passes = s.passes;
+  number = s.number;
+  history = s.history;
+  names = s.names;
+}
 
 -- a pass that is out and not announced, and has made whole holds alone
 pub record IsOut (s : WalkerState) : Type 0 where
@@ -28,8 +35,15 @@ images_on (n ∷ ns) h = loaded n h ∷ images_on ns h
 
 -- the nodes that a hold keeps are those that its pass was given
 pub record IsHolding (pass : PassState) (met : List ℕ) (ended : Bool) (low : ℕ) : Type 0 where
-  pub walking : IsWalking (record { walker = walker_state pass; met = images_on met pass.history; ended = ended; extents = [] })
-  pub given : (n : ℕ) → among n met ≡ true → (0 < n) × (among n pass.given ≡ true) × (may_reach pass.number n pass.history ≡ true)
+  pub walking : IsWalking
+      (record {
+        walker = walker_state pass;
+        met = images_on met pass.history;
+        ended = ended;
+        extents = [];
+      })
+  pub given : (n : ℕ) → among n met ≡ true → (0 < n) × (among n pass.given ≡ true)
+      × (may_reach pass.number n pass.history ≡ true)
   pub low_is : low ≡ counts (before_enter pass.number pass.history)
   pub made : MadeHoldsAndEntered pass.number pass.history
 

@@ -25,7 +25,14 @@ pub record AreHeld (pass : PassState) (met : List ℕ) : Type 0 where
 
 -- what a hold of the pass was, it still is
 abbrev pub hold_of : PassState → List ℕ → Bool → HoldState
-hold_of pass met ended = record { walker = walker_state pass; met = images_on met pass.history; ended = ended; extents = [] }
+hold_of pass met ended =
+    record {
+      walker = walker_state pass;
+      met = images_on met pass.history;
+      ended = ended;
+      extents = [];
+    }
 
 abbrev pub StaysHeld : PassState → List ℕ → PassState → Type 0
-StaysHeld old met new = (ended : Bool) (low : ℕ) → IsHolding old met ended low → IsHolding new met ended low × IsSameWalk (hold_of old met ended) (hold_of new met ended)
+StaysHeld old met new = (ended : Bool) (low : ℕ) → IsHolding old met ended low →
+    IsHolding new met ended low × IsSameWalk (hold_of old met ended) (hold_of new met ended)

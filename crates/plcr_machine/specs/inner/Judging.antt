@@ -14,9 +14,11 @@ StayedListed lists from to image = (j : ℕ) → from ≤ j → j ≤ to → Con
 -- each of some images stood in one of the lists
 abbrev pub EachWasListed : List (Vec Named Global) → ℕ → ℕ → List Named → Type 0
 EachWasListed lists from to [] = Unit {0}
-EachWasListed lists from to (image ∷ images) = WasListed lists from to image × EachWasListed lists from to images
+EachWasListed lists from to (image ∷ images) = WasListed lists from to image
+    × EachWasListed lists from to images
 
 -- of some images each that stood in all of the lists was met
 abbrev pub NoneWasMissed : List (Vec Named Global) → ℕ → ℕ → List Named → List Named → Type 0
 NoneWasMissed lists from to met [] = Unit {0}
-NoneWasMissed lists from to met (image ∷ images) = (StayedListed lists from to image → Contains met image) × NoneWasMissed lists from to met images
+NoneWasMissed lists from to met (image ∷ images) =
+    (StayedListed lists from to image → Contains met image) × NoneWasMissed lists from to met images

@@ -10,7 +10,8 @@ use std::alloc::{AllocError, Global};
 /// The lists that changes leave, from the empty list before the first to that after all.
 pub fn lists_after(alloc: Global, changes: &[Change]) -> Result<Vec<Vec<Named>>, AllocError>
     ensures count { IfOk result (λ v. length v.items ≡ suc (length changes.now)) }
-    ensures lists { IfOk result (λ v. (j : ℕ) → j ≤ length changes.now → lists_at v.items j ≡ list_after_changes (reverse changes.now) j) }
+    ensures lists { IfOk result (λ v. (j : ℕ) → j ≤ length changes.now →
+        lists_at v.items j ≡ list_after_changes (reverse changes.now) j) }
 {
     let mut lists = Vec::new(alloc);
     let mut last = Vec::new(alloc);
@@ -25,7 +26,8 @@ pub fn lists_after(alloc: Global, changes: &[Change]) -> Result<Vec<Vec<Named>>,
 
 // A list after one more change.
 fn changed(alloc: Global, list: &[Named], change: &Change) -> Result<Vec<Named>, AllocError>
-    ensures { IfOk result (λ v. (past : List Change) → list.now ≡ list_of past → v.items ≡ list_of (change.now ∷ past)) }
+    ensures { IfOk result (λ v. (past : List Change) → list.now ≡ list_of past →
+        v.items ≡ list_of (change.now ∷ past)) }
 {
     let mut next = copy_of(alloc, list)?;
     match change {

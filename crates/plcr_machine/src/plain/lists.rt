@@ -48,7 +48,8 @@ pub fn images(alloc: Global, history: &[Entry]) -> Result<Vec<Image>, AllocError
 }
 
 fn change(images: &mut Vec<Image>, entry: Entry) -> Result<(), AllocError>
-    ensures { OnOk result ((past : List Entry) → images.old.items ≡ live past → images.new.items ≡ live (entry ∷ past)) }
+    ensures { OnOk result ((past : List Entry) → images.old.items ≡ live past →
+        images.new.items ≡ live (entry ∷ past)) }
 {
     match entry {
         Entry::Load { node, load, header } => images.push(Image { node, load, header })?,

@@ -47,7 +47,8 @@ pub fn is_removed(history: &[Entry], node: u32) -> bool
 }
 
 fn removed_after(removed: bool, entry: Entry, node: u32) -> bool
-    ensures { (past : List Entry) → is_removed node past ≡ removed → result ≡ is_removed node (entry ∷ past) }
+    ensures { (past : List Entry) → is_removed node past ≡ removed →
+        result ≡ is_removed node (entry ∷ past) }
 {
     match entry {
         Entry::Load { node: n, .. } => n != node && removed,
@@ -77,7 +78,8 @@ pub fn counts_before(history: &[Entry], node: u32) -> usize
 }
 
 fn before_after(before: usize, counted: usize, entry: Entry, node: u32) -> usize
-    ensures { (past : List Entry) → counts_before node past ≡ before → counts past ≡ counted → result ≡ counts_before node (entry ∷ past) }
+    ensures { (past : List Entry) → counts_before node past ≡ before → counts past ≡ counted →
+        result ≡ counts_before node (entry ∷ past) }
 {
     match entry {
         Entry::Unload { node: n } if n == node => counted,
@@ -111,7 +113,8 @@ pub fn is_let_go(history: &[Entry], pass: u32, node: u32) -> bool
 }
 
 fn gone_after(gone: bool, past: &[Entry], entry: Entry, pass: u32, node: u32) -> bool
-    ensures { is_let_go pass node (reverse past.now) ≡ gone → result ≡ is_let_go pass node (entry ∷ reverse past.now) }
+    ensures { is_let_go pass node (reverse past.now) ≡ gone →
+        result ≡ is_let_go pass node (entry ∷ reverse past.now) }
 {
     match entry {
         Entry::Load { node: n, .. } | Entry::Unload { node: n } => n != node && gone,

@@ -18,7 +18,8 @@ pub fn is_inside(history: &[Entry], pass: u32) -> bool
 }
 
 fn inside_after(inside: bool, entry: Entry, pass: u32) -> bool
-    ensures { (past : List Entry) → is_inside pass past ≡ inside → result ≡ is_inside pass (entry ∷ past) }
+    ensures { (past : List Entry) → is_inside pass past ≡ inside →
+        result ≡ is_inside pass (entry ∷ past) }
 {
     match entry {
         Entry::Enter(p) => p == pass || inside,
@@ -44,7 +45,8 @@ pub fn is_announced(history: &[Entry], pass: u32) -> bool
 }
 
 fn announced_after(announced: bool, entry: Entry, pass: u32) -> bool
-    ensures { (past : List Entry) → is_announced pass past ≡ announced → result ≡ is_announced pass (entry ∷ past) }
+    ensures { (past : List Entry) → is_announced pass past ≡ announced →
+        result ≡ is_announced pass (entry ∷ past) }
 {
     match entry {
         Entry::Announce { pass: p, .. } => p == pass || announced,
@@ -70,7 +72,8 @@ pub fn seen_by(history: &[Entry], pass: u32) -> u32
 }
 
 fn seen_after(last: u32, entry: Entry, pass: u32) -> u32
-    ensures { (past : List Entry) → seen_by pass past ≡ last → result ≡ seen_by pass (entry ∷ past) }
+    ensures { (past : List Entry) → seen_by pass past ≡ last →
+        result ≡ seen_by pass (entry ∷ past) }
 {
     match entry {
         Entry::Announce { pass: p, seen } if p == pass => seen,
@@ -110,7 +113,8 @@ pub fn counts(history: &[Entry]) -> usize
 }
 
 pub(super) fn is_count(entry: Entry) -> bool
-    ensures { (past : List Entry) → counts (entry ∷ past) ≡ (if result then 1 else 0) + counts past }
+    ensures { (past : List Entry) →
+        counts (entry ∷ past) ≡ (if result then 1 else 0) + counts past }
 {
     match entry {
         Entry::Count => true,

@@ -1,4 +1,5 @@
-//! What follows what along lists that change, and which walks are lawful. A list after j changes stands at place j.
+//! What follows what along lists that change, and which walks are lawful. A list after j changes
+//! stands at place j.
 
 ghost use Rattle.std.specs.Prelude.{◌≡◌, ◌↔◌, ◌<◌, ◌≤◌, length, IsTrue, Contains};
 ghost use Rattle.std.specs.Option.{option_map};
@@ -9,8 +10,8 @@ ghost use Rattle.plcr_machine.specs.inner.Judging.{WasListed, StayedListed, Each
 
 use crate::change::Named;
 
-/// The number of the image that follows the image with a number after so many changes, if there is one; after 0, that of
-/// the first of the list.
+/// The number of the image that follows the image with a number after so many changes, if there is
+/// one; after 0, that of the first of the list.
 pub fn follow(lists: &[Vec<Named>], load: u32, changes: usize) -> Option<u32>
     requires { changes < length lists.now }
     ensures { result ≡ option_map load_of (follow load_of (lists_at lists.now) load changes) }
@@ -30,7 +31,8 @@ fn list_at(lists: &[Vec<Named>], changes: usize) -> &[Named]
     &lists[changes]
 }
 
-// The greatest number of changes, up to some, after which an image was in the list; 0 where there is none.
+// The greatest number of changes, up to some, after which an image was in the list; 0 where there
+// is none.
 fn last_with(lists: &[Vec<Named>], load: u32, changes: usize) -> usize
     requires { changes < length lists.now }
     ensures last { result ≡ last_with load_of (lists_at lists.now) load changes }
@@ -156,7 +158,8 @@ fn is_met_or_went(
 ) -> bool
     requires order { from ≤ to }
     requires within { to < length lists.now }
-    ensures { IsTrue result ↔ (StayedListed lists.now from to image.now → Contains met.now image.now) }
+    ensures { IsTrue result ↔ (StayedListed lists.now from to image.now →
+        Contains met.now image.now) }
 {
     is_in(met, image) || !stayed_listed(lists, from, to, image)
 }

@@ -1,4 +1,5 @@
--- What the private functions behind parse answer: what is kept of the load commands, whose bytes stand in memory.
+-- What the private functions behind parse answer: what is kept of the load commands, whose bytes
+-- stand in memory.
 use Rattle.std.specs.Prelude.{ℕ, List, [], ◌∷◌, Option, Some, None, IsSome, option_map, unwrap_or, ok_or, Result, Ok}
 use Rattle.std.specs.Option.{option_or}
 use Rattle.std.specs.List.{find}
@@ -36,7 +37,12 @@ bytes_there memory a n = unwrap_or (bytes_at memory a n) []
 
 -- the load command that stands there
 abbrev pub command_of : Standing → Command
-command_of s = record { cmd = s.cmd; cmdsize = s.cmdsize; place = s.place; bytes = bytes_there s.memory.now s.address s.cmdsize }
+command_of s = record {
+  cmd = s.cmd;
+  cmdsize = s.cmdsize;
+  place = s.place;
+  bytes = bytes_there s.memory.now s.address s.cmdsize;
+}
 
 -- all of its bytes are mapped
 abbrev pub Stands : Standing → Type 0
@@ -73,7 +79,10 @@ parts_in sections = record {
 
 -- the first of each, where there is one
 unfoldable pub first_parts : Parts → Parts → Parts
-first_parts p q = record { unwind = option_or p.unwind q.unwind; eh_frame = option_or p.eh_frame q.eh_frame }
+first_parts p q = record {
+  unwind = option_or p.unwind q.unwind;
+  eh_frame = option_or p.eh_frame q.eh_frame;
+}
 
 -- what is kept of a segment `__TEXT`
 abbrev pub text_of : Command → Text
@@ -154,4 +163,5 @@ image_by address header kept text =
 
 -- the image of what was kept
 abbrev pub image_from : ℕ → Header → Kept → Result Image ImageFault
-image_from address header kept = ok_or kept.text NoText >>= λ text. Ok (image_by address header kept text)
+image_from address header kept = ok_or kept.text NoText >>= λ text.
+    Ok (image_by address header kept text)

@@ -18,7 +18,8 @@ pub record IsPlaced (rs : List Region) (o : Placed) : Type 0 where
 pub record IsOrder (rs : List Region) (os : List Placed) : Type 0 where
   pub rises : (p q : ℕ) → p ≤ q → q < length os → (placed_at os p).start ≤ (placed_at os q).start
   pub each : (p : ℕ) → p < length os → IsPlaced rs (placed_at os p)
-  pub distinct : (p q : ℕ) → p ≢ q → p < length os → q < length os → (placed_at os p).index ≢ (placed_at os q).index
+  pub distinct : (p q : ℕ) → p ≢ q → p < length os → q < length os →
+      (placed_at os p).index ≢ (placed_at os q).index
   pub whole : (i : ℕ) → i < length rs → (p : ℕ) × (p < length os) × ((placed_at os p).index ≡ i)
 
 -- what each memory keeps to

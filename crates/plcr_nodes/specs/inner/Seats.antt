@@ -17,10 +17,26 @@ use Rattle.plcr_nodes.specs.inner.Rule.{number_of, owner_view}
 use Rattle.plcr_nodes.specs.Tokens.{PassState, OwnerState, NoteState}
 
 abbrev pub pass_state : TableId → View → PassState
-pass_state z v = record { table = z; nodes = v.nodes; passes = v.passes; number = number_of v; history = v.history; names = v.names; given = v.given }
+pass_state z v = record {
+  table = z;
+  nodes = v.nodes;
+  passes = v.passes;
+  number = number_of v;
+  history = v.history;
+  names = v.names;
+  given = v.given;
+}
 
 abbrev pub owner_state : TableId → View → OwnerState
-owner_state z v = record { table = z; nodes = v.nodes; passes = v.passes; history = v.history; names = v.names; joined = v.numbers; filled = v.filled }
+owner_state z v = record {
+  table = z;
+  nodes = v.nodes;
+  passes = v.passes;
+  history = v.history;
+  names = v.names;
+  joined = v.numbers;
+  filled = v.filled;
+}
 
 abbrev pub note_state : TableId → View → NoteState
 note_state z v = record { table = z; history = v.history; names = v.names }
@@ -38,7 +54,8 @@ pub record IsPass (z : TableId) (me : Me Unit View) : Type 0 where
   pub seat : IsSeat z me
   pub one : me.0.numbers ≡ number_of me.0 ∷ []
   pub few : number_of me.0 < me.0.passes
-  pub given : (n : ℕ) → among n me.0.given ≡ true → 0 < n → may_reach (number_of me.0) n me.0.history ≡ true
+  pub given : (n : ℕ) → among n me.0.given ≡ true → 0 < n →
+      may_reach (number_of me.0) n me.0.history ≡ true
 
 -- the seat of a pass, with the word of its stamp
 pub record IsPassing (z : TableId) (me : Me Unit View) (stamp : ℕ) : Type 0 where
@@ -49,7 +66,8 @@ pub record IsPassing (z : TableId) (me : Me Unit View) (stamp : ℕ) : Type 0 wh
 pub record IsOwner (z : TableId) (me : Me Unit View) : Type 0 where
   pub seat : IsSeat z me
   pub owns : me.0.owns ≡ true
-  pub filled : (n k x : ℕ) → 0 < n → k < NODE_WORDS → stored n k me.0.filled ≡ Some x → (n ≤ me.0.nodes) × (is_free me.0.passes n me.0.history ≡ true)
+  pub filled : (n k x : ℕ) → 0 < n → k < NODE_WORDS → stored n k me.0.filled ≡ Some x →
+      (n ≤ me.0.nodes) × (is_free me.0.passes n me.0.history ≡ true)
 
 -- the owner's notes say where the link of each place of the list leads
 pub record KnowsLinks (nodes : ℕ) (history : List Entry) (links : List ℕ) : Type 0 where

@@ -20,20 +20,25 @@ use Rattle.plcr_run.specs.inner.Tokens.{writer_of, AreTokens, Turns}
 -- so many steps, none of which was the last
 abbrev pub MakesSteps : ℕ → ChangeState → ChangeState → Type 0
 MakesSteps zero old new = new ≡ old
-MakesSteps (suc count) old new = (mid : ChangeState) × MakesSteps count old mid × IsStepped mid (More new)
+MakesSteps (suc count) old new = (mid : ChangeState) × MakesSteps count old mid
+    × IsStepped mid (More new)
 
 -- at most so many steps, up to the last one
 abbrev pub IsSteppedOn : ChangeState → ℕ → Progress → Type 0
 IsSteppedOn old most (More new) = MakesSteps most old new
-IsSteppedOn old most (Done writer) = (count : ℕ) × (last : ChangeState) × (count < most) × MakesSteps count old last × IsStepped last (Done writer)
+IsSteppedOn old most (Done writer) = (count : ℕ) × (last : ChangeState) × (count < most)
+    × MakesSteps count old last × IsStepped last (Done writer)
 
 -- all steps that were left
 abbrev pub IsSteppedThrough : ChangeState → WriterState → Type 0
-IsSteppedThrough old writer = (count : ℕ) × (last : ChangeState) × MakesSteps count old last × IsStepped last (Done writer)
+IsSteppedThrough old writer = (count : ℕ) × (last : ChangeState) × MakesSteps count old last
+    × IsStepped last (Done writer)
 
 -- what the writer did in a turn, beside whatever slots
 abbrev pub WriterTurns : TableId → Writing → (ℕ → ℕ → State → Turn) → Writing → Outcome → Type 0
-WriterTurns table old turn new said = (slots : List Slot) → AreTokens table old slots → AreTokens table new slots × Turns old slots (turn (writer_of old).nodes (writer_of old).passes) new slots said
+WriterTurns table old turn new said = (slots : List Slot) → AreTokens table old slots →
+    AreTokens table new slots × Turns old slots (turn (writer_of old).nodes (writer_of old).passes)
+    new slots said
 
 -- what the outcomes of loads and unloads are
 abbrev pub refused_load : LoadRefused → Outcome

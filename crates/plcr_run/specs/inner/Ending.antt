@@ -15,7 +15,11 @@ use Rattle.plcr_run.specs.inner.Tokens.{writer_of, seen_in, IsAll, StateIs}
 
 -- the passes below a number came out
 abbrev pub left_below : ℕ → State → State
-left_below count state = record state { events = all_left count state.places state.events; places = λ pass. if nat_lt pass count then states.Out else state.places pass }
+left_below count state =
+    record state {
+      events = all_left count state.places state.events;
+      places = λ pass. if nat_lt pass count then states.Out else state.places pass;
+    }
 
 -- the change that was open was made to its end
 abbrev pub finished_state : State → State
@@ -25,8 +29,10 @@ finished_state state = record state { events = finished state.opened state.event
 abbrev pub AreOut : ℕ → List Slot → Type 0
 AreOut count slots = (k : ℕ) → k < count → IsOutAt slots k
 
--- the writer met the passes of the slots from a number on: it has seen of each just what that had seen
-pub record HasMet (old : WriterState) (slots : List Slot) (met : ℕ → Type 0) (new : WriterState) : Type 0 where
+-- the writer met the passes of the slots from a number on: it has seen of each just what that had
+-- seen
+pub record HasMet (old : WriterState) (slots : List Slot) (met : ℕ →
+    Type 0) (new : WriterState) : Type 0 where
   pub nodes : new.nodes ≡ old.nodes
   pub passes : new.passes ≡ old.passes
   pub lists : HasLists new
@@ -36,11 +42,13 @@ pub record HasMet (old : WriterState) (slots : List Slot) (met : ℕ → Type 0)
   pub joined : (k : ℕ) → met k → among k new.joined ≡ true
   pub own : (k : ℕ) → met k → own_entries k new.history ≡ own_entries k (seen_in (slot_at slots k))
 
--- at the end the writer has met each pass, had seen all that it did, and its history is what the state of the run comes to
+-- at the end the writer has met each pass, had seen all that it did, and its history is what the
+-- state of the run comes to
 pub record EndsIn (writing : Writing) (slots : List Slot) (writer : WriterState) : Type 0 where
   pub nodes : writer.nodes ≡ (writer_of writing).nodes
   pub passes : writer.passes ≡ (writer_of writing).passes
   pub lists : HasLists writer
   pub joined : (k : ℕ) → k < writer.passes → among k writer.joined ≡ true
   pub all : IsAll writing slots
-  pub events : (state : State) → StateIs writing slots state → events_of writer.names writer.history ≡ ended writer.passes state
+  pub events : (state : State) → StateIs writing slots state →
+      events_of writer.names writer.history ≡ ended writer.passes state

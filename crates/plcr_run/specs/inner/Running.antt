@@ -15,7 +15,8 @@ use Rattle.plcr_run.specs.inner.Tokens.{writer_of, IsAll, place_in, StateIs}
 use Rattle.plcr_run.specs.inner.Stepping.{will_change}
 use Rattle.plcr_run.specs.Runs.{run_behind, IsDone, IsStopped}
 
--- the tokens of a list that was opened with the sizes of the script: nothing has happened, and all passes are out
+-- the tokens of a list that was opened with the sizes of the script: nothing has happened, and all
+-- passes are out
 pub record IsFresh (script : ScriptValue) (writing : Writing) (slots : List Slot) : Type 0 where
   pub nodes : (writer_of writing).nodes ≡ script.nodes
   pub passes : (writer_of writing).passes ≡ script.passes
@@ -23,14 +24,18 @@ pub record IsFresh (script : ScriptValue) (writing : Writing) (slots : List Slot
   pub out : (k : ℕ) → is_in (place_in (slot_at slots k)) ≡ false
 
 -- all statements were done, where the writer has seen all
-pub record RunDone (process : Meanings) (script : ScriptValue) (old : Seen) (writing : Writing) (slots : List Slot) (new : Seen) : Type 0 where
+pub record RunDone (process : Meanings) (script : ScriptValue) (old : Seen) (writing : Writing)
+    (slots : List Slot) (new : Seen) : Type 0 where
   pub nodes : (writer_of writing).nodes ≡ script.nodes
   pub passes : (writer_of writing).passes ≡ script.passes
   pub done : IsAll writing slots → IsDone (run_of process script) old new
-  pub state : IsAll writing slots → StateIs writing slots (state_behind process script script.statements)
+  pub state : IsAll writing slots →
+      StateIs writing slots (state_behind process script script.statements)
 
--- the run stopped behind some statements: their files were kept, what they made happen did, and the list will have the changes that these make
-pub record StoppedBehind (process : Meanings) (script : ScriptValue) (old : Seen) (writing : Writing) (slots : List Slot) (new : Seen) : Type 0 where
+-- the run stopped behind some statements: their files were kept, what they made happen did, and the
+-- list will have the changes that these make
+pub record StoppedBehind (process : Meanings) (script : ScriptValue) (old : Seen)
+    (writing : Writing) (slots : List Slot) (new : Seen) : Type 0 where
   pub done : List NumberedStatement
   pub others : List NumberedStatement
   pub parts : script.statements ≡ done ++ others
@@ -40,7 +45,8 @@ pub record StoppedBehind (process : Meanings) (script : ScriptValue) (old : Seen
   pub changes : will_change state ≡ will_change (state_behind process script done)
   pub went : Follows (state_behind process script done).events state.events
 
-pub record RunStopped (process : Meanings) (script : ScriptValue) (old : Seen) (writing : Writing) (slots : List Slot) (new : Seen) : Type 0 where
+pub record RunStopped (process : Meanings) (script : ScriptValue) (old : Seen) (writing : Writing)
+    (slots : List Slot) (new : Seen) : Type 0 where
   pub nodes : (writer_of writing).nodes ≡ script.nodes
   pub passes : (writer_of writing).passes ≡ script.passes
   pub stopped : IsAll writing slots → IsStopped (run_of process script) old new

@@ -1,4 +1,5 @@
--- The tokens of a run, what they have seen of each other, and the state of a run that they stand for.
+-- The tokens of a run, what they have seen of each other, and the state of a run that they stand
+-- for.
 use Rattle.std.specs.Prelude.{◌≡◌, ℕ, ◌+◌, ◌<◌, List, [], length, Option, Some, None}
 use Rattle.atomic_table.specs.Seated.{TableId}
 use Rattle.plcr_machine.specs.declared.entry.Entry.{Entry}
@@ -64,11 +65,13 @@ pub record AreTokens (table : TableId) (writing : Writing) (slots : List Slot) :
   pub lists : HasLists (writer_of writing)
   pub going : IsGoing writing
   pub count : length slots ≡ (writer_of writing).passes
-  pub placed : (k : ℕ) → k < (writer_of writing).passes → IsPlaced (writer_of writing) k (slot_at slots k)
+  pub placed : (k : ℕ) → k < (writer_of writing).passes →
+      IsPlaced (writer_of writing) k (slot_at slots k)
 
 -- the writer has seen all that each pass did
 abbrev pub IsAll : Writing → List Slot → Type 0
-IsAll writing slots = (k : ℕ) → k < (writer_of writing).passes → own_entries k (writer_of writing).history ≡ own_entries k (seen_in (slot_at slots k))
+IsAll writing slots = (k : ℕ) → k < (writer_of writing).passes →
+    own_entries k (writer_of writing).history ≡ own_entries k (seen_in (slot_at slots k))
 
 -- the place that the pass of a slot has in a run
 abbrev pub place_in : Slot → Place
@@ -84,7 +87,11 @@ steps_before (Unloads image) = 0
 -- the change that is open
 abbrev pub opened_by : ChangeState → Opened
 opened_by change = record {
-  plan = record { change = change_of change.doing change.load; load = change.load; before = steps_before change.doing };
+  plan = record {
+    change = change_of change.doing change.load;
+    load = change.load;
+    before = steps_before change.doing;
+  };
   made = change.made;
 }
 
@@ -96,19 +103,29 @@ opened_in (Changing change) = Some (opened_by change)
 pub record StateIs (writing : Writing) (slots : List Slot) (state : State) : Type 0 where
   pub events : events_of (writer_of writing).names (writer_of writing).history ≡ state.events
   pub opened : opened_in writing ≡ state.opened
-  pub places : (k : ℕ) → k < (writer_of writing).passes → place_in (slot_at slots k) ≡ state.places k
+  pub places : (k : ℕ) → k < (writer_of writing).passes →
+      place_in (slot_at slots k) ≡ state.places k
 
--- What the tokens did in a turn: they are tokens still, and where the writer has seen all afterwards, it had seen all before, and the state went as the turn says
-pub record Goes (old : Writing) (olds : List Slot) (next : State → State) (new : Writing) (news : List Slot) : Type 0 where
-  pub sizes : ((writer_of new).nodes ≡ (writer_of old).nodes) × ((writer_of new).passes ≡ (writer_of old).passes)
+-- What the tokens did in a turn: they are tokens still, and where the writer has seen all
+-- afterwards, it had seen all before, and the state went as the turn says
+pub record Goes (old : Writing) (olds : List Slot) (next : State → State) (new : Writing)
+    (news : List Slot) : Type 0 where
+  pub sizes : ((writer_of new).nodes ≡ (writer_of old).nodes)
+      × ((writer_of new).passes ≡ (writer_of old).passes)
   pub back : IsAll new news → IsAll old olds
-  pub state : IsAll new news → (state : State) → StateIs old olds state → StateIs new news (next state)
+  pub state : IsAll new news → (state : State) → StateIs old olds state →
+      StateIs new news (next state)
 
 -- and this is the turn's outcome
-pub record Turns (old : Writing) (olds : List Slot) (turn : State → Turn) (new : Writing) (news : List Slot) (said : Outcome) : Type 0 where
+pub record Turns (old : Writing) (olds : List Slot) (turn : State → Turn) (new : Writing)
+    (news : List Slot) (said : Outcome) : Type 0 where
   pub goes : Goes old olds (λ state. (turn state).state) new news
-  pub outcome : IsAll new news → (state : State) → StateIs old olds state → said ≡ (turn state).outcome
+  pub outcome : IsAll new news → (state : State) → StateIs old olds state →
+      said ≡ (turn state).outcome
 
--- what a pass that comes out tells: how many images its walk has met, and how many changes were counted before it went in and before it came out
+-- what a pass that comes out tells: how many images its walk has met, and how many changes were
+-- counted before it went in and before it came out
 abbrev pub LeavesWith : Writing → List Slot → ℕ → Writing → List Slot → ℕ → ℕ → ℕ → Type 0
-LeavesWith old olds pass new news met low high = IsAll new news → (state : State) → StateIs old olds state → (met ≡ length (met_in (state.places pass))) × (low ≡ low_of pass state) × (high ≡ high_of state)
+LeavesWith old olds pass new news met low high = IsAll new news → (state : State) →
+    StateIs old olds state → (met ≡ length (met_in (state.places pass))) × (low ≡ low_of pass state)
+    × (high ≡ high_of state)

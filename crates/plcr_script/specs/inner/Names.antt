@@ -21,7 +21,8 @@ IsIndex names files = (name : List ℕ) → has names name ≡ is_named name fil
 -- these are the passes that are in behind the statements
 pub record AreInside (inside : List Bool) (statements : List NumberedStatement) : Type 0 where
   pub wide : length inside ≡ MOST_PASSES
-  pub are : (pass : ℕ) → pass < MOST_PASSES → slice_index_or inside pass false ≡ is_in_behind pass statements
+  pub are : (pass : ℕ) → pass < MOST_PASSES →
+      slice_index_or inside pass false ≡ is_in_behind pass statements
 
 -- the index is that of the lines so far
 pub record IsIndexOf (index : Index) (draft : DraftValue) : Type 0 where

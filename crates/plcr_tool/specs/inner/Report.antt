@@ -18,7 +18,8 @@ use Rattle.plcr_tool.specs.Past.{FilesLeft}
 use Rattle.plcr_tool.specs.Headline.{RanTruly}
 
 -- the job has one script, and so its run on the core ended
-pub record RunEnds (job : Job) (old new : Seen) (past : Option WriterState) (ending : Ending) : Type 0 where
+pub record RunEnds (job : Job) (old new : Seen) (past : Option WriterState)
+    (ending : Ending) : Type 0 where
   pub script : ScriptValue
   pub alone : job.scripts ≡ script ∷ []
   pub about : IsHandedContext (context_of script job.core.arch)
@@ -33,7 +34,9 @@ Leaves core script old new past Misused = past ≡ None
 
 -- where it ended behind its run, what it kept is true
 abbrev pub TrulyBy : List ℕ → List ℕ → Seen → Seen → Option WriterState → Ending → Type 0
-TrulyBy core script old new past Done = HasRead (IsJob ALONE) (report_files core script) (RanTruly past 0) old new
-TrulyBy core script old new past Stopped = HasRead (IsJob ALONE) (report_files core script) (RanTruly past 5) old new
+TrulyBy core script old new past Done =
+    HasRead (IsJob ALONE) (report_files core script) (RanTruly past 0) old new
+TrulyBy core script old new past Stopped =
+    HasRead (IsJob ALONE) (report_files core script) (RanTruly past 5) old new
 TrulyBy core script old new past (Refused refusal) = Unit {0}
 TrulyBy core script old new past Misused = Unit {0}

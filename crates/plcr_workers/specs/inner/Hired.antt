@@ -21,39 +21,47 @@ use Rattle.plcr_workers.specs.inner.Drafts.{HasOutputs}
 use Rattle.plcr_workers.specs.inner.Own.{HaveOwnLines}
 use Rattle.plcr_workers.specs.inner.Places.{total_of}
 
--- the statements before a place were taken: of the lines that they ask for each was applied, in order, and no other
-pub record SoFar (script : ℕ) (list : TableId) (statements : List NumberedStatement) (at : ℕ) (v : View) : Type 0 where
+-- the statements before a place were taken: of the lines that they ask for each was applied, in
+-- order, and no other
+pub record SoFar (script : ℕ) (list : TableId) (statements : List NumberedStatement) (at : ℕ)
+    (v : View) : Type 0 where
   pub working : IsWorking script list v
   pub lines : wanted_by (lines_of script v.journal) ≡ change_lines (take at statements)
   pub total : total_of v.shares ≡ length (change_lines statements)
 
 -- the worker of a script, of whose statements none was taken, with room for all its lines
-pub record Begins {K : Type 0} (queue list : TableId) (script : ScriptValue) (w : Worker K) : Type 0 where
-  pub pass : (w.turns.table_id ≡ queue) × (w.turns.me.1 ≡ [])
-  pub few : w.script < MOST_SCRIPTS
-  pub so_far : SoFar w.script list script.statements 0 (view w.turns)
-  pub room : length script.statements ≤ vec_capacity w.lines
-  pub none : vec_len w.lines ≡ 0
+pub record Begins {K : Type 0} (queue list : TableId) (script : ScriptValue) (w : Worker K) : Type 0
+  where
+    pub pass : (w.turns.table_id ≡ queue) × (w.turns.me.1 ≡ [])
+    pub few : w.script < MOST_SCRIPTS
+    pub so_far : SoFar w.script list script.statements 0 (view w.turns)
+    pub room : length script.statements ≤ vec_capacity w.lines
+    pub none : vec_len w.lines ≡ 0
 
 -- the first statements of its script were taken, up to one
-pub record Goes {K : Type 0} (queue list : TableId) (script : ScriptValue) (old new : Worker K) : Type 0 where
+pub record Goes {K : Type 0} (queue list : TableId) (script : ScriptValue)
+    (old new : Worker K) : Type 0 where
   pub number : new.script ≡ old.script
   pub pass : (new.turns.table_id ≡ queue) × (new.turns.me.1 ≡ [])
   pub count : ℕ
   pub so_far : SoFar new.script list script.statements count (view new.turns)
   pub lines : All (λ (l : PassLine). l.at < length script.statements) new.lines.items
 
--- a worker as it was hired for the script of a place: with room for its outputs, and none of them, and with the pass of that number
+-- a worker as it was hired for the script of a place: with room for its outputs, and none of them,
+-- and with the pass of that number
 pub record IsNew {K : Type 0} (scripts : List ScriptValue) (place : ℕ) (w : Worker K) : Type 0 where
   pub number : w.script ≡ place
   pub none : vec_len w.drafts ≡ 0
-  pub room : (script : ScriptValue) → slice_get scripts place ≡ Some script → length (files_of script.statements) ≤ vec_capacity w.drafts
+  pub room : (script : ScriptValue) → slice_get scripts place ≡ Some script →
+      length (files_of script.statements) ≤ vec_capacity w.drafts
   pub journal : (view w.turns).journal ≡ []
   pub untouched : (image : WalkerState) → w.image ≡ Some image → image.history ≡ []
 
 -- a list of these sizes is that of scripts: as many nodes as the first says, and a pass for each
 abbrev pub AreSizesOf : List ScriptValue → (nodes passes : ℕ) → Type 0
-AreSizesOf scripts nodes passes = ((script : ScriptValue) → slice_get scripts 0 ≡ Some script → nodes ≡ script.nodes) × (passes ≡ length scripts)
+AreSizesOf scripts nodes passes =
+    ((script : ScriptValue) → slice_get scripts 0 ≡ Some script → nodes ≡ script.nodes)
+    × (passes ≡ length scripts)
 
 -- a pass of the queue knows of a list of the same sizes as before
 abbrev pub KnowsSameSizes : View → View → Type 0
@@ -65,19 +73,25 @@ AreUntouched images = All (λ (i : WalkerState). i.history ≡ []) images
 
 -- workers as they were hired for the scripts, in order
 abbrev pub AreNew : {K : Type 0} → List ScriptValue → List (Worker K) → Type 0
-AreNew {K = K} scripts workers = (place : ℕ) (other : Worker K) → place < length workers → IsNew scripts place (slice_index_or workers place other)
+AreNew {K = K} scripts workers = (place : ℕ) (other : Worker K) → place < length workers →
+    IsNew scripts place (slice_index_or workers place other)
 
 -- the worker at each place has the script of its number
 abbrev pub AreNumbered : {K : Type 0} → List (Worker K) → Type 0
-AreNumbered {K = K} workers = (place : ℕ) (other : Worker K) → place < length workers → (slice_index_or workers place other).script ≡ place
+AreNumbered {K = K} workers = (place : ℕ) (other : Worker K) → place < length workers →
+    (slice_index_or workers place other).script ≡ place
 
 -- passes of a list, from number 0 on
 abbrev pub AreInOrder : TableId → List WalkerState → Type 0
-AreInOrder list images = (place : ℕ) (other : WalkerState) → place < length images → ((slice_index_or images place other).table ≡ list) × ((slice_index_or images place other).number ≡ place)
+AreInOrder list images = (place : ℕ) (other : WalkerState) → place < length images →
+    ((slice_index_or images place other).table ≡ list)
+    × ((slice_index_or images place other).number ≡ place)
 
 -- passes of a list, of so many, from the last number down
 abbrev pub AreFromTheLast : ℕ → TableId → List WalkerState → Type 0
-AreFromTheLast count list images = (place : ℕ) (other : WalkerState) → place < length images → ((slice_index_or images place other).table ≡ list) × ((slice_index_or images place other).number + place + 1 ≡ count)
+AreFromTheLast count list images = (place : ℕ) (other : WalkerState) → place < length images →
+    ((slice_index_or images place other).table ≡ list)
+    × ((slice_index_or images place other).number + place + 1 ≡ count)
 
 -- what workers see
 abbrev pub views_of : {K : Type 0} → List (Worker K) → List View
@@ -101,11 +115,13 @@ pub record HasImage {K : Type 0} (list : TableId) (w : Worker K) : Type 0 where
   pub walks : image.table ≡ list
   pub number : image.number ≡ w.script
 
-pub record IsReady {K : Type 0} (queue list : TableId) (script : ScriptValue) (w : Worker K) : Type 0 where
+pub record IsReady {K : Type 0} (queue list : TableId) (script : ScriptValue)
+    (w : Worker K) : Type 0 where
   pub begins : Begins queue list script w
   pub image : HasImage list w
 
-pub record HasRun {K : Type 0} (queue list : TableId) (script : ScriptValue) (old new : Worker K) : Type 0 where
+pub record HasRun {K : Type 0} (queue list : TableId) (script : ScriptValue)
+    (old new : Worker K) : Type 0 where
   pub goes : Goes queue list script old new
   pub image : HasImage list new
 
@@ -124,25 +140,31 @@ abbrev pub totals_in : List ScriptValue → List ℕ
 totals_in scripts = map (λ (script : ScriptValue). length (change_lines script.statements)) scripts
 
 -- a worker is ready to run the script of its number
-pub record IsHired {K : Type 0} (queue list : TableId) (scripts : List ScriptValue) (w : Worker K) : Type 0 where
+pub record IsHired {K : Type 0} (queue list : TableId) (scripts : List ScriptValue)
+    (w : Worker K) : Type 0 where
   pub script : ScriptValue
   pub stands : slice_get scripts w.script ≡ Some script
   pub ready : IsReady queue list script w
 
 -- a worker that is ready, with an output for each report of its script
-pub record IsReadyToRun {K : Type 0} (faults : K → ℕ) (queue list : TableId) (scripts : List ScriptValue) (w : Worker K) : Type 0 where
+pub record IsReadyToRun {K : Type 0} (faults : K → ℕ) (queue list : TableId)
+    (scripts : List ScriptValue) (w : Worker K) : Type 0 where
   pub script : ScriptValue
   pub stands : slice_get scripts w.script ≡ Some script
   pub ready : IsReady queue list script w
   pub outputs : HasOutputs faults script w
   pub apart : HaveOwnLines script.statements
 
--- where all outputs of a worker were written whole, each load and unload line of its script was applied
+-- where all outputs of a worker were written whole, each load and unload line of its script was
+-- applied
 abbrev pub IsWhole : {K : Type 0} → ScriptValue → Worker K → Type 0
-IsWhole {K = K} script w = All (λ (d : Draft K). d.progress ≡ Written) w.drafts.items → wanted_by (lines_of w.script (view w.turns).journal) ≡ change_lines script.statements
+IsWhole {K = K} script w = All (λ (d : Draft K). d.progress ≡ Written) w.drafts.items →
+    wanted_by (lines_of w.script (view w.turns).journal) ≡ change_lines script.statements
 
--- a worker that has ended: of its script the first statements were taken, and its passes are those of the queue and the list
-pub record IsGone {K : Type 0} (queue list : TableId) (scripts : List ScriptValue) (w : Worker K) : Type 0 where
+-- a worker that has ended: of its script the first statements were taken, and its passes are those
+-- of the queue and the list
+pub record IsGone {K : Type 0} (queue list : TableId) (scripts : List ScriptValue)
+    (w : Worker K) : Type 0 where
   pub script : ScriptValue
   pub stands : slice_get scripts w.script ≡ Some script
   pub pass : (w.turns.table_id ≡ queue) × (w.turns.me.1 ≡ [])

@@ -19,7 +19,8 @@ use Rattle.plcr_workers.specs.declared.places.Place.TheVariants.{Out, In}
 -- it saw more, and made no entry; its walk stays as it was
 abbrev pub OnlyHears : Place → Place → Type 0
 OnlyHears (Out old) (Out new) = OnlySees old new
-OnlyHears (In old) (In new) = OnlySees old.walker new.walker × (new.met ≡ old.met) × (new.ended ≡ old.ended) × IsWalking new
+OnlyHears (In old) (In new) = OnlySees old.walker new.walker × (new.met ≡ old.met)
+    × (new.ended ≡ old.ended) × IsWalking new
 OnlyHears (Out old) (In new) = ⊥
 OnlyHears (In old) (Out new) = ⊥
 
@@ -35,28 +36,33 @@ Enters (In old) new took = DoesNothing (In old) new took
 
 -- it walks on
 abbrev pub Walks : ℕ → Place → Place → Took → Type 0
-Walks most (In old) (In new) took = IsFurther old most new × OnlySees old.walker new.walker × IsWalking new × (took ≡ Said (Walked (length new.met) new.ended))
+Walks most (In old) (In new) took = IsFurther old most new × OnlySees old.walker new.walker
+    × IsWalking new × (took ≡ Said (Walked (length new.met) new.ended))
 Walks most (In old) (Out new) took = ⊥
 Walks most (Out old) new took = DoesNothing (Out old) new took
 
 -- it comes out
 abbrev pub Leaves : Place → Place → Took → Type 0
-Leaves (In old) (Out new) took = (low : ℕ) × (high : ℕ) × IsReleased old new low high × (took ≡ Said (Left (length old.met) low high))
+Leaves (In old) (Out new) took = (low : ℕ) × (high : ℕ) × IsReleased old new low high
+    × (took ≡ Said (Left (length old.met) low high))
 Leaves (In old) (In new) took = ⊥
 Leaves (Out old) new took = DoesNothing (Out old) new took
 
 -- what a report says of the images and of the window, and what it wrote, where it was written whole
-abbrev pub SaysOf : (List Listed → List ℕ) → HoldState → (low high : ℕ) → Took → List (List ℕ) → Type 0
+abbrev pub SaysOf : (List Listed → List ℕ) → HoldState → (low high : ℕ) → Took → List (List ℕ) →
+    Type 0
 SaysOf report late low high Silent wrote = ⊥
 SaysOf report late low high (Said Entered) wrote = ⊥
 SaysOf report late low high (Said (Walked met ended)) wrote = ⊥
 SaysOf report late low high (Said (Left met from to)) wrote = ⊥
 SaysOf report late low high (Said (Reported bytes met from to)) wrote =
-    (met ≡ length late.met) × (from ≡ low) × (to ≡ high) × (bytes ≡ length (report (images_of late))) × (wrote ≡ report (images_of late) ∷ [])
+    (met ≡ length late.met) × (from ≡ low) × (to ≡ high)
+    × (bytes ≡ length (report (images_of late))) × (wrote ≡ report (images_of late) ∷ [])
 SaysOf report late low high Unwritten wrote = wrote ≡ []
 
 -- it walks to its end, its images are read, and it comes out
-pub record ReportsFrom (report : List Listed → List ℕ) (inside : HoldState) (new : WalkerState) (took : Took) (wrote : List (List ℕ)) : Type 0 where
+pub record ReportsFrom (report : List Listed → List ℕ) (inside : HoldState) (new : WalkerState)
+    (took : Took) (wrote : List (List ℕ)) : Type 0 where
   pub begins : IsWalking inside
   pub walked : HoldState
   pub late : HoldState
@@ -72,7 +78,8 @@ pub record ReportsFrom (report : List Listed → List ℕ) (inside : HoldState) 
 
 -- and where it is out, it goes in before
 abbrev pub Reports : (List Listed → List ℕ) → Place → WalkerState → Took → List (List ℕ) → Type 0
-Reports report (Out old) new took wrote = (inside : HoldState) × IsHeld old inside × ReportsFrom report inside new took wrote
+Reports report (Out old) new took wrote = (inside : HoldState) × IsHeld old inside
+    × ReportsFrom report inside new took wrote
 Reports report (In old) new took wrote = ReportsFrom report old new took wrote
 
 abbrev pub ReportsInto : (List Listed → List ℕ) → Place → Place → Took → List (List ℕ) → Type 0
@@ -98,28 +105,35 @@ Does report (stated.Report pass file) old new took wrote = ReportsInto report ol
 Does report other old new took wrote = Moves other old new took × (wrote ≡ [])
 
 -- an output gained what was written
-abbrev pub GainsOf : {K : Type 0} → (K → Option (List ℕ)) → List (List ℕ) → Draft K → Draft K → Type 0
+abbrev pub GainsOf : {K : Type 0} → (K → Option (List ℕ)) → List (List ℕ) → Draft K → Draft K →
+    Type 0
 GainsOf written [] old new = Unit {0}
 GainsOf written (bytes ∷ more) old new = written new.out ≡ append_known (written old.out) bytes
 
 -- of outputs the next one did
-abbrev pub NextGains : {K : Type 0} → (K → Option (List ℕ)) → ℕ → List (List ℕ) → List (Draft K) → List (Draft K) → Type 0
-NextGains {K = K} written next wrote old new = (other : Draft K) → GainsOf written wrote (slice_index_or old next other) (slice_index_or new next other)
+abbrev pub NextGains : {K : Type 0} → (K → Option (List ℕ)) → ℕ → List (List ℕ) → List (Draft K) →
+    List (Draft K) → Type 0
+NextGains {K = K} written next wrote old new = (other : Draft K) →
+    GainsOf written wrote (slice_index_or old next other) (slice_index_or new next other)
 
 -- a report into an output
-pub record ReportsTo {K : Type 0} (written : K → Option (List ℕ)) (report : List Listed → List ℕ) (old : Place) (new : WalkerState) (took : Took) (was is : Draft K) : Type 0 where
+pub record ReportsTo {K : Type 0} (written : K → Option (List ℕ)) (report : List Listed →
+    List ℕ) (old : Place) (new : WalkerState) (took : Took) (was is : Draft K) : Type 0 where
   pub wrote : List (List ℕ)
   pub reports : Reports report old new took wrote
   pub gains : GainsOf written wrote was is
 
 -- and into the next output
-pub record ReportsNext {K : Type 0} (written : K → Option (List ℕ)) (report : List Listed → List ℕ) (old new : Place) (took : Took) (next : ℕ) (was is : List (Draft K)) : Type 0 where
+pub record ReportsNext {K : Type 0} (written : K → Option (List ℕ)) (report : List Listed →
+    List ℕ) (old new : Place) (took : Took) (next : ℕ) (was is : List (Draft K)) : Type 0 where
   pub wrote : List (List ℕ)
   pub reports : ReportsInto report old new took wrote
   pub gains : NextGains written next wrote was is
 
 -- a statement of a script, whose report goes into the next output
-pub record Acts {K : Type 0} (written : K → Option (List ℕ)) (report : List Listed → List ℕ) (statement : Statement) (old new : Place) (took : Took) (next : ℕ) (was is : List (Draft K)) : Type 0 where
+pub record Acts {K : Type 0} (written : K → Option (List ℕ)) (report : List Listed →
+    List ℕ) (statement : Statement) (old new : Place) (took : Took) (next : ℕ)
+    (was is : List (Draft K)) : Type 0 where
   pub wrote : List (List ℕ)
   pub does : Does report statement old new took wrote
   pub gains : NextGains written next wrote was is

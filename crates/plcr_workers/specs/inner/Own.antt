@@ -20,15 +20,19 @@ use Rattle.plcr_workers.specs.Known.{StatementFault}
 
 -- each statement stands on a line of its own
 abbrev pub HaveOwnLines : List NumberedStatement → Type 0
-HaveOwnLines statements = (at : ℕ) (s : NumberedStatement) → slice_get statements at ≡ Some s → statement_on s.line statements ≡ Some s.statement
+HaveOwnLines statements = (at : ℕ) (s : NumberedStatement) → slice_get statements at ≡ Some s →
+    statement_on s.line statements ≡ Some s.statement
 
 -- what a line of the journal came to, by its statement, with the names of all loads
-pub record CameTo (process : Meanings) (statement : Statement) (names : List (List ℕ)) (said : Said) : Type 0 where
+pub record CameTo (process : Meanings) (statement : Statement) (names : List (List ℕ))
+    (said : Said) : Type 0 where
   pub fault : StatementFault process statement said
   pub long : NameSaid (name_in (Some statement)) said
-  pub named : (load : ℕ) → said ≡ Loaded load → (load ≤ length names) × (name_of load names ≡ name_in (Some statement))
+  pub named : (load : ℕ) → said ≡ Loaded load →
+      (load ≤ length names) × (name_of load names ≡ name_in (Some statement))
 
-pub record IsOwnLine (process : Meanings) (statements : List NumberedStatement) (names : List (List ℕ)) (line : ChangeLine) : Type 0 where
+pub record IsOwnLine (process : Meanings) (statements : List NumberedStatement)
+    (names : List (List ℕ)) (line : ChangeLine) : Type 0 where
   pub statement : Statement
   pub stands : statement_on line.wanted.line statements ≡ Some statement
   pub asks : asked_in statement ≡ Some line.wanted.asked
@@ -36,25 +40,33 @@ pub record IsOwnLine (process : Meanings) (statements : List NumberedStatement) 
 
 abbrev pub AreOwn : Meanings → List NumberedStatement → List (List ℕ) → List ChangeLine → Type 0
 AreOwn process statements names [] = Unit {0}
-AreOwn process statements names (line ∷ lines) = IsOwnLine process statements names line × AreOwn process statements names lines
+AreOwn process statements names (line ∷ lines) = IsOwnLine process statements names line
+    × AreOwn process statements names lines
 
 -- what a worker that has ended knows of them, by the names that its pass of the list has seen
-pub record KnowsOwn {K : Type 0} (process : Meanings) (statements : List NumberedStatement) (w : Worker K) : Type 0 where
+pub record KnowsOwn {K : Type 0} (process : Meanings) (statements : List NumberedStatement)
+    (w : Worker K) : Type 0 where
   pub image : WalkerState
   pub held : w.image ≡ Some image
   pub own : AreOwn process statements image.names (lines_of w.script (view w.turns).journal)
 
-pub record KnowsOwnOf {K : Type 0} (process : Meanings) (scripts : List ScriptValue) (w : Worker K) : Type 0 where
+pub record KnowsOwnOf {K : Type 0} (process : Meanings) (scripts : List ScriptValue)
+    (w : Worker K) : Type 0 where
   pub script : ScriptValue
   pub stands : slice_get scripts w.script ≡ Some script
   pub knows : KnowsOwn process script.statements w
 
 -- the journal has one line more of a script, which came of a statement that asks for it
-pub record AddsLine (process : Meanings) (script line : ℕ) (statement : Statement) (asked : Asked) (v w : View) (names : List (List ℕ)) : Type 0 where
+pub record AddsLine (process : Meanings) (script line : ℕ) (statement : Statement) (asked : Asked)
+    (v w : View) (names : List (List ℕ)) : Type 0 where
   pub said : Said
-  pub lines : lines_of script w.journal ≡ lines_of script v.journal ++ line_of script line asked said ∷ []
+  pub lines : lines_of script w.journal ≡ lines_of script v.journal ++ line_of script line asked
+      said ∷ []
   pub came : CameTo process statement names said
 
-abbrev pub AddsOwn : Meanings → (script line : ℕ) → Statement → Option Asked → View → View → List (List ℕ) → Type 0
-AddsOwn process script line statement None v w names = lines_of script w.journal ≡ lines_of script v.journal
-AddsOwn process script line statement (Some asked) v w names = AddsLine process script line statement asked v w names
+abbrev pub AddsOwn : Meanings → (script line : ℕ) → Statement → Option Asked → View → View →
+    List (List ℕ) → Type 0
+AddsOwn process script line statement None v w names =
+    lines_of script w.journal ≡ lines_of script v.journal
+AddsOwn process script line statement (Some asked) v w names =
+    AddsLine process script line statement asked v w names

@@ -54,8 +54,10 @@ abbrev pub total_of : List Share → ℕ
 total_of [] = 0
 total_of (share ∷ shares) = share.part.total
 
--- a worker's script came one line further where a statement asks for it, and stays where it was otherwise
+-- a worker's script came one line further where a statement asks for it, and stays where it was
+-- otherwise
 abbrev pub Advances : ℕ → ℕ → Option Asked → View → View → Type 0
 Advances script line None v w = w ≡ v
 Advances script line (Some asked) v w =
-    (wanted_by (lines_of script w.journal) ≡ wanted_by (lines_of script v.journal) ++ record { line = line; asked = asked } ∷ []) × (total_of w.shares ≡ total_of v.shares)
+    (wanted_by (lines_of script w.journal) ≡ wanted_by (lines_of script v.journal)
+    ++ record { line = line; asked = asked } ∷ []) × (total_of w.shares ≡ total_of v.shares)

@@ -21,12 +21,22 @@ pub record KnownStay : Type 0 where
 
 -- the same by names
 abbrev pub stay_by : List (List ℕ) → KnownStay → Stay
-stay_by names k = record { enter = k.enter; leave = k.leave; announced = k.announced; before = k.before; inside = k.inside; met = all_named names k.met; ended = k.ended }
+stay_by names k = record {
+  enter = k.enter;
+  leave = k.leave;
+  announced = k.announced;
+  before = k.before;
+  inside = k.inside;
+  met = all_named names k.met;
+  ended = k.ended;
+}
 
 -- a stay of the pass in what it has seen
 pub record IsKnownStay (image : WalkerState) (k : KnownStay) : Type 0 where
   pub entered : Grows (Enter image.number ∷ k.before) k.inside
   pub left : Grows (Leave image.number ∷ k.inside) image.history
-  pub meets : Meets load_number (list_after image.history) 0 (changes k.before) (changes k.inside) k.met
-  pub whole : k.ended ≡ true → (to : ℕ) × (changes k.before ≤ to) × (to ≤ changes k.inside) × IsWholeWalk load_number (list_after image.history) (changes k.before) to k.met
+  pub meets : Meets load_number (list_after image.history) 0 (changes k.before) (changes k.inside)
+      k.met
+  pub whole : k.ended ≡ true → (to : ℕ) × (changes k.before ≤ to) × (to ≤ changes k.inside)
+      × IsWholeWalk load_number (list_after image.history) (changes k.before) to k.met
   pub short : (x : Image) → Contains k.met x → x.load ≤ length image.names

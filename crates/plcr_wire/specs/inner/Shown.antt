@@ -16,10 +16,18 @@ counter_shown n h = record {
 }
 
 -- a pen over a sink shows what is held for it; where it lost bytes, that it lost one
-pub sink_shown : (name : GName) (told : Option (List ℕ)) (faults : ℕ) (mark held : List ℕ) (failed : Bool) → IsShown (sink_pen name told faults mark held failed)
-sink_shown name told faults mark held false = record { base = told; given = held; shows = up_to_start told held }
+pub sink_shown : (name : GName) (told : Option (List ℕ)) (faults : ℕ) (mark held : List ℕ)
+    (failed : Bool) → IsShown (sink_pen name told faults mark held failed)
+sink_shown name told faults mark held false =
+    record { base = told; given = held; shows = up_to_start told held }
 sink_shown name told faults mark held true = record {
   base = told;
   given = 0 ∷ [];
-  shows = record { front = []; rest = 0 ∷ []; parts = refl; left = lit< tt; appended = sym (append_nothing told) };
+  shows = record {
+    front = [];
+    rest = 0 ∷ [];
+    parts = refl;
+    left = lit< tt;
+    appended = sym (append_nothing told);
+  };
 }
