@@ -18,5 +18,5 @@ returns-in-Ok-clause-sizes c =
     let is = c.in-Ok.ensures.opened.1.writing in
     (
       λ script first. ap (λ (w : WriterState). w.nodes) is ∙ c.nodes-nodes.ensures.nodes ∙ ap (λ (s : ScriptValue). s.nodes) (first_is c.args.scripts.now c.index-scripts-0.result script c.index-scripts-0.is first),
-      ap (λ (w : WriterState). w.passes) is ∙ c.len.ensures,
+      ap (λ (w : WriterState). w.passes) is,
     )
