@@ -15,8 +15,7 @@ returns-in-Ok-clause-untouched c = opened_untouched c.in-Ok.opened.0 _ _ c.in-Ok
 
 pub returns-in-Ok-clause-sizes : goal.returns-in-Ok-clause-sizes
 returns-in-Ok-clause-sizes c =
-    let is = c.in-Ok.ensures.opened.1.writing in
-    (
+    let is = c.in-Ok.ensures.opened.1.writing in (
       λ script first. ap (λ (w : WriterState). w.nodes) is ∙ c.nodes-nodes.ensures.nodes ∙ ap (λ (s : ScriptValue). s.nodes) (first_is c.args.scripts.now c.index-scripts-0.result script c.index-scripts-0.is first),
       ap (λ (w : WriterState). w.passes) is,
     )
