@@ -1,11 +1,14 @@
 """Scripts on threads: runs `threads` many times, judges each log and each file, and tells the time beside `report` alone.
 
-    python3 bench/threads.py [PROGRAM [RUNS]]
+    python3 bench/threads.py [PROGRAM [RUNS [FIRST]]]
 
 PROGRAM is the proved program, by default crates/plcr_tool/out/plcr_tool (`rt run` in crates/plcr_tool leaves it). RUNS is
-how many times the scripts run, by default 20. Eight scripts of thousands of lines each load, unload, walk and report on a
-core of eight images, over a list of few nodes, so that some loads find none free. The judge is plain Python and knows
-nothing of the program: it replays the journal as one list, and then looks at each other line by what the journal allows.
+how many times the scripts run, by default 20, and FIRST the number of the first run, by default 1: each number has scripts
+of its own, so that parts of many runs can go side by side. The first twenty runs tell the time of `report` too.
+
+Eight scripts of thousands of lines each load, unload, walk and report on a core of eight images, over a list of few nodes,
+so that some loads find none free. The judge is plain Python and knows nothing of the program: it replays the journal as one
+list, and then looks at each other line by what the journal allows.
 
 It judges:
 - the journal has each load and unload line of each script once, in the script's order;
@@ -33,6 +36,7 @@ from reference import fields, merged
 SCRIPTS = 8
 LINES = 3000
 REPORTS = 200
+TIMED = 20
 NODES = 6
 HEADERS = [0x100000000 + 0x4000 * k for k in range(8)]
 COUNT_UNIT = 1 << 32
@@ -225,8 +229,9 @@ def run(program, words, folder):
 def main():
     program = os.path.abspath(sys.argv[1] if len(sys.argv) > 1 else os.path.join(HERE, "..", "crates", "plcr_tool", "out", "plcr_tool"))
     runs = int(sys.argv[2]) if len(sys.argv) > 2 else 20
+    first = int(sys.argv[3]) - 1 if len(sys.argv) > 3 else 0
     wrong, threads, alone = 0, [], []
-    for turn in range(runs):
+    for turn in range(first, first + runs):
         chance = random.Random(turn)
         scripts = [script(number, chance) for number in range(1, SCRIPTS + 1)]
         with tempfile.TemporaryDirectory() as folder:
@@ -244,11 +249,12 @@ def main():
             except Wrong as fault:
                 wrong += 1
                 print("run %d: WRONG: %s" % (turn + 1, fault))
-            whole = [line for lines in scripts for line in lines]
-            open(os.path.join(folder, "all"), "w").write("".join(line + "\n" for line in settle(whole)))
-            status, _, seconds = run(program, ["report", "q", "all"], folder)
-            if status == 0:
-                alone.append(seconds)
+            if len(alone) < TIMED:
+                whole = [line for lines in scripts for line in lines]
+                open(os.path.join(folder, "all"), "w").write("".join(line + "\n" for line in settle(whole)))
+                status, _, seconds = run(program, ["report", "q", "all"], folder)
+                if status == 0:
+                    alone.append(seconds)
     print("%d runs, %d wrong" % (runs, wrong))
     if threads and alone:
         for name, took in (("threads", threads), ("report alone", alone)):
