@@ -160,24 +160,24 @@ fn files_of_the_system(rt: HostRuntime) -> Result<(), Fail> {
     Ok(())
 }
 
-// Pieces of 256 bytes, sixteen of which fit in the room, on their way to an output whose second put
-// fails.
+// Pieces of 1,024 bytes, sixteen of which fit in the room, on their way to an output whose second
+// put fails.
 #[test]
 fn pieces_are_gathered(rt: HostRuntime) -> Result<(), Fail> {
     let alloc = rt.alloc();
-    let out = MemOut::new(alloc, 20_000, 20_000, vec![in alloc; 2]?)?;
+    let out = MemOut::new(alloc, 60_000, 60_000, vec![in alloc; 2]?)?;
     let mut gathered = Gathered::new(out);
     let mut sixteen = Vec::new(alloc);
     for letter in b'A'..b'Q' {
-        let piece = [letter; 256];
-        assert_eq!(rt; gathered.put(&piece), Ok(256));
+        let piece = [letter; 1024];
+        assert_eq!(rt; gathered.put(&piece), Ok(1024));
         sixteen.extend_from_slice(&piece)?;
     }
     assert_eq!(rt; gathered.sink.bytes(), b"".as_slice());
     let mut whole = sixteen.clone()?;
     for letter in b'Q'..b'a' {
-        let piece = [letter; 256];
-        assert_eq!(rt; gathered.put(&piece), Ok(256));
+        let piece = [letter; 1024];
+        assert_eq!(rt; gathered.put(&piece), Ok(1024));
         assert_eq!(rt; gathered.sink.bytes(), sixteen.as_slice());
         whole.extend_from_slice(&piece)?;
     }
@@ -185,8 +185,8 @@ fn pieces_are_gathered(rt: HostRuntime) -> Result<(), Fail> {
     // that is greater than the room goes straight on.
     assert_eq!(rt; gathered.put(b"lost"), Err(PutFailed));
     assert_eq!(rt; gathered.sink.bytes(), sixteen.as_slice());
-    let great = [b'z'; 5000];
-    assert_eq!(rt; gathered.put(&great), Ok(5000));
+    let great = [b'z'; 20_000];
+    assert_eq!(rt; gathered.put(&great), Ok(20_000));
     whole.extend_from_slice(&great)?;
     assert_eq!(rt; gathered.put(b"end"), Ok(3));
     assert_eq!(rt; gathered.sink.bytes(), whole.as_slice());
