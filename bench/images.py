@@ -74,6 +74,10 @@ def changes(count, resident=0):
     return lines + ["report 0 a"]
 
 
+def reports(count):
+    return loads(count)[:-1] + ["report 0 r%d" % k for k in range(100)]
+
+
 def under_one(count):
     return loads(count)[:-1] + ["load %#x wide" % WIDE, "report 0 a"]
 
@@ -83,6 +87,10 @@ CASES = [
     ("1000 images", 1000, lambda: core(1000), lambda: loads(1000)),
     ("2000 images", 2000, lambda: core(2000), lambda: loads(2000)),
     ("4000 images", 4000, lambda: core(4000), lambda: loads(4000)),
+    ("500 images, 100 reports", 500, lambda: core(500), lambda: reports(500)),
+    ("1000 images, 100 reports", 1000, lambda: core(1000), lambda: reports(1000)),
+    ("2000 images, 100 reports", 2000, lambda: core(2000), lambda: reports(2000)),
+    ("4000 images, 100 reports", 4000, lambda: core(4000), lambda: reports(4000)),
     ("40000 images, 4096 of them loaded", 0, lambda: core(40_000), lambda: loads(4096, 9)),
     ("25000 loads and unloads", 25_000, lambda: core(1000), lambda: changes(25_000)),
     ("50000 loads and unloads", 50_000, lambda: core(1000), lambda: changes(50_000)),

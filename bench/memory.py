@@ -1,9 +1,9 @@
-"""`report` and `show` under limits on memory, from too little to enough.
+"""`report`, `show`, `make` and `threads` under limits on memory, from too little to enough.
 
     python3 bench/memory.py [PROGRAM]
 
-PROGRAM is the proved program, by default crates/plcr_tool/out/plcr_tool. Each run has a limit on its address space, a
-little more than the run before. Below the first limit at which the program ends with status 0 it has to answer 7, with
+PROGRAM is the proved program, by default crates/plcr_tool/out/plcr_tool. Each run has a limit on its data (heap and
+maps, not its stack), a little more than the run before. Below the first limit at which the program ends with status 0 it has to answer 7, with
 nothing printed and nothing kept; from there on 0, with all of it. Ends with status 1 where a run does anything else.
 """
 import os
@@ -28,7 +28,7 @@ def core(threads):
 def run(words, files, room):
     """Status, output and the files kept under this limit; None where the program can't even begin."""
     def limit():
-        resource.setrlimit(resource.RLIMIT_AS, (room, room))
+        resource.setrlimit(resource.RLIMIT_DATA, (room, room))
     with tempfile.TemporaryDirectory() as folder:
         for name, data in files.items():
             with open(os.path.join(folder, name), "wb") as file:
@@ -73,6 +73,10 @@ def main():
         report = run(["report", "core", "script"], files, resource.RLIM_INFINITY)[2]["a"]
         wanted, first = limits(["show", "r"], {"r": report}, step)
         print("show of   %4d threads: status 7 at %3d limits, then 0 from %.1f MB on" % (threads, wanted, first / 1e6))
+    for words in [["make", "3", "core", "script"], ["threads", "core", "script"]]:
+        files = {} if words[0] == "make" else {"core": core(1), "script": script}
+        wanted, first = limits(words, files, 8 * PAGE)
+        print("%s: status 7 at %3d limits, then 0 from %.1f MB on" % (words[0], wanted, first / 1e6))
 
 
 if __name__ == "__main__":

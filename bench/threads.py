@@ -189,6 +189,7 @@ def judge_others(number, own, others, lists, changes, files):
             else:
                 size, images = int(said[2]), int(said[3])
                 need(images >= met and (not ended or images == met), "images of a report", number, line)
+                need(said[1] in files, "no file", number, line)
                 data = files[said[1]]
                 found = images_in(data)
                 need(len(data) == size and len(found) == images, "bytes", number, line)
