@@ -3,8 +3,9 @@
     python3 bench/memory.py [PROGRAM]
 
 PROGRAM is the proved program, by default crates/plcr_tool/out/plcr_tool. Each run has a limit on its data (heap and
-maps, not its stack), a little more than the run before. Below the first limit at which the program ends with status 0 it has to answer 7, with
-nothing printed and nothing kept; from there on 0, with all of it. Ends with status 1 where a run does anything else.
+maps, not its stack), a little more than the run before. Below the first limit at which the program ends with status 0 it
+has to answer 7, with nothing printed and nothing kept; from there on 0, with all of it. Ends with status 1 where a run does
+anything else.
 """
 import os
 import resource
