@@ -1,6 +1,7 @@
 pub mod Calls
 pub mod Counting
 pub mod Desk
+pub mod Gathered
 pub mod HostDesk
 pub mod MemDesk
 pub mod MemFiles

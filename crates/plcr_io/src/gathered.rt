@@ -1,5 +1,5 @@
 //! A sink that gathers bytes before another sink, which gets fewer and greater pieces so.
-ghost use Rattle.std.specs.Prelude.{◌≡◌, ◌<◌, ◌≤◌, [], length, take, IfOk, OnOk, OnErr};
+ghost use Rattle.std.specs.Prelude.{◌≡◌, ◌<◌, ◌≤◌, [], ◌∷◌, length, take, IfOk, OnOk, OnErr};
 ghost use Rattle.std.specs.Io.KnownBytes.{append_known};
 ghost use Rattle.plcr_base.specs.Causes.{Rose};
 ghost use Rattle.plcr_base.specs.Told.{AppendsUpTo};
@@ -7,25 +7,15 @@ ghost use Rattle.plcr_base.specs.Told.{AppendsUpTo};
 use crate::room::Room;
 use crate::{PutFailed, Sink};
 
-/// A sink with the bytes that it hasn't got yet. What was put to both together is what the sink has
-/// written and then what waits.
-#[derive(Drop)]
-pub(crate) struct Gathered<K> {
-    pub(crate) sink: K,
-    pub(crate) room: Room,
-}
-
-impl<K> Gathered<K> {
-    /// Nothing waits.
-    pub(crate) fn new(sink: K) -> Self
-        ensures sink { result.sink ≡ sink }
-        ensures room { result.room ≡ [] }
-    {
-        Gathered {
-            sink,
-            room: Room::new(),
-        }
-    }
+/// A sink before another whose puts are dear. What is put waits in room of its own, and goes on in
+/// pieces of up to 16,384 bytes. What was put is what the other sink has written and then what
+/// waits.
+///
+/// It stands directly on the borrow of the other sink, so that its owner learns what that has at
+/// the end. It can't be dropped: `finish` passes on what waits, and `give_up` doesn't.
+pub struct Gathered<'a, K: Sink> {
+    pub(crate) sink: &'a mut K,
+    room: Room,
 }
 
 /// Passes on what waits. At `Err` a rest of it still waits.
@@ -44,31 +34,81 @@ fn pass_on<K: Sink>(sink: &mut K, room: &mut Room) -> Result<(), PutFailed>
     Ok(())
 }
 
-impl<K: Sink> Gathered<K> {
-    /// Passes on what waits, to the sink's end. At `Err` a rest of it still waits.
-    pub(crate) fn finish(&mut self) -> Result<(), PutFailed>
-        ensures written { append_known (K.written self.new.sink) self.new.room
-            ≡ append_known (K.written self.old.sink) self.old.room }
-        ensures ok { OnOk result (self.new.room ≡ []) }
-        ensures cause { OnErr result (Rose (K.faults self.old.sink) (K.faults self.new.sink)) }
-        ensures later { K.faults self.old.sink ≤ K.faults self.new.sink }
-        ensures mark { K.mark self.new.sink ≡ K.mark self.old.sink }
+impl<'a, K: Sink> Gathered<'a, K> {
+    ghost use Rattle.plcr_io.specs.Gathered.{sink_of, ended_sink, IsShort};
+
+    /// Nothing waits.
+    #[tactic(auto, using(plcr_base::proofs::Appended::append_nothing))]
+    pub fn new(sink: &'a mut K) -> Gathered<'a, K>
+        ensures same_sink { sink_of result ≡ sink.entry.ghost_name }
+        ensures written { ⟦<Gathered<'a, K> as Sink>⟧.written result ≡ K.written sink.old }
+        ensures faults { ⟦<Gathered<'a, K> as Sink>⟧.faults result ≡ K.faults sink.old }
+        ensures mark { ⟦<Gathered<'a, K> as Sink>⟧.mark result
+            ≡ sink.entry.ghost_name ∷ K.mark sink.old }
     {
-        pass_on(&mut self.sink, &mut self.room)
+        Gathered {
+            sink,
+            room: Room::new(),
+        }
+    }
+
+    /// Passes on what waits. At `Err` a rest of it still waits.
+    fn clear(&mut self) -> Result<(), PutFailed>
+        ensures written { ⟦<Gathered<'a, K> as Sink>⟧.written self.new
+            ≡ ⟦<Gathered<'a, K> as Sink>⟧.written self.old }
+        ensures ok { OnOk result (self.new.room ≡ []) }
+        ensures cause { OnErr result (Rose (⟦<Gathered<'a, K> as Sink>⟧.faults self.old)
+            (⟦<Gathered<'a, K> as Sink>⟧.faults self.new)) }
+        ensures later { ⟦<Gathered<'a, K> as Sink>⟧.faults self.old
+            ≤ ⟦<Gathered<'a, K> as Sink>⟧.faults self.new }
+        ensures mark { ⟦<Gathered<'a, K> as Sink>⟧.mark self.new
+            ≡ ⟦<Gathered<'a, K> as Sink>⟧.mark self.old }
+    {
+        pass_on(self.sink, &mut self.room)
+    }
+
+    /// Passes on what waits, and ends. At `Err` a rest of it is lost.
+    pub fn finish(self) -> Result<(), PutFailed>
+        ensures ok { OnOk result (K.written (ended_sink self.exit).now
+            ≡ ⟦<Gathered<'a, K> as Sink>⟧.written self.entry) }
+        ensures short { IsShort (K.written (ended_sink self.exit).now)
+            (⟦<Gathered<'a, K> as Sink>⟧.written self.entry) }
+        ensures cause { OnErr result (Rose (⟦<Gathered<'a, K> as Sink>⟧.faults self.entry)
+            (K.faults (ended_sink self.exit).now)) }
+        ensures later { ⟦<Gathered<'a, K> as Sink>⟧.faults self.entry
+            ≤ K.faults (ended_sink self.exit).now }
+        ensures mark { (ended_sink self.exit).ghost_name ∷ K.mark (ended_sink self.exit).now
+            ≡ ⟦<Gathered<'a, K> as Sink>⟧.mark self.entry }
+    {
+        let Gathered { sink, mut room } = self;
+        pass_on(sink, &mut room)
+    }
+
+    /// Ends. What waits is lost.
+    pub fn give_up(self)
+        ensures short { IsShort (K.written (ended_sink self.exit).now)
+            (⟦<Gathered<'a, K> as Sink>⟧.written self.entry) }
+        ensures faults { K.faults (ended_sink self.exit).now
+            ≡ ⟦<Gathered<'a, K> as Sink>⟧.faults self.entry }
+        ensures mark { (ended_sink self.exit).ghost_name ∷ K.mark (ended_sink self.exit).now
+            ≡ ⟦<Gathered<'a, K> as Sink>⟧.mark self.entry }
+    {
+        let Gathered { sink: _, room: _ } = self;
     }
 }
 
-impl<K: Sink> Sink for Gathered<K> {
-    ghost written = { λ g. append_known (K.written g.sink) g.room };
+impl<'a, K: Sink> Sink for Gathered<'a, K> {
+    ghost written = { λ g. append_known (K.written g.sink.now) g.room };
 
-    ghost faults = { λ g. K.faults g.sink };
+    ghost faults = { λ g. K.faults g.sink.now };
 
-    ghost mark = { λ g. K.mark g.sink };
+    // The borrow, by its name: so a call that keeps the mark keeps the sink that stands behind.
+    ghost mark = { λ g. g.sink.ghost_name ∷ K.mark g.sink.now };
 
     /// A piece for which there is no room lets the sink have what waits first.
     fn put(&mut self, piece: &[u8]) -> Result<usize, PutFailed> {
         if !self.room.hold(piece) {
-            self.finish()?;
+            self.clear()?;
             if !self.room.hold(piece) {
                 return self.sink.put(piece);
             }

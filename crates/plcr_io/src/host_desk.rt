@@ -4,7 +4,6 @@ ghost use Rattle.std.specs.Prelude.{◌≡◌, ◌≢◌, ℕ, ◌<◌, ◌≤�
 ghost use Rattle.plcr_io.specs.declared.desks.TakeFault.TheVariants.{TooLong};
 
 use crate::counting::one_more;
-use crate::gathered::Gathered;
 use crate::{Desk, HostOut, MakeFailed, PutFailed, Sink, TakeFault};
 use arrayvec::ArrayString;
 use std::alloc::Global;
@@ -18,13 +17,10 @@ use std::{fs, io};
 const LONGEST_PATH: usize = 4096;
 
 /// An output of a `HostDesk`, which is written under its name with `.part` behind it.
-///
-/// What is put to it waits in room of its own until a piece doesn't fit, or until it is kept. So an
-/// `Ok` of a put says that the bytes were taken, and a system that has no place for them may show
-/// it only as the output is kept.
+/// Each put is a call of the system.
 #[derive(Drop)]
 pub struct HostFile<F> {
-    out: Gathered<HostOut<F>>,
+    out: HostOut<F>,
     part: ArrayString<LONGEST_PATH>,
 }
 
@@ -34,7 +30,7 @@ impl<F> Model for HostFile<F> {
 
     ghost Value = { ℕ };
 
-    ghost view = { λ file. file.out.sink };
+    ghost view = { λ file. file.out };
 }
 
 impl<F: Write> Sink for HostFile<F> {
@@ -46,6 +42,10 @@ impl<F: Write> Sink for HostFile<F> {
 
     fn put(&mut self, piece: &[u8]) -> Result<usize, PutFailed> {
         self.out.put(piece)
+    }
+
+    fn is_dear(&self) -> bool {
+        true
     }
 }
 
@@ -152,7 +152,7 @@ impl<R: Files> Desk for HostDesk<R> {
     {
         if let Some(part) = part_name(name) {
             if let Ok(file) = fs::create(&self.files, part.as_str()) {
-                let out = Gathered::new(HostOut::new(file));
+                let out = HostOut::new(file);
                 return Ok(HostFile { out, part });
             }
         }
@@ -164,10 +164,9 @@ impl<R: Files> Desk for HostDesk<R> {
         ensures counts { self.new ≡ after_output self.old result }
         ensures told { Keeps name.now None (tells self.old) (tells self.new) result }
     {
-        let HostFile { mut out, part } = out;
-        let whole = out.finish().is_ok();
+        let HostFile { out, part } = out;
         drop(out);
-        if whole && fs::rename(&self.files, part.as_str(), name).is_ok() {
+        if fs::rename(&self.files, part.as_str(), name).is_ok() {
             return Ok(());
         }
         let _ = fs::remove_file(&self.files, part.as_str());
@@ -180,7 +179,7 @@ impl<R: Files> Desk for HostDesk<R> {
         ensures told { Abandons None out (tells self.old) (tells self.new) }
     {
         let HostFile { out, part } = out;
-        if out.sink.faults() > 0 {
+        if out.faults() > 0 {
             self.out_faults = one_more(self.out_faults);
         }
         drop(out);
@@ -191,6 +190,7 @@ impl<R: Files> Desk for HostDesk<R> {
 #[cfg(test)]
 mod tests {
     use super::*;
+    use crate::Gathered;
     use std::alloc::Allocator;
     use std::cell::Cell;
     use std::fs::{Metadata, OpenOptions};
@@ -303,22 +303,25 @@ mod tests {
         }
     }
 
-    // What an output gathered is passed on as it is kept, and a full disk shows then.
+    // What was gathered for an output is passed on at the end, and a full disk shows then.
     #[test]
-    fn a_full_disk_shows_as_an_output_is_kept(rt: HostRuntime) -> Result<(), Fail> {
+    fn a_full_disk_shows_as_gathering_ends(rt: HostRuntime) -> Result<(), Fail> {
         let (renamed, removed) = (Cell::new(0), Cell::new(0));
         let mut desk = HostDesk::new(FullDisk {
             renamed: &renamed,
             removed: &removed,
         });
         let mut out = desk.make("report")?;
-        assert_eq!(rt; out.put(b"text"), Ok(4));
-        assert_eq!(rt; out.out.sink.faults(), 0);
-        assert_eq!(rt; desk.keep("report", out), Err(MakeFailed));
+        assert!(rt; out.is_dear());
+        let mut gathered = Gathered::new(&mut out);
+        assert_eq!(rt; gathered.put(b"text"), Ok(4));
+        assert_eq!(rt; gathered.finish(), Err(PutFailed));
+        assert_eq!(rt; out.out.faults(), 1);
+        desk.abandon(out);
         assert_eq!(rt; desk.out_faults, 1);
         assert_eq!(rt; (renamed.get(), removed.get()), (0, 1));
 
-        // Nothing was put to the next, so nothing is passed on.
+        // Nothing was put to the next, so it is kept.
         let out = desk.make("report")?;
         assert_eq!(rt; desk.keep("report", out), Ok(()));
         assert_eq!(rt; desk.out_faults, 1);

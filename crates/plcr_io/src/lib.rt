@@ -18,6 +18,7 @@ mod room;
 mod sinks;
 
 pub use desks::{Desk, MakeFailed, TakeFault};
+pub use gathered::Gathered;
 pub use host_desk::{HostDesk, HostFile};
 pub use host_out::HostOut;
 pub use limits::{DECIMAL_DIGITS, FILE_NAME_BYTES};

@@ -43,6 +43,12 @@ pub trait Sink {
         ensures cause { OnErr result (Rose (faults self.old) (faults self.new)) }
         ensures later { faults self.old ≤ faults self.new }
         ensures mark { mark self.new ≡ mark self.old };
+
+    /// Whether a put is dear, as a call of the system is: few great pieces are better then than
+    /// many small ones.
+    fn is_dear(&self) -> bool {
+        false
+    }
 }
 
 /// Writes all of these bytes. At `Err` a front of them was written, and not all.

@@ -165,8 +165,8 @@ fn files_of_the_system(rt: HostRuntime) -> Result<(), Fail> {
 #[test]
 fn pieces_are_gathered(rt: HostRuntime) -> Result<(), Fail> {
     let alloc = rt.alloc();
-    let out = MemOut::new(alloc, 60_000, 60_000, vec![in alloc; 2]?)?;
-    let mut gathered = Gathered::new(out);
+    let mut out = MemOut::new(alloc, 60_000, 60_000, vec![in alloc; 2]?)?;
+    let mut gathered = Gathered::new(&mut out);
     let mut sixteen = Vec::new(alloc);
     for letter in b'A'..b'Q' {
         let piece = [letter; 1024];
@@ -192,7 +192,13 @@ fn pieces_are_gathered(rt: HostRuntime) -> Result<(), Fail> {
     assert_eq!(rt; gathered.sink.bytes(), whole.as_slice());
     assert_eq!(rt; gathered.finish(), Ok(()));
     whole.extend_from_slice(b"end")?;
-    assert_eq!(rt; gathered.sink.bytes(), whole.as_slice());
+    assert_eq!(rt; out.bytes(), whole.as_slice());
+
+    // What waits is lost where it is given up.
+    let mut gathered = Gathered::new(&mut out);
+    assert_eq!(rt; gathered.put(b"lost"), Ok(4));
+    gathered.give_up();
+    assert_eq!(rt; out.bytes(), whole.as_slice());
     Ok(())
 }
 
