@@ -160,34 +160,40 @@ fn files_of_the_system(rt: HostRuntime) -> Result<(), Fail> {
     Ok(())
 }
 
+// 1,024 bytes of each letter from the first one up to the last one.
+fn letters(alloc: Global, first: u8, last: u8) -> Result<Vec<u8>, AllocError> {
+    let mut text = Vec::new(alloc);
+    for letter in first..last {
+        text.extend_from_slice(&[letter; 1024])?;
+    }
+    Ok(text)
+}
+
 // Pieces of 1,024 bytes, sixteen of which fit in the room, on their way to an output whose second
 // put fails.
 #[test]
 fn pieces_are_gathered(rt: HostRuntime) -> Result<(), Fail> {
     let alloc = rt.alloc();
+    let sixteen = letters(alloc, b'A', b'Q')?;
+    let mut whole = letters(alloc, b'A', b'a')?;
+    let great = [b'z'; 20_000];
+    whole.extend_from_slice(&great)?;
     let mut out = MemOut::new(alloc, 60_000, 60_000, vec![in alloc; 2]?)?;
+
     let mut gathered = Gathered::new(&mut out);
-    let mut sixteen = Vec::new(alloc);
     for letter in b'A'..b'Q' {
-        let piece = [letter; 1024];
-        assert_eq!(rt; gathered.put(&piece), Ok(1024));
-        sixteen.extend_from_slice(&piece)?;
+        assert_eq!(rt; gathered.put(&[letter; 1024]), Ok(1024));
     }
     assert_eq!(rt; gathered.sink.bytes(), b"".as_slice());
-    let mut whole = sixteen.clone()?;
     for letter in b'Q'..b'a' {
-        let piece = [letter; 1024];
-        assert_eq!(rt; gathered.put(&piece), Ok(1024));
+        assert_eq!(rt; gathered.put(&[letter; 1024]), Ok(1024));
         assert_eq!(rt; gathered.sink.bytes(), sixteen.as_slice());
-        whole.extend_from_slice(&piece)?;
     }
     // The next is refused with the second put. What waits is passed on at the next try, and a piece
     // that is greater than the room goes straight on.
     assert_eq!(rt; gathered.put(b"lost"), Err(PutFailed));
     assert_eq!(rt; gathered.sink.bytes(), sixteen.as_slice());
-    let great = [b'z'; 20_000];
     assert_eq!(rt; gathered.put(&great), Ok(20_000));
-    whole.extend_from_slice(&great)?;
     assert_eq!(rt; gathered.put(b"end"), Ok(3));
     assert_eq!(rt; gathered.sink.bytes(), whole.as_slice());
     assert_eq!(rt; gathered.finish(), Ok(()));
