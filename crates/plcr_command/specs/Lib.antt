@@ -1,6 +1,7 @@
 pub mod Complete
 pub mod Endings
 pub mod Files
+pub mod Gathering
 pub mod Jobs
 pub mod Lines
 pub mod Process

@@ -4,6 +4,7 @@
 
 mod endings;
 mod files;
+mod gathering;
 mod jobs;
 mod limits;
 mod lines;
@@ -16,6 +17,7 @@ mod tests;
 
 pub use endings::{Ending, status};
 pub use files::{FileWord, report_file};
+pub use gathering::capture_into;
 pub use jobs::{Job, Modes, read_job};
 pub use limits::{CORE_LIMIT, MOST_SCRIPTS, REPORT_LIMIT, SCRIPT_LIMIT};
 pub use lines::{print_line, print_unwritten, refuse};

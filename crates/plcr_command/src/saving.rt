@@ -5,6 +5,7 @@ ghost use Rattle.plcr_io.specs.Desk.{HasOpen};
 ghost use Rattle.plcr_command.specs.Saving.{IsSaved, IsUnsaved, TookNothing};
 ghost use Rattle.plcr_command.specs.inner.Saving.{Settles};
 
+use crate::gathering::capture_into;
 use plcr_encode::Context;
 use plcr_io::{Desk, MakeFailed, PutFailed, put_all};
 use plcr_macho::Images;
@@ -43,7 +44,7 @@ pub fn save_report<P: Process, I: Images, D: Desk>(
 {
     match desk.make(name) {
         Ok(mut out) => {
-            let captured = process.capture(images, context, &mut out);
+            let captured = capture_into(process, context, images, &mut out);
             settle(name, out, captured, desk)
         }
         Err(MakeFailed) => Err(Unsaved),

@@ -4,6 +4,7 @@ ghost use Rattle.std.specs.Io.KnownBytes.{append_known};
 ghost use Rattle.plcr_base.specs.Causes.{Rose};
 ghost use Rattle.plcr_encode.specs.Conditions.{AreNamable};
 
+use plcr_command::capture_into;
 use plcr_encode::Context;
 use plcr_io::{PutFailed, Sink};
 use plcr_macho::Images;
@@ -52,7 +53,7 @@ impl<K: Sink> Draft<K> {
         ensures same { I.images images.new ≡ I.images images.old }
         ensures follows { I.follows images.old images.new }
     {
-        match process.capture(images, context, &mut self.out) {
+        match capture_into(process, context, images, &mut self.out) {
             Ok(bytes) => {
                 self.progress = Progress::Written;
                 Ok(bytes)
