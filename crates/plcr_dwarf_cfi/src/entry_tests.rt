@@ -148,9 +148,10 @@ fn entries_end_where_they_say(rt: HostRuntime) -> Result<(), Fail> {
     };
     let memory = memory_with(rt.alloc(), whole.as_slice())?;
     let state = frame(X86, true, &[(7, 0x7100), (16, F)]);
-    if state.lookup().is_some() {
-        assert!(rt; step(&memory, &without, &state) == Step::Bad(1));
-    }
+    let Some(_) = state.lookup() else {
+        return Err(Fail::from("no lookup"));
+    };
+    assert!(rt; step(&memory, &without, &state) == Step::Bad(1));
     assert!(rt; answer_in(&memory, 0, X86, F, KNOWN) == Step::Bad(3));
     // A length of 0 ends the list before the entries, in the long form too.
     for end in [
@@ -308,16 +309,18 @@ fn a_section_may_pass_the_last_address(rt: HostRuntime) -> Result<(), Fail> {
         },
     ]
     .to_vec(rt.alloc())?;
-    if are_backed(file.as_slice(), regions.as_slice()) {
-        let memory = Memory::new(rt.alloc(), file, regions)?;
-        let image = Image {
-            eh_frame: Some(Part { at: start, size }),
-            ..image(0)
-        };
-        let state = frame(X86, true, &[(7, 0x7100), (16, F)]);
-        if state.lookup().is_some() {
-            assert!(rt; step(&memory, &image, &state) == plain_caller(false));
-        }
+    if !are_backed(file.as_slice(), regions.as_slice()) {
+        return Err(Fail::from("not backed"));
     }
+    let memory = Memory::new(rt.alloc(), file, regions)?;
+    let image = Image {
+        eh_frame: Some(Part { at: start, size }),
+        ..image(0)
+    };
+    let state = frame(X86, true, &[(7, 0x7100), (16, F)]);
+    let Some(_) = state.lookup() else {
+        return Err(Fail::from("no lookup"));
+    };
+    assert!(rt; step(&memory, &image, &state) == plain_caller(false));
     Ok(())
 }

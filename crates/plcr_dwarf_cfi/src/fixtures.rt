@@ -142,6 +142,7 @@ pub fn answer_in(memory: &Memory, size: u64, arch: Arch, pc: u64, known: &[(usiz
     if frame.lookup().is_some() {
         step(memory, &image(size), &frame)
     } else {
-        Step::End
+        // No reader has this number.
+        Step::Bad(0)
     }
 }

@@ -56,16 +56,17 @@ fn what_is_kept_changes_no_answer(rt: HostRuntime) -> Result<(), Fail> {
     for turn in 0..600u64 {
         let pc = F - 64 + turn.wrapping_mul(7919) % 9800;
         let frame = frame_at(pc);
-        if frame.lookup().is_some() {
-            assert!(rt;
-                known.step(&whole, &frame) == step(&memory, &whole, &frame),
-                "{pc}"
-            );
-            assert!(rt;
-                known.step(&front, &frame) == step(&memory, &front, &frame),
-                "{pc}"
-            );
-        }
+        let Some(_) = frame.lookup() else {
+            return Err(Fail::from("no lookup"));
+        };
+        assert!(rt;
+            known.step(&whole, &frame) == step(&memory, &whole, &frame),
+            "{pc}"
+        );
+        assert!(rt;
+            known.step(&front, &frame) == step(&memory, &front, &frame),
+            "{pc}"
+        );
     }
     Ok(())
 }

@@ -217,9 +217,10 @@ fn found_entries_lead_to_callers(rt: HostRuntime) -> Result<(), Fail> {
         let found = find(&memory, &part, address);
         let frame = frame(X86, true, &registers);
         let whole = answer_in(&memory, size, X86, address, &registers);
-        if frame.lookup().is_some() {
-            assert!(rt; step_from(&memory, &part, &frame, &found) == whole);
-        }
+        let Some(_) = frame.lookup() else {
+            return Err(Fail::from("no lookup"));
+        };
+        assert!(rt; step_from(&memory, &part, &frame, &found) == whole);
         assert_eq!(rt; found.is_ok(), address < F + 32);
     }
     Ok(())
@@ -242,10 +243,11 @@ fn an_inexact_frame_is_looked_up_one_byte_before(rt: HostRuntime) -> Result<(), 
             exact,
             &[(1, 0xb1), (6, 0x7140), (7, 0x7100), (12, 0xc1), (16, pc)],
         );
-        if frame.lookup().is_some() {
-            let found = step(&memory, &image, &frame);
-            assert!(rt; found == caller(0xb1, rsp, WORD + rsp - 8), "{pc}");
-        }
+        let Some(_) = frame.lookup() else {
+            return Err(Fail::from("no lookup"));
+        };
+        let found = step(&memory, &image, &frame);
+        assert!(rt; found == caller(0xb1, rsp, WORD + rsp - 8), "{pc}");
     }
     Ok(())
 }
