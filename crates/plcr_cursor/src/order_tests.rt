@@ -143,13 +143,13 @@ fn what_is_kept_of_two_images_stays_apart(rt: HostRuntime) -> Result<(), Fail> {
     Ok(())
 }
 
-// Whether the frames end from each of these functions.
+// Whether the frames from each of these functions begin with the thread's own, and end.
 fn all_end(alloc: Global, cut: Cut, functions: &[u64]) -> Result<bool, MemoryFault> {
     let memory = memory_with_image(alloc, cut)?;
     let mut all = true;
     for pc in functions {
         let (told, ends) = told_of(alloc, &memory, *pc, 0x7018, 0x7000)?;
-        all &= ends && !told.is_empty();
+        all &= ends && told.first() == Some(&(*pc, Some(*pc), Some(0)));
     }
     Ok(all)
 }

@@ -108,73 +108,72 @@ const SIGNED: u64 = 0x002a_0001_0000_4100;
 
 const PLAIN: u64 = 0x1_0000_4100;
 
+// The architecture and the bits; the pc and the fp; the two words at 0x7100; the pcs that are told.
+const ENDS: [(Arch, u8, u64, u64, [u64; 2], &[u64]); 15] = [
+    (Arch::Arm64, 64, 9, 0x7100, [0x7100, 0x2000], &[9]),
+    (Arch::Arm64, 64, 9, 0x7100, [0x70f0, 0x2000], &[9]),
+    (Arch::Arm64, 64, 9, 0, [0, 0x2000], &[9]),
+    (Arch::Arm64, 64, 9, 0x7101, [0, 0x2000], &[9]),
+    (Arch::Arm64, 64, 9, u64::MAX - 15, [0, 0x2000], &[9]),
+    (Arch::Arm64, 64, 0, 0x7100, [0, 4096], &[0]),
+    (Arch::Arm64, 64, 9, 0x7100, [0, 4097], &[9, 4097]),
+    (Arch::X86_64, 64, 9, 0x7100, [0, 4096], &[9]),
+    (Arch::X86_64, 64, 9, 0x7100, [0, 4097], &[9, 4097]),
+    (
+        Arch::Arm64,
+        47,
+        SIGNED,
+        0x7100,
+        [0x7120, SIGNED],
+        &[PLAIN, PLAIN],
+    ),
+    (
+        Arch::Arm64,
+        32,
+        SIGNED,
+        0x7100,
+        [0, SIGNED],
+        &[0x4100, 0x4100],
+    ),
+    (
+        Arch::Arm64,
+        64,
+        SIGNED,
+        0x7100,
+        [0, SIGNED],
+        &[SIGNED, SIGNED],
+    ),
+    (
+        Arch::X86_64,
+        47,
+        SIGNED,
+        0x7100,
+        [0, SIGNED],
+        &[SIGNED, SIGNED],
+    ),
+    (
+        Arch::Arm64,
+        47,
+        9,
+        0x7100,
+        [0x7120, 0x7f80_0000_0000_1000],
+        &[9],
+    ),
+    (
+        Arch::Arm64,
+        47,
+        9,
+        0x7100,
+        [0x7120, 0x7f80_0000_0000_1001],
+        &[9, 4097],
+    ),
+];
+
 // Where a walk ends, and what of the pcs counts.
 #[test]
 fn frames_end_where_they_must(rt: HostRuntime) -> Result<(), Fail> {
     let alloc = rt.alloc();
-    let (arm64, x86_64) = (Arch::Arm64, Arch::X86_64);
-    // The architecture and the bits; the pc and the fp; the two words at 0x7100; the pcs that are
-    // told.
-    let cases = [
-        (arm64, 64, 9, 0x7100, [0x7100, 0x2000], [9].as_slice()),
-        (arm64, 64, 9, 0x7100, [0x70f0, 0x2000], [9].as_slice()),
-        (arm64, 64, 9, 0, [0, 0x2000], [9].as_slice()),
-        (arm64, 64, 9, 0x7101, [0, 0x2000], [9].as_slice()),
-        (arm64, 64, 9, u64::MAX - 15, [0, 0x2000], [9].as_slice()),
-        (arm64, 64, 0, 0x7100, [0, 4096], [0].as_slice()),
-        (arm64, 64, 9, 0x7100, [0, 4097], [9, 4097].as_slice()),
-        (x86_64, 64, 9, 0x7100, [0, 4096], [9].as_slice()),
-        (x86_64, 64, 9, 0x7100, [0, 4097], [9, 4097].as_slice()),
-        (
-            arm64,
-            47,
-            SIGNED,
-            0x7100,
-            [0x7120, SIGNED],
-            [PLAIN, PLAIN].as_slice(),
-        ),
-        (
-            arm64,
-            32,
-            SIGNED,
-            0x7100,
-            [0, SIGNED],
-            [0x4100, 0x4100].as_slice(),
-        ),
-        (
-            arm64,
-            64,
-            SIGNED,
-            0x7100,
-            [0, SIGNED],
-            [SIGNED, SIGNED].as_slice(),
-        ),
-        (
-            x86_64,
-            47,
-            SIGNED,
-            0x7100,
-            [0, SIGNED],
-            [SIGNED, SIGNED].as_slice(),
-        ),
-        (
-            arm64,
-            47,
-            9,
-            0x7100,
-            [0x7120, 0x7f80_0000_0000_1000],
-            [9].as_slice(),
-        ),
-        (
-            arm64,
-            47,
-            9,
-            0x7100,
-            [0x7120, 0x7f80_0000_0000_1001],
-            [9, 4097].as_slice(),
-        ),
-    ];
-    for (arch, bits, pc, fp, words, pcs) in cases {
+    for (arch, bits, pc, fp, words, pcs) in ENDS {
         let state = state_with(arch, pc, 0, fp);
         let memory = memory_with(alloc, 0x7100, &words)?;
         let mut images = ListImages::new(&[], &mut []);
