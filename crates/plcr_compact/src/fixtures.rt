@@ -1,6 +1,7 @@
+use crate::{find, step_from};
 use plcr_macho::{Image, Part};
 use plcr_memory::{Memory, MemoryFault, Region, are_backed};
-use plcr_regs::{Arch, Frame, MOST_REGISTERS, Registers, pc_place};
+use plcr_regs::{Arch, Frame, MOST_REGISTERS, Registers, Step, pc_place};
 use std::alloc::{AllocError, Global};
 
 /// Where the image of the tests lies, its section `__unwind_info`, and the stack.
@@ -9,6 +10,34 @@ pub const HEADER: u64 = 0x1_0000_0000;
 pub const SECTION: u64 = HEADER + 0x2000;
 
 pub const STACK: u64 = 0x7000;
+
+/// The places of registers of x86-64.
+pub const RAX: usize = 0;
+
+pub const RBX: usize = 1;
+
+pub const RBP: usize = 6;
+
+pub const RSP: usize = 7;
+
+pub const R12: usize = 12;
+
+pub const R13: usize = 13;
+
+pub const R14: usize = 14;
+
+pub const R15: usize = 15;
+
+pub const RIP: usize = 16;
+
+/// The places of registers of arm64.
+pub const FP: usize = 29;
+
+pub const LR: usize = 30;
+
+pub const SP: usize = 31;
+
+pub const PC: usize = 32;
 
 /// A section with one function, whose encoding stands in a regular page.
 pub const fn one_function(encoding: u32) -> [u32; 17] {
@@ -130,4 +159,35 @@ pub fn registers(known: &[(usize, u64)]) -> [Option<u64>; MOST_REGISTERS] {
         }
     }
     value
+}
+
+/// What the reader says of a frame at an offset, by its two halves.
+pub fn stepped(memory: &Memory, image: &Image, frame: &Frame, offset: u64) -> Step {
+    match find(memory, image, offset) {
+        Ok(found) => step_from(memory, image, frame, &found),
+        Err(bad) => Step::Bad(bad),
+    }
+}
+
+/// The caller of which these registers are known.
+pub fn caller(arch: Arch, bits: u8, known: &[(usize, u64)]) -> Step {
+    let value = registers(known);
+    Step::Frame(Frame {
+        registers: Registers { arch, value },
+        exact: false,
+        bits,
+    })
+}
+
+/// What the reader says of a function with this encoding and a frame of which these registers are
+/// known.
+pub fn said(
+    alloc: Global,
+    arch: Arch,
+    encoding: u32,
+    known: &[(usize, u64)],
+) -> Result<Step, MemoryFault> {
+    let memory = memory_with(alloc, &one_function(encoding))?;
+    let frame = frame_at(arch, 64, 0x100, known);
+    Ok(stepped(&memory, &image_with(68), &frame, 0x100))
 }

@@ -32,8 +32,10 @@ pub use laws::{entries_are_chosen, permutations_are_orders};
 pub use section::{Entry, Found, PageHeader, SectionHeader, Table};
 
 #[cfg(test)]
+mod caller_tests;
+#[cfg(test)]
+mod encoding_tests;
+#[cfg(test)]
 mod fixtures;
 #[cfg(test)]
 mod section_tests;
-#[cfg(test)]
-mod tests;
