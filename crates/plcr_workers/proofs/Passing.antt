@@ -4,7 +4,7 @@ use Rattle.plcr_nodes.proofs.Seeing.{grows_again}
 use Rattle.plcr_imagelist.specs.Holds.{WalkerState, HoldState, IsHeld, IsReleased}
 use Rattle.plcr_imagelist.specs.Carrying.{OnlySees}
 use Rattle.plcr_imagelist.specs.Walk.{IsSameWalk}
-use Rattle.plcr_turns.proofs.Turned.{went_again}
+use Rattle.plcr_imagelist.proofs.Looking.{went_again}
 use Rattle.plcr_workers.specs.inner.Places.{PassGoes}
 
 pub stays : (a : WalkerState) → PassGoes a a

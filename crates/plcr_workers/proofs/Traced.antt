@@ -18,7 +18,7 @@ use Rattle.plcr_script.specs.declared.statements.Statement.{Statement}
 use Rattle.plcr_script.specs.declared.statements.Statement.TheVariants as stated
 use Rattle.plcr_script.specs.declared.statements.NumberedStatement.{NumberedStatement}
 use Rattle.plcr_script.specs.Reading.{files_of}
-use Rattle.plcr_turns.proofs.Turned.{went_again}
+use Rattle.plcr_imagelist.proofs.Looking.{went_again}
 use Rattle.plcr_workers.specs.declared.acting.Took.{Took}
 use Rattle.plcr_workers.specs.declared.acting.Took.TheVariants.{Silent, Said, Unwritten}
 use Rattle.plcr_workers.specs.declared.lines.PassLine.{PassLine}
