@@ -1,8 +1,9 @@
 -- Workers handed out and taken in.
-use Rattle.std.proofs.Common.{◌≡◌, ◌≢◌, ℕ, zero, suc, ◌+◌, ◌<◌, ◌≤◌, true, false, List, [], ◌∷◌, ◌++◌, drop, length, slice_get, Option, Some, None, Bool, unwrap_or, refl, sym, ap, ◌∙◌, subst, length-append, append-nil, zero-add, arith}
+use Rattle.std.proofs.Common.{◌≡◌, ◌≢◌, ℕ, zero, suc, ◌+◌, ◌<◌, ◌≤◌, true, List, [], ◌∷◌, ◌++◌, drop, length, slice_get, Some, refl, sym, ap, ◌∙◌, subst, length-append, append-nil, zero-add, arith}
+use Rattle.std.proofs.lemmas.Option.{same_Some, none-some}
 use mathlib.Core.List.{IsPrefix}
 use Rattle.atomic_table.specs.Seated.{TableId}
-use Rattle.plcr_machine.proofs.Cases.{at_or_else, not_both}
+use Rattle.plcr_machine.proofs.Cases.{at_or_else}
 use Rattle.plcr_imagelist.specs.States.{WriterState}
 use Rattle.plcr_turns.specs.declared.lines.ChangeLine.{ChangeLine}
 use Rattle.plcr_turns.specs.declared.turn.Part.{Part}
@@ -101,16 +102,6 @@ just_these script list w x working begins agrees turn =
     let counts : length (lines_of script x.journal) ≡ length (lines_of script w.journal) + length (lines_of script begins.0) = ap length cut ∙ length-append (lines_of script w.journal) (lines_of script begins.0) in
     cut ∙ ap (λ l. lines_of script w.journal ++ l) (empty_if (lines_of script begins.0) (omega arith)) ∙ append-nil (lines_of script w.journal)
 
-abbrev is_some_view : Option View → Bool
-is_some_view None = false
-is_some_view (Some v) = true
-
-none_some : (w : View) → None ≡ Some w → ⊥
-none_some w e = not_both false (ap is_some_view e) refl
-
-some_view : {a b : View} → Some a ≡ Some b → a ≡ b
-some_view {a} {b} e = ap (λ (o : Option View). unwrap_or o a) e
-
 agrees_parts : (parts : List Part) (some others : List Share) → Agrees parts (some ++ others) → Agrees parts some × Agrees parts others
 agrees_parts parts [] others a = (tt, a)
 agrees_parts parts (share ∷ some) others a = let r = agrees_parts parts some others a.1 in ((a.0, r.0), r.1)
@@ -121,9 +112,9 @@ begin_parts (seen ∷ some) others journal a = begin_parts some others journal a
 
 each_once_from : (from : ℕ) (list : TableId) (workers : List View) (x : TurnState) → AreWorking from list workers → AllBegin (journals_of workers) x.journal → Agrees x.parts (shares_of workers) → IsTurn x
     → (n : ℕ) (w : View) → slice_get workers n ≡ Some w → IsPrefix w.journal x.journal × (lines_of (from + n) x.journal ≡ lines_of (from + n) w.journal)
-each_once_from from list [] x are begin agrees turn n w at = absurd (none_some w at)
+each_once_from from list [] x are begin agrees turn n w at = absurd (none-some w at)
 each_once_from from list (worker ∷ workers) x are begin agrees turn zero w at =
-    subst (λ (u : View). IsPrefix u.journal x.journal × (lines_of (from + 0) x.journal ≡ lines_of (from + 0) u.journal)) (some_view at)
+    subst (λ (u : View). IsPrefix u.journal x.journal × (lines_of (from + 0) x.journal ≡ lines_of (from + 0) u.journal)) (same_Some _ _ at)
     (begin.0, subst (λ s. lines_of s x.journal ≡ lines_of s worker.journal) (omega arith) (just_these from list worker x are.0 begin.0 (agrees_parts x.parts worker.shares (shares_of workers) agrees).0 turn))
 each_once_from from list (worker ∷ workers) x are begin agrees turn (suc n) w at =
     let r = each_once_from (suc from) list workers x are.1 (begin_parts worker.joined (journals_of workers) x.journal begin.1) (agrees_parts x.parts worker.shares (shares_of workers) agrees).1 turn n w at in

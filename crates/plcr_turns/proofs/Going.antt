@@ -1,11 +1,13 @@
 -- The turn is taken and given back.
-use Rattle.std.proofs.Common.{◌≡◌, ◌≢◌, ℕ, zero, suc, ◌<◌, ◌⊎◌, inl, inr, ⊎_elim, true, false, List, [], ◌∷◌, ◌++◌, length, set, slice_get, Option, Some, None, unwrap_or, refl, sym, ap, ◌∙◌, subst, arith}
+use Rattle.std.proofs.Common.{◌≡◌, ◌≢◌, ℕ, zero, suc, ◌<◌, ◌⊎◌, inl, inr, ⊎_elim, true, false, List, [], ◌∷◌, ◌++◌, length, set, slice_get, Some, None, refl, sym, ap, ◌∙◌, subst, arith}
+use Rattle.std.proofs.lemmas.Option.{same_Some}
 use mathlib.Core.Option.{some, some-ne-none}
 use mathlib.Core.List.{IsPrefix}
 use lib.ListN.{get_elem?}
 use Rattle.crossbeam_queue.specs.Fifo.{Pushes, Pops, Learns}
 use Rattle.crossbeam_queue.proofs.Lists.{set_here, set_else}
 use Rattle.plcr_machine.proofs.Cases.{at_or_else, not_both, by_cases}
+use Rattle.plcr_nodes.proofs.Opening.{at_within}
 use Rattle.plcr_turns.specs.declared.view.View.{View}
 use Rattle.plcr_turns.specs.declared.view.Share.{Share}
 use Rattle.plcr_turns.specs.declared.view.Face.{Face}
@@ -16,7 +18,7 @@ use Rattle.plcr_turns.specs.Turns.{TurnState}
 use Rattle.plcr_turns.specs.Views.{face_of, has_share, Agrees, AllBegin, renewed, first_view, taken_view, given_view, IsTaken, MayGive, IsUnspent, is_unspent, HasAll, MustHold}
 use Rattle.plcr_turns.specs.Rule.{Truth, Fits, IsInQueue, IsWithPass, HasOwner, IsNew, IsGoing, IsKept, IsWhose}
 use Rattle.plcr_turns.proofs.Shares.{prefix_itself, prefix_again, begin_longer, belong_to, belong_if, agrees_at, agrees_still, renewed_same, renewed_apart, renewed_some, renewed_agrees, has_first, other_of}
-use Rattle.plcr_turns.proofs.Views.{at_within, only_one, all_set, chief_not_fresh, worker_not_chief, has_and_not, same_face, same_view, owned_set}
+use Rattle.plcr_turns.proofs.Views.{only_one, all_set, chief_not_fresh, worker_not_chief, has_and_not, same_face, same_view, owned_set}
 
 -- what is not among shares whose owner is another
 pub not_among : (t : Truth) (pass other : ℕ) (v u : View) → Fits t pass v → Fits t other u → other ≢ pass → (script : ℕ) → has_share script u.shares ≡ true → has_share script v.shares ≡ false
@@ -131,9 +133,6 @@ must_hold port v live items views kept at role turn all empty =
     g.place)
     kept
 
-some_same : {A : Type 0} {x y : A} → Some x ≡ Some y → x ≡ y
-some_same {A} {x} e = ap (λ (o : Option A). unwrap_or o x) e
-
 -- what others know stays, as the turn goes on with the scripts of one pass
 others_fit : (t : Truth) (face : Face) (port j : ℕ) (v u : View) → Fits t port v → Fits t j u → j ≢ port → IsPrefix t.face.journal face.journal → length face.parts ≡ length t.face.parts
     → ((script : ℕ) → has_share script v.shares ≡ false → slice_get face.parts script ≡ slice_get t.face.parts script) → Fits (record t { face = face }) j u
@@ -183,7 +182,7 @@ gave port v x items views m g at p who face =
       place = inl (record {
         turn = x;
         items_are = ap (λ l. l ++ x ∷ []) p.empty;
-        list = some_same (sym m.list ∙ f.list);
+        list = same_Some _ _ (sym m.list ∙ f.list);
         sizes = (sym m.sizes.0 ∙ f.sizes.0, sym m.sizes.1 ∙ f.sizes.1);
         face = refl;
         nobody = all_set (λ j u. u.turn ≡ None) views port w (λ _. refl) (λ j u other there lives. p.only j u there lives (λ e. other (e ∙ who)));

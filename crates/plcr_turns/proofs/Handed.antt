@@ -1,11 +1,12 @@
 -- A worker's pass is handed out, and taken in.
-use Rattle.std.proofs.Common.{◌≡◌, ◌≢◌, ℕ, zero, suc, ◌<◌, ◌⊎◌, inl, inr, ⊎_elim, true, false, cond, eqb, List, [], ◌∷◌, ◌++◌, length, set, Option, Some, None, refl, sym, ap, ◌∙◌, subst, arith}
+use Rattle.std.proofs.Common.{◌≡◌, ◌≢◌, ℕ, zero, suc, ◌<◌, ◌⊎◌, inl, inr, ⊎_elim, true, false, cond, eqb, List, [], ◌∷◌, ◌++◌, length, set, Option, Some, None, refl, sym, ap, ◌∙◌, subst, arith, length-set}
 use mathlib.Core.Option.{some}
 use mathlib.Core.List.{IsPrefix}
 use lib.ListN.{get_elem?}
 use Rattle.crossbeam_queue.specs.Fifo.{Forks, Merges}
 use Rattle.crossbeam_queue.proofs.Lists.{at_set, set_here, set_else, at_longer, at_last}
 use Rattle.plcr_machine.proofs.Cases.{at_or_else, not_both, by_cases, eqb_same}
+use Rattle.plcr_nodes.proofs.Opening.{at_within, at_snoc_place}
 use Rattle.plcr_turns.specs.declared.view.View.{View}
 use Rattle.plcr_turns.specs.declared.view.Share.{Share}
 use Rattle.plcr_turns.specs.declared.view.Role.{Role}
@@ -14,7 +15,7 @@ use Rattle.plcr_turns.specs.Turns.{TurnState}
 use Rattle.plcr_turns.specs.Views.{has_share, first_view, left_view, worker_view, both_view, spent_view, first_share, later_shares, Agrees, AllBegin, IsUnspent, is_unspent}
 use Rattle.plcr_turns.specs.Rule.{Truth, Fits, IsInQueue, IsWithPass, HasOwner, IsNew, IsGoing, IsKept, IsWhose, Belong, AreApart}
 use Rattle.plcr_turns.proofs.Shares.{begin_both, belong_to, belong_if, agrees_both, apart_both, has_first, has_later, has_cases, has_left, has_right, has_other, other_of}
-use Rattle.plcr_turns.proofs.Views.{at_within, set_length, at_snoc_place, only_one, all_set, chief_not_fresh, has_and_not, same_view, owned_set}
+use Rattle.plcr_turns.proofs.Views.{only_one, all_set, chief_not_fresh, has_and_not, same_view, owned_set}
 use Rattle.plcr_turns.proofs.Going.{not_among}
 
 -- ---- handed out
@@ -120,7 +121,7 @@ module _ (port : ℕ) (v : View) (share : Share) (shares : List Share) (is : v.s
       let k = length (set views port left) in
       let live : IsUnspent v = ap is_unspent role in
       let f = g.fits port v at live in
-      let away : port ≢ k = λ e. (let w = at_within views v port at in let l = set_length views port left in absurd (omega arith)) in
+      let away : port ≢ k = λ e. (let w = at_within views v port at in let l = length-set views port left in absurd (omega arith)) in
       record {
         truth = record t { owner = gone t.owner share.script k };
         place = ⊎_elim

@@ -9,6 +9,7 @@ use Rattle.plcr_nodes.proofs.NamesKept.{name-older}
 use Rattle.plcr_nodes.proofs.Seeing.{grows_again}
 use Rattle.plcr_imagelist.specs.States.{WriterState}
 use Rattle.plcr_imagelist.specs.Opening.{opened_writer}
+use Rattle.plcr_imagelist.proofs.Looking.{went_again}
 use Rattle.plcr_turns.specs.declared.lines.Asked.{Asked}
 use Rattle.plcr_turns.specs.declared.lines.Asked.TheVariants as asked
 use Rattle.plcr_turns.specs.declared.lines.Said.{Said}
@@ -16,7 +17,7 @@ use Rattle.plcr_turns.specs.declared.lines.Said.TheVariants.{NotImage, Worn, Lon
 use Rattle.plcr_turns.specs.declared.lines.ChangeLine.{ChangeLine}
 use Rattle.plcr_turns.specs.Turns.{TurnState, Says, changes_by, Did, SeesOthers, Applied, IsTurn}
 use Rattle.plcr_turns.specs.Journals.{load_made, change_made, changes_made, LineDid}
-use Rattle.plcr_turns.proofs.Turned.{went_again, SameSizes, same_again, same_sizes}
+use Rattle.plcr_turns.proofs.Turned.{SameSizes, same_again, same_sizes}
 use Rattle.plcr_turns.proofs.Working.{named_then}
 
 -- what the writer knew it knows after more lines

@@ -1,8 +1,8 @@
 -- The parts of a turn agree after the writer is told and after a line is applied.
-use Rattle.std.proofs.Common.{◌≡◌, ◌≢◌, ℕ, zero, suc, ◌+◌, ◌-◌, ◌^◌, ◌<◌, ◌≤◌, Bool, true, false, cond, eqb, eqb-true, List, [], ◌∷◌, ◌++◌, length, set, sum, sum_by, filter, count_by, slice_get, get_or, Option, Some, None, refl, sym, ap, ◌∙◌, subst, append_assoc, unwrap_or, length-append, append-nil, add-one, arith}
+use Rattle.std.proofs.Common.{◌≡◌, ◌≢◌, ℕ, zero, suc, ◌+◌, ◌-◌, ◌^◌, ◌<◌, ◌≤◌, true, false, cond, eqb, eqb-true, List, [], ◌∷◌, ◌++◌, length, set, sum, sum_by, filter, count_by, slice_get, get_or, Option, Some, refl, sym, ap, ◌∙◌, subst, unwrap_or, length-append, append-nil, add-one, arith}
 use Rattle.std.proofs.lemmas.List.Sums.{sum_by-append, sum_by-cons}
 use Rattle.std.specs.Prelude.{All}
-use Rattle.std.proofs.lemmas.Option.{slice_get_within}
+use Rattle.std.proofs.lemmas.Option.{slice_get_within, same_Some, none-some}
 use Rattle.std.proofs.lemmas.List.Elements.{filter-append, All-nil, All-push}
 use Rattle.plcr_machine.proofs.Cases.{at_or_else, by_cases, eqb_same, not_both}
 use Rattle.plcr_machine.specs.Lists.{changes}
@@ -13,12 +13,13 @@ use Rattle.plcr_nodes.specs.declared.view.Store.{Store}
 use Rattle.plcr_nodes.specs.Names.{stored_elsewhere}
 use Rattle.plcr_imagelist.specs.Changes.{Looks, IsLookedAt, IsCountedAt, FindsNode, AtOnce, AfterLooks}
 use Rattle.plcr_imagelist.specs.Loading.{IsLoaded, IsUnloaded}
-use Rattle.plcr_nodes.specs.Entries.{among, WentOn}
+use Rattle.plcr_nodes.specs.Entries.{among}
 use Rattle.plcr_nodes.specs.Seeing.{AddsOthers, GoesOn}
 use Rattle.plcr_nodes.specs.Tokens.{NoteState}
 use Rattle.plcr_nodes.proofs.Seeing.{adds_again}
 use Rattle.plcr_nodes.proofs.Pacing.{same_list}
 use Rattle.plcr_imagelist.proofs.Changed.{sees_none}
+use Rattle.plcr_imagelist.proofs.Looking.{went_again}
 use Rattle.plcr_imagelist.specs.States.{WriterState, IsAtRest}
 use Rattle.plcr_imagelist.specs.Opening.{opened_writer}
 use Rattle.plcr_imagelist.specs.Tellings.{IsWriterTold}
@@ -36,9 +37,6 @@ use Rattle.plcr_turns.specs.Turns.{TurnState, Says, changes_by, Does, Did, SeesO
 
 pub sees_itself : (s : WriterState) → SeesOthers s s
 sees_itself s = record { added = record { grows = ([], refl); owner = λ _. refl; own = λ _ _. refl }; named = ([], refl); changes = refl; sizes = (refl, refl) }
-
-pub went_again : {A : Type 0} (a b c : List A) → WentOn a b → WentOn b c → WentOn a c
-went_again a b c g h = (h.0 ++ g.0, h.1 ∙ ap (λ l. h.0 ++ l) g.1 ∙ sym (append_assoc h.0 g.0 a))
 
 pub sees_again : (a b c : WriterState) → SeesOthers a b → SeesOthers b c → SeesOthers a c
 sees_again a b c g h = record { added = adds_again true [] a.history b.history c.history g.added h.added; named = went_again a.names b.names c.names g.named h.named; changes = h.changes ∙ g.changes; sizes = (h.sizes.0 ∙ g.sizes.0, h.sizes.1 ∙ g.sizes.1) }
@@ -100,18 +98,8 @@ makes_one (asked.Unload header) name old (Unloaded load) new s = refl
 
 -- ---- parts of which one went on
 
-abbrev is_some_part : Option Part → Bool
-is_some_part None = false
-is_some_part (Some part) = true
-
-some_part : {a b : Part} → Some a ≡ Some b → a ≡ b
-some_part {a} {b} e = ap (λ (o : Option Part). unwrap_or o a) e
-
-none_is_not : {P : Type 0} (part : Part) → None ≡ Some part → P
-none_is_not part e = not_both false (ap is_some_part e) refl
-
 pub one_more_here : (script : ℕ) (parts : List Part) (part : Part) → slice_get parts script ≡ Some part → slice_get (one_more script parts) script ≡ Some (record part { applied = suc part.applied })
-one_more_here script [] part e = none_is_not part e
+one_more_here script [] part e = absurd (none-some part e)
 one_more_here zero (p ∷ parts) part e = ap (λ (o : Option Part). Some (record (unwrap_or o p) { applied = suc (unwrap_or o p).applied })) e
 one_more_here (suc script) (p ∷ parts) part e = one_more_here script parts part e
 
@@ -129,7 +117,7 @@ one_more_length (suc script) (p ∷ parts) = ap suc (one_more_length script part
 
 -- one line less is wanted of it
 pub room_used : (script : ℕ) (parts : List Part) (part : Part) → slice_get parts script ≡ Some part → part.applied < part.total → room_wanted parts ≡ suc (room_wanted (one_more script parts))
-room_used script [] part e less = none_is_not part e
+room_used script [] part e less = absurd (none-some part e)
 room_used zero (p ∷ parts) part e less =
     let less' : p.applied < p.total = subst (λ (o : Option Part). (unwrap_or o p).applied < (unwrap_or o p).total) (sym e) less in
     omega arith
@@ -161,7 +149,7 @@ progress_more journal parts script part line is at less all s p there =
     at_or_else s script
     (λ e.
     let was = all script part at in
-    let now : record part { applied = suc part.applied } ≡ p = some_part (sym (one_more_here script parts part at) ∙ subst (λ k. slice_get (one_more script parts) k ≡ Some p) e there) in
+    let now : record part { applied = suc part.applied } ≡ p = same_Some _ _ (sym (one_more_here script parts part at) ∙ subst (λ k. slice_get (one_more script parts) k ≡ Some p) e there) in
     let count : length (lines_of s (journal ++ line ∷ [])) ≡ suc part.applied =
     ap (λ k. length (lines_of k (journal ++ line ∷ []))) e ∙ ap length (lines_more script journal (line ∷ []) ∙ ap (λ l. lines_of script journal ++ l) (line_here script line is)) ∙ length-append (lines_of script journal) (line ∷ [])
     ∙ (let w = was.lines in omega arith) in
@@ -259,17 +247,17 @@ applied_turn old script line a name said writer turn left come =
 
 -- a part as the code writes it
 pub set_part : (script : ℕ) (parts : List Part) (part was : Part) → slice_get parts script ≡ Some part → was ≡ part → set parts script (record { applied = was.applied + 1; total = was.total }) ≡ one_more script parts
-set_part script [] part was e same = none_is_not part e
+set_part script [] part was e same = absurd (none-some part e)
 set_part zero (p ∷ parts) part was e same =
-    let q : was ≡ p = same ∙ sym (some_part e) in
+    let q : was ≡ p = same ∙ sym (same_Some _ _ e) in
     (λ i. record { applied = add-one (q i).applied i; total = (q i).total } ∷ parts)
 set_part (suc script) (p ∷ parts) part was e same = ap (λ l. p ∷ l) (set_part script parts part was e same)
 
 -- ---- a turn that was just opened
 
 untouched_at : (totals : List ℕ) → ((k : ℕ) → get_or totals k 0 < 2 ^ 32) → (script : ℕ) (part : Part) → slice_get (untouched totals) script ≡ Some part → IsPart script part []
-untouched_at [] small script part e = none_is_not part e
-untouched_at (total ∷ totals) small zero part e = subst (λ (p : Part). IsPart 0 p []) (some_part e) (record { most = omega arith; word = small 0; lines = refl })
+untouched_at [] small script part e = absurd (none-some part e)
+untouched_at (total ∷ totals) small zero part e = subst (λ (p : Part). IsPart 0 p []) (same_Some _ _ e) (record { most = omega arith; word = small 0; lines = refl })
 untouched_at (total ∷ totals) small (suc script) part e = let p = untouched_at totals (λ k. small (suc k)) script part e in record { most = p.most; word = p.word; lines = p.lines }
 
 pub opened_is_turn : (writer : WriterState) (totals : List ℕ) (parts : List Part) (journal : List ChangeLine) → is_new writer → IsAtRest writer → journal ≡ [] → parts ≡ untouched totals → ((k : ℕ) → get_or totals k 0 < 2 ^ 32)

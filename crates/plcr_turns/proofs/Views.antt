@@ -1,9 +1,10 @@
 -- Views of passes: one of them changes, or one is added, and the others stay.
-use Rattle.std.proofs.Common.{◌≡◌, ◌≢◌, ℕ, zero, suc, ◌<◌, ◌⊎◌, inl, inr, ⊎_elim, Bool, true, false, List, [], ◌∷◌, ◌++◌, length, set, Option, Some, None, refl, sym, ap, ◌∙◌, subst, arith}
+use Rattle.std.proofs.Common.{◌≡◌, ◌≢◌, ℕ, zero, suc, ◌<◌, ◌⊎◌, ⊎_elim, Bool, true, false, List, [], ◌∷◌, ◌++◌, set, Option, Some, None, refl, sym, ap, ◌∙◌, subst}
 use mathlib.Core.Option.{some, some-injective, some-ne-none}
 use lib.ListN.{get_elem?}
 use Rattle.crossbeam_queue.proofs.Lists.{at_set, set_here, set_else, at_longer, at_last}
 use Rattle.plcr_machine.proofs.Cases.{at_or_else, not_both}
+use Rattle.plcr_nodes.proofs.Opening.{at_within}
 use Rattle.plcr_turns.specs.declared.view.Role.{Role}
 use Rattle.plcr_turns.specs.declared.view.Role.TheVariants.{Fresh, Chief, Worker, Spent}
 use Rattle.plcr_turns.specs.declared.view.View.{View}
@@ -11,24 +12,6 @@ use Rattle.plcr_turns.specs.declared.view.Face.{Face}
 use Rattle.plcr_turns.specs.Views.{has_share, IsUnspent, first_view}
 use Rattle.plcr_turns.specs.Rule.{HasOwner}
 use Rattle.plcr_turns.proofs.Shares.{other_of}
-
--- the place of one that is there
-pub at_within : {A : Type 0} (l : List A) (a : A) (j : ℕ) → get_elem? l j ≡ some a → j < length l
-at_within [] a j e = absurd (some-ne-none a (sym e))
-at_within (x ∷ xs) a zero e = omega arith
-at_within (x ∷ xs) a (suc j) e = let z = at_within xs a j e in omega arith
-
-pub set_length : {A : Type 0} (l : List A) (i : ℕ) (a : A) → length (set l i a) ≡ length l
-set_length [] i a = refl
-set_length (x ∷ xs) zero a = refl
-set_length (x ∷ xs) (suc i) a = ap suc (set_length xs i a)
-
--- what is at the end of a longer list is the new one
-pub at_snoc_place : {A : Type 0} (l : List A) (a b : A) (j : ℕ) → get_elem? (l ++ a ∷ []) j ≡ some b → ((j < length l) × (get_elem? l j ≡ some b)) ⊎ ((j ≡ length l) × (a ≡ b))
-at_snoc_place [] a b zero e = inr (refl, some-injective a b e)
-at_snoc_place [] a b (suc j) e = absurd (some-ne-none b (sym e))
-at_snoc_place (x ∷ xs) a b zero e = inl (omega arith, e)
-at_snoc_place (x ∷ xs) a b (suc j) e = ⊎_elim (λ d. inl (let z = d.0 in omega arith, d.1)) (λ d. inr (ap suc d.0, d.1)) (at_snoc_place xs a b j e)
 
 -- the only one
 pub only_one : {A : Type 0} (x y : A) (k : ℕ) → get_elem? (x ∷ []) k ≡ some y → (k ≡ 0) × (x ≡ y)
