@@ -14,7 +14,7 @@ ghost use Rattle.plcr_decode.specs.inner.Views.{step_view};
 use crate::faults::DecodeFault;
 use crate::found::{Found, keep, keep_none};
 use crate::marks::{Lack, Marks, Seen};
-use crate::scanning::{Step, step_of, text_of};
+use crate::scanning::{Step, step_of, value_bytes};
 use plcr_report::{Holds, Kind};
 use plcr_wire::FieldSlice;
 
@@ -47,8 +47,8 @@ fn pass(seen: &mut Seen, kind: Kind, bytes: &[u8], end: usize) -> Result<(), Dec
     let mut rest = bytes;
     while rest.len() > 0 {
         let step = step_of(kind, rest, end)?;
-        seen.note(step.piece.number);
-        rest = step.piece.rest;
+        seen.note(step.field.number);
+        rest = step.field.rest;
     }
     Ok(())
 }
@@ -57,15 +57,15 @@ fn pass(seen: &mut Seen, kind: Kind, bytes: &[u8], end: usize) -> Result<(), Dec
 #[inline(always)]
 #[cycle(checking)]
 fn take(marks: &mut Marks, kind: Kind, step: Step<'_>, end: usize) -> Result<(), DecodeFault>
-    requires within { value_slice_len step.piece.value ≤ end }
-    requires known { step.holds ≡ rule kind step.piece.number }
+    requires within { value_slice_len step.field.value ≤ end }
+    requires known { step.holds ≡ rule kind step.field.number }
     ensures exact { result ≡ spec.scan (step_view kind step.entry).kind end
         (step_view kind step.entry).text }
     ensures real { IfErr result (λ e. e ≢ DecodeFault.Memory) }
     ensures marks { IfOk result
-        (λ u. Takes kind (field_slice step.entry.piece).0 marks.old marks.new) }
+        (λ u. Takes kind (field_slice step.entry.field).0 marks.old marks.new) }
 {
-    marks.fields.note(step.piece.number);
+    marks.fields.note(step.field.number);
     match step.holds {
         None => Ok(()),
         Some(Holds::Number) => Ok(()),
@@ -74,8 +74,8 @@ fn take(marks: &mut Marks, kind: Kind, step: Step<'_>, end: usize) -> Result<(),
             take_message(
                 marks,
                 inner,
-                step.piece.number,
-                text_of(step.piece.value),
+                step.field.number,
+                value_bytes(step.field.value),
                 end,
             )
         }
@@ -143,8 +143,8 @@ fn pass_field<'a>(
     ensures marks { IfOk result (λ p. Takes kind (field_slice p).0 marks.old marks.new) }
 {
     let step = step_of(kind, bytes, end)?;
-    take(marks, kind, step, end - step.piece.rest.len())?;
-    Ok(step.piece)
+    take(marks, kind, step, end - step.field.rest.len())?;
+    Ok(step.field)
 }
 
 /// Checks a message that ends at `end`: what it lacks, where it has no fault in reading order.
@@ -161,8 +161,8 @@ fn check(kind: Kind, bytes: &[u8], end: usize) -> Result<Option<Lack>, DecodeFau
     let mut marks = Marks::none();
     let mut rest = bytes;
     while rest.len() > 0 {
-        let piece = pass_field(&mut marks, kind, rest, end)?;
-        rest = piece.rest;
+        let field = pass_field(&mut marks, kind, rest, end)?;
+        rest = field.rest;
     }
     Ok(marks.lack(kind))
 }
@@ -183,9 +183,9 @@ pub(crate) fn check_root<'a>(bytes: &'a [u8], end: usize) -> Result<Found<'a>, D
     let mut kept = keep_none();
     let mut rest = bytes;
     while rest.len() > 0 {
-        let piece = pass_field(&mut marks, Kind::Root, rest, end)?;
-        keep(&mut kept, piece);
-        rest = piece.rest;
+        let field = pass_field(&mut marks, Kind::Root, rest, end)?;
+        keep(&mut kept, field);
+        rest = field.rest;
     }
     match marks.lack(Kind::Root) {
         None => Ok(Found::gathered(bytes, kept)),

@@ -7,7 +7,7 @@ ghost use Rattle.plcr_decode.specs.inner.Views.{told};
 ghost use Rattle.plcr_decode.specs.Fields as spec;
 ghost use Rattle.plcr_decode.specs.inner.Views.{left, size};
 
-use crate::scanning::text_of;
+use crate::scanning::value_bytes;
 use plcr_wire::{FieldSlice, field_of};
 
 /// The fields that are left of a message: those of its present part, and those of the parts that
@@ -29,20 +29,20 @@ pub(crate) fn first(bytes: &[u8]) -> Option<FieldSlice<'_>>
         < length bytes.now) }
 {
     match field_of(bytes, bytes.len()) {
-        Ok(piece) => Some(piece),
+        Ok(field) => Some(field),
         Err(_) => None,
     }
 }
 
 /// What stands in a field, if it is of this number.
 #[inline(always)]
-fn part_of<'a>(piece: FieldSlice<'a>, number: u32) -> &'a [u8]
-    ensures part { result.now ≡ (if piece.entry.number == number
-        then value_bytes (value_slice piece.entry.value) else []) }
-    ensures within { length result.now ≤ value_slice_len piece.entry.value }
+fn part_of<'a>(field: FieldSlice<'a>, number: u32) -> &'a [u8]
+    ensures part { result.now ≡ (if field.entry.number == number
+        then value_bytes (value_slice field.entry.value) else []) }
+    ensures within { length result.now ≤ value_slice_len field.entry.value }
 {
-    if piece.number == number {
-        text_of(piece.value)
+    if field.number == number {
+        value_bytes(field.value)
     } else {
         &[]
     }
@@ -55,11 +55,11 @@ fn from_first(bytes: &[u8], number: u32) -> &[u8]
     ensures { joined number (fields_of result.now) ≡ joined number (fields_of bytes.now) }
 {
     let mut rest = bytes;
-    while let Some(piece) = first(rest) {
-        if piece.number == number {
+    while let Some(field) = first(rest) {
+        if field.number == number {
             return rest;
         }
-        rest = piece.rest;
+        rest = field.rest;
     }
     rest
 }
@@ -99,14 +99,14 @@ impl<'a> Fields<'a> {
     {
         loop {
             match first(self.part) {
-                Some(piece) => {
-                    self.part = piece.rest;
-                    return Some(piece);
+                Some(field) => {
+                    self.part = field.rest;
+                    return Some(field);
                 }
                 None => {
-                    let piece = first(self.outer)?;
-                    self.outer = piece.rest;
-                    self.part = part_of(piece, self.number);
+                    let field = first(self.outer)?;
+                    self.outer = field.rest;
+                    self.part = part_of(field, self.number);
                 }
             }
         }

@@ -6,7 +6,7 @@ ghost use Rattle.plcr_decode.specs.inner.Views.{left, told};
 ghost use Rattle.plcr_decode.specs.inner.Lasts.{nothing, under, again, shown, told_value, Keeps};
 
 use crate::fields::Fields;
-use crate::scanning::text_of;
+use crate::scanning::value_bytes;
 use plcr_wire::{FieldSlice, ValueSlice};
 use std::marker::Model;
 
@@ -68,15 +68,15 @@ pub(crate) fn keep_none<'a>() -> [Kept<'a>; NUMBERS]
 /// Keeps the value of a field under its number.
 #[inline(always)]
 #[tactic(auto, using(crate::proofs::Kept::kept_new, crate::proofs::Kept::kept_same))]
-pub(crate) fn keep<'a>(kept: &mut [Kept<'a>; NUMBERS], piece: FieldSlice<'a>)
+pub(crate) fn keep<'a>(kept: &mut [Kept<'a>; NUMBERS], field: FieldSlice<'a>)
     requires { (n : ℕ) → n < NUMBERS → (under kept.old n).count < 2 ^ 64 - 1 }
     ensures { (n : ℕ) → n < NUMBERS →
-        under kept.new n ≡ (if piece.entry.number == n
-        then again (under kept.old n) piece.entry.value else under kept.old n) }
+        under kept.new n ≡ (if field.entry.number == n
+        then again (under kept.old n) field.entry.value else under kept.old n) }
 {
-    let number = piece.number as usize;
+    let number = field.number as usize;
     if number < NUMBERS {
-        kept[number] = kept[number].followed_by(piece.value);
+        kept[number] = kept[number].followed_by(field.value);
     }
 }
 
@@ -109,8 +109,8 @@ impl<'a> Found<'a> {
     {
         let mut kept = keep_none();
         let mut left = fields;
-        while let Some(piece) = left.next() {
-            keep(&mut kept, piece);
+        while let Some(field) = left.next() {
+            keep(&mut kept, field);
         }
         Found { fields, kept }
     }
@@ -166,7 +166,7 @@ impl<'a> Found<'a> {
     {
         let kept = self.kept[number as usize];
         if kept.count == 1 {
-            Fields::of(text_of(kept.value))
+            Fields::of(value_bytes(kept.value))
         } else {
             Fields::joined(bytes, number)
         }
@@ -202,7 +202,7 @@ impl<'a> Found<'a> {
     {
         match self.last(number) {
             None => None,
-            Some(value) => Some(text_of(value)),
+            Some(value) => Some(value_bytes(value)),
         }
     }
 

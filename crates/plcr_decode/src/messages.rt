@@ -9,7 +9,7 @@ ghost use Rattle.plcr_decode.specs.inner.Views.{left};
 
 use crate::fields::{Fields, first};
 use crate::found::Found;
-use crate::scanning::text_of;
+use crate::scanning::value_bytes;
 use plcr_report::Rows;
 use plcr_wire::FieldSlice;
 use std::alloc::{AllocError, Global};
@@ -58,18 +58,18 @@ fn build_row<T: Row + Drop>(
     alloc: Global,
     rows: &mut Vec<T>,
     number: u32,
-    piece: FieldSlice<'_>,
+    field: FieldSlice<'_>,
 ) -> Result<(), AllocError>
-    requires { vec_len rows.old + length (messages_in number ((field_slice piece).0 ∷ []))
+    requires { vec_len rows.old + length (messages_in number ((field_slice field).0 ∷ []))
         ≤ vec_capacity rows.old }
     ensures rows { IfOk result (λ u. rows.new.items ≡ rows.old.items
-        ++ map T.value (messages_in number ((field_slice piece.entry).0 ∷ []))) }
+        ++ map T.value (messages_in number ((field_slice field.entry).0 ∷ []))) }
     ensures len { IfOk result (λ u. vec_len rows.new
-        ≡ vec_len rows.old + length (messages_in number ((field_slice piece.entry).0 ∷ []))) }
+        ≡ vec_len rows.old + length (messages_in number ((field_slice field.entry).0 ∷ []))) }
     ensures room { IfOk result (λ u. vec_capacity rows.new ≡ vec_capacity rows.old) }
 {
-    if piece.number == number {
-        let row = T::build(alloc, text_of(piece.value))?;
+    if field.number == number {
+        let row = T::build(alloc, value_bytes(field.value))?;
         rows.push_reserved(row);
     }
     Ok(())
@@ -94,10 +94,10 @@ fn build_each<A: Row + Drop, B: Row + Drop>(
     let mut ones = Vec::with_capacity(alloc, counts.0)?;
     let mut others = Vec::with_capacity(alloc, counts.1)?;
     let mut rest = bytes;
-    while let Some(piece) = first(rest) {
-        build_row::<A>(alloc, &mut ones, numbers.0, piece)?;
-        build_row::<B>(alloc, &mut others, numbers.1, piece)?;
-        rest = piece.rest;
+    while let Some(field) = first(rest) {
+        build_row::<A>(alloc, &mut ones, numbers.0, field)?;
+        build_row::<B>(alloc, &mut others, numbers.1, field)?;
+        rest = field.rest;
     }
     Ok((Rows::new(ones), Rows::new(others)))
 }

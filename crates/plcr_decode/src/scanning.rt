@@ -15,7 +15,7 @@ use plcr_wire::{FieldSlice, ValueSlice, field_of};
 /// A field, and what its message's table says that it holds; nothing where it isn't known.
 #[derive(Clone, Copy)]
 pub(crate) struct Step<'a> {
-    pub(crate) piece: FieldSlice<'a>,
+    pub(crate) field: FieldSlice<'a>,
     pub(crate) holds: Option<Holds>,
 }
 
@@ -34,7 +34,7 @@ fn fits(holds: Option<Holds>, value: ValueSlice<'_>) -> bool
 
 /// The bytes that may hold a message, none in a number.
 #[inline(always)]
-pub(crate) fn text_of(value: ValueSlice<'_>) -> &[u8]
+pub(crate) fn value_bytes(value: ValueSlice<'_>) -> &[u8]
     ensures bytes { result.now ≡ message.value_bytes (value_slice value.entry) }
     ensures within { length result.now ≤ value_slice_len value.entry }
 {
@@ -47,7 +47,7 @@ pub(crate) fn text_of(value: ValueSlice<'_>) -> &[u8]
 /// The field that these bytes, the last of a message that ends at `end`, begin with.
 #[inline(always)]
 #[tactic(auto, using(crate::proofs::Listed::fields_any))]
-fn piece_of(bytes: &[u8], end: usize) -> Result<FieldSlice<'_>, DecodeFault>
+fn field_at(bytes: &[u8], end: usize) -> Result<FieldSlice<'_>, DecodeFault>
     requires { length bytes.now ≤ end }
     ensures reads { Returns field_slice result (spec.lifted (field_at end bytes.now)) }
     ensures field { IfOk result (λ p. fields_of bytes.now ≡ (field_slice p).0
@@ -57,7 +57,7 @@ fn piece_of(bytes: &[u8], end: usize) -> Result<FieldSlice<'_>, DecodeFault>
     ensures real { IfErr result (λ e. e ≢ DecodeFault.Memory) }
 {
     match field_of(bytes, end) {
-        Ok(piece) => Ok(piece),
+        Ok(field) => Ok(field),
         Err(fault) => Err(fault_of(fault)),
     }
 }
@@ -68,20 +68,20 @@ fn piece_of(bytes: &[u8], end: usize) -> Result<FieldSlice<'_>, DecodeFault>
 pub(crate) fn step_of(kind: Kind, bytes: &[u8], end: usize) -> Result<Step<'_>, DecodeFault>
     requires { length bytes.now ≤ end }
     ensures reads { Returns (step_view kind) result (spec.step_at kind end bytes.now) }
-    ensures known { IfOk result (λ s. s.holds ≡ rule kind s.piece.number) }
-    ensures field { IfOk result (λ s. fields_of bytes.now ≡ (field_slice s.piece).0
-        ∷ fields_of s.piece.rest.now) }
-    ensures shorter { IfOk result (λ s. value_slice_len s.piece.value + length s.piece.rest.now
+    ensures known { IfOk result (λ s. s.holds ≡ rule kind s.field.number) }
+    ensures field { IfOk result (λ s. fields_of bytes.now ≡ (field_slice s.field).0
+        ∷ fields_of s.field.rest.now) }
+    ensures shorter { IfOk result (λ s. value_slice_len s.field.value + length s.field.rest.now
         < length bytes.now) }
     ensures real { IfErr result (λ e. e ≢ DecodeFault.Memory) }
 {
-    let piece = piece_of(bytes, end)?;
-    let holds = held(kind, piece.number);
-    if !fits(holds, piece.value) {
+    let field = field_at(bytes, end)?;
+    let holds = held(kind, field.number);
+    if !fits(holds, field.value) {
         return Err(DecodeFault::WrongWire {
-            field: piece.number,
+            field: field.number,
             at: end - bytes.len(),
         });
     }
-    Ok(Step { piece, holds })
+    Ok(Step { field, holds })
 }

@@ -11,7 +11,7 @@ use Rattle.plcr_decode.specs.declared.scanning.Step.{Step}
 
 -- what is read after a field's own bytes
 abbrev pub step_view : Kind → Step → spec.Step
-step_view kind s = spec.inside kind s.holds (value_slice s.piece.value) s.piece.rest.now
+step_view kind s = spec.inside kind s.holds (value_slice s.field.value) s.field.rest.now
 
 -- the fields that a cursor has left
 abbrev pub left : Fields → List Field

@@ -13,7 +13,7 @@ abbrev pub decreases-pass_field : goal.decreases-pass_field
 decreases-pass_field l = 4 * length l.bytes.now
 
 abbrev pub decreases-take : goal.decreases-take
-decreases-take l = 4 * value_slice_len l.step.piece.value + 3
+decreases-take l = 4 * value_slice_len l.step.field.value + 3
 
 abbrev pub decreases-take_message : goal.decreases-take_message
 decreases-take_message l = 4 * length l.text.now + 2

@@ -15,18 +15,18 @@ use Rattle.plcr_decode.proofs.checking.check_root.Goals as goal
 
 pub loop-rest-preserved : goal.loop-rest-preserved
 loop-rest-preserved c =
-    let piece = c.in_ok-piece.piece in
-    let passed = c.in_ok-piece.ensures in
+    let field = c.in_ok-field.field in
+    let passed = c.in_ok-field.ensures in
     let all = fields_of c.args.bytes.now in
-    let fs = fields_of piece.rest.now in
+    let fs = fields_of field.rest.now in
     let gs = fields_of c.loop-rest.rest.now in
-    let less : length piece.rest.now < length c.loop-rest.rest.now = passed.shorter in
+    let less : length field.rest.now < length c.loop-rest.rest.now = passed.shorter in
     record {
       short = omega arith;
       same = sym passed.more ∙ c.loop-rest.invariant.same;
-      marks = marks_more kinds.Root (field_slice piece).0 c.loop-rest.marks c.pass_field.new.marks all fs gs passed.field passed.marks c.loop-rest.invariant.marks;
-      keeps = keeps_more c.loop-rest.kept c.keep.new.kept piece.value (field_slice piece).0 all fs gs refl c.keep.ensures passed.field c.loop-rest.invariant.keeps;
-      few = few_more c.loop-rest.kept c.keep.new.kept piece.value piece.number _ _ c.keep.ensures (omega arith) c.loop-rest.invariant.few;
+      marks = marks_more kinds.Root (field_slice field).0 c.loop-rest.marks c.pass_field.new.marks all fs gs passed.field passed.marks c.loop-rest.invariant.marks;
+      keeps = keeps_more c.loop-rest.kept c.keep.new.kept field.value (field_slice field).0 all fs gs refl c.keep.ensures passed.field c.loop-rest.invariant.keeps;
+      few = few_more c.loop-rest.kept c.keep.new.kept field.value field.number _ _ c.keep.ensures (omega arith) c.loop-rest.invariant.few;
     }
 
 pub gathered-requires : goal.gathered-requires

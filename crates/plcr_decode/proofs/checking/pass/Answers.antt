@@ -26,10 +26,10 @@ loop-rest-preserved c =
           let less = c.in_ok-step.ensures.shorter in
           omega arith;
       same =
-          sym (leaf_more c.args.kind c.args.end c.loop-rest.rest.now step.holds step.piece.number (value_slice step.piece.value) step.piece.rest.now
+          sym (leaf_more c.args.kind c.args.end c.loop-rest.rest.now step.holds step.field.number (value_slice step.field.value) step.field.rest.now
           c.requires.joined some c.in_ok-step.ensures.known c.in_ok-step.ensures.reads) ∙ c.loop-rest.invariant.same;
       sees = λ m less.
-          sees_next c.loop-rest.seen c.note.new.self (field_slice step.piece).0 m (fields_of step.piece.rest.now) (c.note.ensures m less)
+          sees_next c.loop-rest.seen c.note.new.self (field_slice step.field).0 m (fields_of step.field.rest.now) (c.note.ensures m less)
           ∙ ap (λ gs. cond (seen c.loop-rest.seen m) true (has m gs)) (sym c.in_ok-step.ensures.field) ∙ c.loop-rest.invariant.sees m less;
     }
 

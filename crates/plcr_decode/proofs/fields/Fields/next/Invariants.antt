@@ -3,11 +3,11 @@ use Rattle.std.proofs.Common.{◌≡◌, ◌≤◌, length}
 use Rattle.plcr_decode.specs.inner.Views.{left, size}
 use Rattle.plcr_decode.proofs.fields.Fields.next.Given as goal
 
-abbrev pub invariant-loop-piece : goal.invariant-loop-piece
-invariant-loop-piece l = record {
+abbrev pub invariant-loop-field : goal.invariant-loop-field
+invariant-loop-field l = record {
   same : left l.self ≡ left l.fn.self;
   short : size l.self ≤ size l.fn.self;
 }
 
-abbrev pub decreases-loop-piece : goal.decreases-loop-piece
-decreases-loop-piece l = length l.self.outer.now
+abbrev pub decreases-loop-field : goal.decreases-loop-field
+decreases-loop-field l = length l.self.outer.now

@@ -5,12 +5,12 @@ use Rattle.plcr_decode.specs.inner.Lasts.{KeepsUpTo}
 use Rattle.plcr_decode.proofs.Kept.{Few}
 use Rattle.plcr_decode.proofs.found.Found.of.Given as goal
 
-abbrev pub invariant-loop-piece : goal.invariant-loop-piece
-invariant-loop-piece l = record {
+abbrev pub invariant-loop-field : goal.invariant-loop-field
+invariant-loop-field l = record {
   keeps : KeepsUpTo l.kept (left l.fn.fields) (left l.left);
   few : Few l.kept (size l.fn.fields - size l.left);
   short : size l.left ≤ size l.fn.fields;
 }
 
-abbrev pub decreases-loop-piece : goal.decreases-loop-piece
-decreases-loop-piece l = size l.left
+abbrev pub decreases-loop-field : goal.decreases-loop-field
+decreases-loop-field l = size l.left
