@@ -8,7 +8,6 @@ pub mod Holds
 pub mod Opening
 pub mod Tellings
 pub mod Walk
-pub mod SameWalk
 pub mod Lending
 pub mod Carrying
 pub mod Listing

@@ -99,7 +99,7 @@ impl Images for Walk<'_> {
     ghost use Rattle.std.proofs.Common.{refl, ◌∙◌};
     ghost use Rattle.plcr_imagelist.specs.Walk.{images_of, IsSameWalk};
     ghost use Rattle.plcr_imagelist.specs.Lending.{lent_hold, walked_extents, walked_list};
-    ghost use Rattle.plcr_imagelist.specs.SameWalk.{walk_itself, walk_again};
+    ghost use Rattle.plcr_imagelist.specs.inner.SameWalk.{walk_itself, walk_again};
 
     ghost images = { λ w. images_of (lent_hold w).now };
 

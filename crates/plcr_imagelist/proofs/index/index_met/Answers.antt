@@ -7,7 +7,7 @@ use Rattle.plcr_macho.specs.Spots.{extents_of}
 use Rattle.plcr_macho.proofs.Indexing.{front_more, front_end}
 use Rattle.plcr_nodes.specs.Tokens.{PassState}
 use Rattle.plcr_imagelist.specs.inner.Indexing.{met_on, hold_of}
-use Rattle.plcr_imagelist.specs.SameWalk.{walk_itself, walk_again}
+use Rattle.plcr_imagelist.specs.inner.SameWalk.{walk_itself, walk_again}
 use Rattle.plcr_imagelist.proofs.Meeting.{length-images_on}
 use Rattle.plcr_imagelist.proofs.Reread.{readable, length-named, holding_read, same_read, header_read}
 use Rattle.plcr_imagelist.proofs.index.index_met.Goals as goal
