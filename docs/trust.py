@@ -143,9 +143,9 @@ def reading_order(groups):
 
 def page():
     out = ["# What has to be believed", "",
-           "For each promise of the program: the definitions that its contract stands on, file by file, each file behind",
-           "those that it uses, with their lines. Made by `docs/trust.py` from the sources; `docs/trust.py --check` fails",
-           "where this page is stale. Beside these lines the toolchain and its library are believed.", ""]
+           "For each promise of the program: the definitions that its contract stands on, file by file, each file",
+           "behind those that it uses, with their lines. Made from the sources by `docs/trust.py`, which with `--check`",
+           "fails where this page is stale. Beside these lines the toolchain and its library are believed.", ""]
     for title, crate, source, function in PROMISES:
         imports, text = clauses_of(crate, source, function)
         seen, order = set(), []
