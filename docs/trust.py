@@ -1,5 +1,6 @@
 #!/usr/bin/env python3
-"""docs/TRUST.md: for each public promise the definitions that a reader has to believe, in reading order.
+"""docs/TRUST.md: for each public promise the definitions that a reader has to believe, in reading order: each file
+stands behind those that it uses.
 
 trust.py          writes the page
 trust.py --check  fails where the page isn't what the sources give
@@ -120,11 +121,31 @@ def clauses_of(crate, source, function):
     return imports_of(text.replace("ghost ", "")), "\n".join(clauses)
 
 
+def reading_order(groups):
+    """The files of these definitions, each behind those that it uses."""
+    begun, order = set(), []
+
+    def place(name):
+        begun.add(name)
+        module = module_of(name)
+        for definition in groups[name]:
+            for word in sorted(words_of(module.blocks.get(definition, ""))):
+                used = module.imports.get(word)
+                if used in groups and used not in begun:
+                    place(used)
+        order.append(name)
+
+    for name in groups:
+        if name not in begun:
+            place(name)
+    return order
+
+
 def page():
     out = ["# What has to be believed", "",
-           "For each promise of the program: the definitions that its contract stands on, each behind those that it",
-           "uses, with their lines. Made by `docs/trust.py` from the sources; `docs/trust.py --check` fails where this",
-           "page is stale. Beside these lines the toolchain and its library are believed.", ""]
+           "For each promise of the program: the definitions that its contract stands on, file by file, each file",
+           "behind those that it uses, with their lines. Made from the sources by `docs/trust.py`, which with `--check`",
+           "fails where this page is stale. Beside these lines the toolchain and its library are believed.", ""]
     for title, crate, source, function in PROMISES:
         imports, text = clauses_of(crate, source, function)
         seen, order = set(), []
@@ -139,9 +160,9 @@ def page():
         types = sorted({(m.split(".")[0], n) for m, n, _ in order if ".specs.declared." in m and n[:1].isupper()})
         out += [f"## {title}: `{crate}::{function}`", "",
                 f"{lines} lines of definitions in {len(groups)} files.", ""]
-        for module, names in groups.items():
+        for module in reading_order(groups):
             path = "crates/" + module.replace(".specs.", "/specs/", 1).replace(".", "/") + ".antt"
-            out.append(f"- [{path}](../{path}): " + ", ".join(f"`{n.replace('◌', '')}`" for n in names))
+            out.append(f"- [{path}](../{path}): " + ", ".join(f"`{n.replace('◌', '')}`" for n in groups[module]))
         if types:
             out += ["", "Types of the sources: " + ", ".join(f"`{c}::{n}`" for c, n in types) + "."]
         out.append("")
