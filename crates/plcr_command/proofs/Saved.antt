@@ -91,7 +91,7 @@ unsaved name bytes fresh written before faults told mid end (Err f) (Err u) made
   outcome = inr (
     gained_one told.made end.made name (settles.made ∙ made),
     front_given_up bytes fresh written told.dropped end.dropped empty cut
-      (settles.listed ∙ ap (λ d. add_told d written) dropped),
+        (settles.listed ∙ ap (λ d. add_told d written) dropped),
   );
   kept = gained_none told.kept end.kept (settles.kept ∙ kept);
   cause = rose_second told.out_faults mid.out_faults end.out_faults later (settles.faulty (risen before faults cause));
