@@ -131,11 +131,11 @@ fn files_of_the_system(rt: HostRuntime) -> Result<(), Fail> {
         }
     }
 
-    // What it gathers stands in the file once it is kept.
+    // What is put stands in the part file at once, and under the name once it is kept.
     let mut out = desk.make("report")?;
     put_all(&mut out, b"te")?;
     put_all(&mut out, b"xt")?;
-    assert_eq!(rt; fs::read_to_string(&rt, "report.part")?.as_str(), "");
+    assert_eq!(rt; fs::read_to_string(&rt, "report.part")?.as_str(), "text");
     desk.keep("report", out)?;
     assert_eq!(rt; fs::read_to_string(&rt, "report")?.as_str(), "text");
 

@@ -1,10 +1,9 @@
 -- Each statement of a script that was read stands on a line of its own: the numbers of the lines rise.
 use Rattle.std.proofs.Common.{◌≡◌, ℕ, zero, suc, ◌+◌, ◌≤◌, Bool, true, false, cond, List, [], ◌∷◌, ◌++◌, length, slice_get, Option, Some, None, Result, Ok, Err, sym, ap, subst, ◌∙◌, add-one, arith}
-use Rattle.std.specs.Prelude.{All, filter_map, option_map}
+use Rattle.std.specs.Prelude.{All, filter_map, option_map, unwrap_or}
 use Rattle.std.specs.List.{cons_option}
 use Rattle.std.specs.Result.{result_ok}
 use Rattle.std.proofs.lemmas.List.Elements.{All-nil, All-cons, All-append}
-use Rattle.std.proofs.lemmas.Option.{same_Some}
 use Rattle.plcr_base.proofs.Chained.{bind_ok}
 use Rattle.plcr_machine.proofs.Cases.{at_or_else, eqb_same}
 use Rattle.plcr_script.specs.declared.modes.Mode.{Mode}
@@ -32,6 +31,9 @@ rises_from : (n m : ℕ) (statements : List NumberedStatement) → n ≤ m → R
 rises_from n m [] less h = tt
 rises_from n m (s ∷ statements) less h = ((let l = h.0 in omega (arith, less, l)), h.1)
 
+some_same : {a b : NumberedStatement} → Some a ≡ Some b → a ≡ b
+some_same {a} {b} e = ap (λ (o : Option NumberedStatement). unwrap_or o a) e
+
 record OnOwn (n : ℕ) (statements : List NumberedStatement) (s : NumberedStatement) : Type 0 where
   from : n ≤ s.line
   stands : statement_on s.line statements ≡ Some s.statement
@@ -39,7 +41,7 @@ record OnOwn (n : ℕ) (statements : List NumberedStatement) (s : NumberedStatem
 on_own : (n : ℕ) (statements : List NumberedStatement) (at : ℕ) (s : NumberedStatement) → Rises n statements → slice_get statements at ≡ Some s → OnOwn n statements s
 on_own n [] at s rises is = absurd cc
 on_own n (x ∷ statements) zero s rises is =
-    let same : x ≡ s = same_Some _ _ is in
+    let same : x ≡ s = some_same is in
     subst (λ (y : NumberedStatement). OnOwn n (x ∷ statements) y) same
     (record { from = rises.0; stands = ap (λ (b : Bool). cond b (Some x.statement) (statement_on x.line statements)) (eqb_same x.line) })
 on_own n (x ∷ statements) (suc at) s rises is =

@@ -2,7 +2,7 @@
 use Rattle.std.proofs.Common.{◌≡◌, ℕ, zero, suc, ◌+◌, ◌-◌, ◌<◌, List, [], ◌∷◌, ◌++◌, length, map, reverse, get_or, Some, refl, sym, ap, ◌∙◌, subst, append_assoc, append-nil, length-append, arith}
 use Rattle.std.specs.Prelude.{All, Vec}
 use Rattle.std.specs.declared.alloc.Global.{Global}
-use Rattle.std.proofs.lemmas.List.{get_or_append_left, get_or-reverse, length-reverse, reverse-append, reverse-reverse, map-append, get_or_push}
+use Rattle.std.proofs.lemmas.List.{get_or_append_left, get_or-reverse, length-reverse, reverse-append, reverse-reverse, map-append}
 use Rattle.atomic_table.specs.Seated.{TableId}
 use Rattle.crossbeam_queue.specs.Passes.{view}
 use Rattle.plcr_imagelist.specs.Holds.{WalkerState}
@@ -18,6 +18,11 @@ use Rattle.plcr_workers.specs.declared.worker.Worker.{Worker}
 use Rattle.plcr_workers.specs.inner.Outputs.{in_order, outputs_of}
 use Rattle.plcr_workers.specs.inner.Hired.{AreNumbered, AreInOrder, AreFromTheLast, IsGone, views_of, lines_left, passes_left}
 
+-- the element behind a front
+pub at_end : {A : Type 0} (xs : List A) (x d : A) → get_or (xs ++ x ∷ []) (length xs) d ≡ x
+at_end [] x d = refl
+at_end (y ∷ xs) x d = at_end xs x d
+
 -- what holds at each place of a front, and of the element behind it, holds at each place of both
 pub each_more : {A : Type 0} (P : ℕ → A → Type 0) (xs : List A) (x : A) → ((k : ℕ) (d : A) → k < length xs → P k (get_or xs k d)) → P (length xs) x → (k : ℕ) (d : A) → k < length (xs ++ x ∷ []) → P k (get_or (xs ++ x ∷ []) k d)
 each_more P [] x each here zero d less = here
@@ -30,7 +35,7 @@ pub each_front : {A : Type 0} (P : ℕ → A → Type 0) (xs ys : List A) → ((
 each_front P xs ys each k d less = subst (P k) (get_or_append_left xs ys d k less) (each k d (let n = length-append xs ys in omega (arith, less)))
 
 pub each_last : {A : Type 0} (P : ℕ → A → Type 0) (xs : List A) (x : A) → ((k : ℕ) (d : A) → k < length (xs ++ x ∷ []) → P k (get_or (xs ++ x ∷ []) k d)) → P (length xs) x
-each_last P xs x each = subst (P (length xs)) (get_or_push xs x x (length xs) refl) (each (length xs) x (let n = length-append xs (x ∷ []) in omega arith))
+each_last P xs x each = subst (P (length xs)) (at_end xs x x) (each (length xs) x (let n = length-append xs (x ∷ []) in omega arith))
 
 pub all_reversed : {A : Type 0} (P : A → Type 0) (xs : List A) → All P xs → All P (reverse xs)
 all_reversed P xs all k d less =
@@ -47,7 +52,7 @@ turned_round count list images many each place other less =
     (ap (λ (i : WalkerState). i.table) same ∙ was.0, (let n = ap (λ (i : WalkerState). i.number) same ∙ was.1 in omega (arith, less, long, many, n)))
 
 -- one output list more
-pub in_order_more : {K : Type 0} (all : List (Vec (Draft K) Global)) (drafts : Vec (Draft K) Global) → in_order (all ++ drafts ∷ []) ≡ reverse drafts.items ++ in_order all
+in_order_more : {K : Type 0} (all : List (Vec (Draft K) Global)) (drafts : Vec (Draft K) Global) → in_order (all ++ drafts ∷ []) ≡ reverse drafts.items ++ in_order all
 in_order_more [] drafts = sym (append-nil (reverse drafts.items))
 in_order_more (first ∷ all) drafts = ap (λ l. l ++ reverse first.items) (in_order_more all drafts) ∙ append_assoc (reverse drafts.items) (in_order all) (reverse first.items)
 

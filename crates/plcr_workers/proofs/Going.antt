@@ -1,5 +1,5 @@
 -- How far a worker's script has come, as its statements are taken.
-use Rattle.std.proofs.Common.{◌≡◌, ℕ, ◌+◌, ◌≤◌, List, [], ◌∷◌, ◌++◌, length, take, drop, slice_get, Option, Some, None, refl, sym, ap, ◌∙◌, subst, length-append, append-nil, arith}
+use Rattle.std.proofs.Common.{◌≡◌, ℕ, zero, suc, ◌+◌, ◌≤◌, List, [], ◌∷◌, ◌++◌, length, take, drop, slice_get, Option, Some, None, refl, sym, ap, ◌∙◌, subst, length-append, append-nil, arith}
 use Rattle.std.specs.Prelude.{filter_map, option_map, IfSome}
 use Rattle.std.proofs.lemmas.List.{take_more, length-map, take-append-drop}
 use Rattle.std.proofs.lemmas.List.Elements.{filter_map-append}
@@ -118,3 +118,13 @@ counted_next statements at statement e =
     let long = ap length (lines_next statements at there.0 statement there.1) ∙ length-append (change_lines (take at statements)) (own_lines there.0 (asked_in statement)) in
     let own = own_count there.0 (asked_in statement) in
     omega arith
+
+pub take_whole : {A : Type 0} (xs : List A) → take (length xs) xs ≡ xs
+take_whole [] = refl
+take_whole (x ∷ xs) = ap (λ l. x ∷ l) (take_whole xs)
+
+pub take_past : {A : Type 0} (n : ℕ) (xs : List A) → length xs ≤ n → take n xs ≡ xs
+take_past zero [] less = refl
+take_past (suc n) [] less = refl
+take_past zero (x ∷ xs) less = absurd (omega (arith, less))
+take_past (suc n) (x ∷ xs) less = ap (λ l. x ∷ l) (take_past n xs (omega (arith, less)))

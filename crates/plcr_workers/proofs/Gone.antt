@@ -1,7 +1,6 @@
 -- Workers that took all statements of their scripts, by what they were before.
 use Rattle.std.proofs.Common.{◌≡◌, ℕ, suc, ◌<◌, List, [], ◌∷◌, length, get_or, slice_get, All, Option, Some, sym, ap, ◌∙◌, subst, arith}
 use Rattle.std.proofs.lemmas.List.Elements.{All-tail}
-use Rattle.std.proofs.lemmas.Option.{same_Some}
 use Rattle.atomic_table.specs.Seated.{TableId}
 use Rattle.crossbeam_queue.specs.Passes.{view}
 use Rattle.plcr_base.specs.Told.{IfTold}
@@ -17,6 +16,7 @@ use Rattle.plcr_workers.specs.inner.Drafts.{HasTaken, HaveTaken}
 use Rattle.plcr_workers.specs.inner.Hired.{AreNew, IsReadyToRun}
 use Rattle.plcr_workers.specs.inner.Outputs.{AreEmpty, AreSameWorkers, HaveEmpty}
 use Rattle.plcr_workers.specs.inner.Traces.{ActsWholeOf, HaveActed, HaveBytes, HaveGained, IsActed, Ran}
+use Rattle.plcr_workers.proofs.Hires.{some_value}
 use Rattle.plcr_workers.proofs.Lawful.{told_bytes}
 use Rattle.plcr_workers.proofs.Tracing.{ran_count}
 
@@ -40,13 +40,13 @@ acted_one {K} written faults report queue list scripts old new journal untouched
   gone = λ all.
       let a = acts.acts all in
       let image = ready.ready.image in
-      let same : ready.script ≡ acts.script = same_Some _ _ (sym ready.stands ∙ acts.stands) in
+      let same : ready.script ≡ acts.script = some_value (sym ready.stands ∙ acts.stands) in
       let count = ran_count report old.script 0 acts.script.statements (Out a.first) (view old.turns) new.lines.items a.wrote a.place (view new.turns) a.ran in
       let many = taken.places.count in
       let outputs = ready.outputs.count ∙ ap (λ (s : ScriptValue). length (files_of s.statements)) same in
       record {
         first = a.first;
-        number = ap (λ (i : WalkerState). i.number) (same_Some _ _ (sym a.was ∙ image.held)) ∙ image.number ∙ sym taken.number;
+        number = ap (λ (i : WalkerState). i.number) (some_value (sym a.was ∙ image.held)) ∙ image.number ∙ sym taken.number;
         none = untouched a.first a.was;
         start = view old.turns;
         empty = journal;

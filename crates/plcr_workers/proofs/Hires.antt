@@ -1,5 +1,5 @@
 -- A worker that was just hired has its whole script before it.
-use Rattle.std.proofs.Common.{◌≡◌, ℕ, zero, suc, List, [], ◌∷◌, length, map, slice_get, Some, sym, ap, ◌∙◌}
+use Rattle.std.proofs.Common.{◌≡◌, ℕ, zero, suc, List, [], ◌∷◌, length, map, slice_get, Option, Some, unwrap_or, sym, ap, ◌∙◌}
 use Rattle.atomic_table.specs.Seated.{TableId}
 use Rattle.plcr_script.specs.Scripts.{ScriptValue}
 use Rattle.plcr_turns.specs.declared.lines.ChangeLine.{ChangeLine}
@@ -23,3 +23,6 @@ fresh_so_far scripts n list v s total stands at fresh = record {
   lines = ap (λ (journal : List ChangeLine). wanted_by (lines_of n journal)) fresh.journal;
   total = ap total_of fresh.shares ∙ mapped_at (λ (script : ScriptValue). length (change_lines script.statements)) scripts n s total stands at;
 }
+
+pub some_value : {A : Type 0} {a b : A} → Some a ≡ Some b → a ≡ b
+some_value {A} {a} {b} e = ap (λ (o : Option A). unwrap_or o a) e

@@ -1,10 +1,10 @@
 -- What all workers know, once they were taken in: of each script the first lines were applied, each once, and each line of
 -- the journal is known.
-use Rattle.std.proofs.Common.{◌≡◌, ℕ, zero, suc, ◌-◌, ◌<◌, List, [], ◌∷◌, ◌++◌, length, map, take, drop, reverse, get_or, slice_get, All, Option, Some, None, refl, sym, ap, ◌∙◌, subst, arith}
+use Rattle.std.proofs.Common.{◌≡◌, ℕ, zero, suc, ◌-◌, ◌<◌, List, [], ◌∷◌, ◌++◌, length, map, take, drop, reverse, get_or, slice_get, All, Option, Some, None, unwrap_or, refl, sym, ap, ◌∙◌, subst, arith}
 use Rattle.std.specs.Prelude.{option_and_then}
 use Rattle.std.proofs.lemmas.List.{get_or-reverse, length-reverse, take-append-drop}
 use Rattle.std.proofs.lemmas.List.Elements.{All-tail, filter_map-append}
-use Rattle.std.proofs.lemmas.Option.{slice_get_within, same_Some}
+use Rattle.std.proofs.lemmas.Option.{slice_get_within}
 use Rattle.atomic_table.specs.Seated.{TableId}
 use Rattle.crossbeam_queue.specs.Passes.{view}
 use Rattle.plcr_machine.proofs.Cases.{at_or_else}
@@ -38,6 +38,9 @@ element [] n less = absurd (omega (arith, less))
 element (x ∷ xs) zero less = (x, refl, refl)
 element (x ∷ xs) (suc n) less = element xs n (omega (arith, less))
 
+pub some_same : {A : Type 0} {a b : A} → Some a ≡ Some b → a ≡ b
+some_same {A} {a} {b} e = ap (λ (o : Option A). unwrap_or o a) e
+
 known_line : (process : Meanings) (scripts : List ScriptValue) (script : ScriptValue) (names : List (List ℕ)) (line : ChangeLine) → slice_get scripts line.script ≡ Some script → IsOwnLine process script.statements names line → IsKnownLine process scripts names line
 known_line process scripts script names line at own = record {
   statement = own.statement;
@@ -63,9 +66,9 @@ known_from process scripts names (l ∷ lines) few own =
           (λ f. subst (AreOwn process sc.statements names) (lines_more s (l ∷ []) lines ∙ ap (λ m. m ++ lines_of s lines) (line_else s l f)) (own s sc at))),
     )
 
-pub views_at : {K : Type 0} (workers : List (Worker K)) (n : ℕ) (w : Worker K) → slice_get workers n ≡ Some w → slice_get (views_of workers) n ≡ Some (view w.turns)
+views_at : {K : Type 0} (workers : List (Worker K)) (n : ℕ) (w : Worker K) → slice_get workers n ≡ Some w → slice_get (views_of workers) n ≡ Some (view w.turns)
 views_at [] n w at = absurd cc
-views_at (x ∷ workers) zero w at = ap (λ (y : Worker _). Some (view y.turns)) (same_Some _ _ at)
+views_at (x ∷ workers) zero w at = ap (λ (y : Worker _). Some (view y.turns)) (some_same at)
 views_at (x ∷ workers) (suc n) w at = views_at workers n w at
 
 passes_count : {K : Type 0} (workers : List (Worker K)) → length (passes_left workers) ≡ length workers
@@ -74,7 +77,7 @@ passes_count (w ∷ workers) = ap suc (passes_count workers)
 
 passes_at : {K : Type 0} (workers : List (Worker K)) (n : ℕ) (w : Worker K) (d : Option WalkerState) → slice_get workers n ≡ Some w → get_or (passes_left workers) n d ≡ w.image
 passes_at [] n w d at = absurd cc
-passes_at (x ∷ workers) zero w d at = ap (λ (y : Worker _). y.image) (same_Some _ _ at)
+passes_at (x ∷ workers) zero w d at = ap (λ (y : Worker _). y.image) (some_same at)
 passes_at (x ∷ workers) (suc n) w d at = passes_at workers n w d at
 
 -- what holds of a pass that is there
@@ -126,7 +129,7 @@ own_of process queue list scripts workers chief t names a n script at =
     let w = element workers n (omega (arith, less, many)) in
     let knows = subst (λ (x : Worker _). KnowsOwnOf process scripts x) w.1 (a.own n w.0 (omega (arith, less, many))) in
     let number : w.0.script ≡ n = ap (λ (x : Worker _). x.script) (sym w.1) ∙ a.numbers n w.0 (omega (arith, less, many)) in
-    let same : knows.script ≡ script = same_Some _ _ (sym knows.stands ∙ ap (slice_get scripts) number ∙ at) in
+    let same : knows.script ≡ script = some_same (sym knows.stands ∙ ap (slice_get scripts) number ∙ at) in
     let seen = lines_seen process queue list scripts workers chief t names a n w.0 w.2 in
     let own = own_later process knows.script.statements knows.knows.image.names names (lines_of w.0.script (view w.0.turns).journal) (a.met n w.0 knows.knows.image w.2 knows.knows.held) knows.knows.own in
     subst (λ (l : List ChangeLine). AreOwn process script.statements names l) (ap (λ k. lines_of k (view w.0.turns).journal) number ∙ sym seen)
@@ -153,7 +156,7 @@ first_applied process queue list scripts workers chief t names a n script at =
     let w = element workers n (omega (arith, less, many)) in
     let gone = subst (λ (x : Worker _). IsGone queue list scripts x) w.1 (a.gone n w.0 (omega (arith, less, many))) in
     let number : w.0.script ≡ n = ap (λ (x : Worker _). x.script) (sym w.1) ∙ a.numbers n w.0 (omega (arith, less, many)) in
-    let same : gone.script ≡ script = same_Some _ _ (sym gone.stands ∙ ap (slice_get scripts) number ∙ at) in
+    let same : gone.script ≡ script = some_same (sym gone.stands ∙ ap (slice_get scripts) number ∙ at) in
     let seen = lines_seen process queue list scripts workers chief t names a n w.0 w.2 in (
       length (change_lines (take gone.count script.statements)),
       ap wanted_by (seen ∙ ap (λ k. lines_of k (view w.0.turns).journal) (sym number)) ∙ gone.so_far.lines ∙ ap (λ (s : ScriptValue). change_lines (take gone.count s.statements)) same ∙ first_lines gone.count script.statements,
@@ -162,7 +165,7 @@ first_applied process queue list scripts workers chief t names a n script at =
 -- what holds of all outputs holds of those of each worker
 pub outputs_each : {K : Type 0} (P : Draft K → Type 0) (workers : List (Worker K)) → All P (outputs_of workers) → (k : ℕ) (w : Worker K) → slice_get workers k ≡ Some w → All P w.drafts.items
 outputs_each P [] all k w at = absurd cc
-outputs_each P (x ∷ workers) all zero w at = subst (λ (y : Worker _). All P y.drafts.items) (same_Some _ _ at) (all_front P x.drafts.items (outputs_of workers) all)
+outputs_each P (x ∷ workers) all zero w at = subst (λ (y : Worker _). All P y.drafts.items) (some_same at) (all_front P x.drafts.items (outputs_of workers) all)
 outputs_each P (x ∷ workers) all (suc k) w at = outputs_each P workers (behind x.drafts.items all) k w at
   where
     behind : (ds : List (Draft _)) → All P (ds ++ outputs_of workers) → All P (outputs_of workers)
@@ -179,6 +182,6 @@ whole_applied process queue list scripts workers chief t names a wholes written 
     let w = element workers n (omega (arith, less, many)) in
     let gone = subst (λ (x : Worker _). IsWholeOf scripts x) w.1 (wholes n w.0 (omega (arith, less, many))) in
     let number : w.0.script ≡ n = ap (λ (x : Worker _). x.script) (sym w.1) ∙ a.numbers n w.0 (omega (arith, less, many)) in
-    let same : gone.script ≡ script = same_Some _ _ (sym gone.stands ∙ ap (slice_get scripts) number ∙ at) in
+    let same : gone.script ≡ script = some_same (sym gone.stands ∙ ap (slice_get scripts) number ∙ at) in
     let seen = lines_seen process queue list scripts workers chief t names a n w.0 w.2 in
     ap wanted_by (seen ∙ ap (λ k. lines_of k (view w.0.turns).journal) (sym number)) ∙ gone.whole (written n w.0 w.2) ∙ ap (λ (s : ScriptValue). change_lines s.statements) same

@@ -1,11 +1,11 @@
 -- Outputs that are made, script by script and report by report.
 use Rattle.std.proofs.Common.{⊎_elim, ◌≡◌, ℕ, zero, suc, ◌+◌, ◌<◌, ◌≤◌, List, [], ◌∷◌, ◌++◌, length, take, set, get_or, slice_get, Option, Some, None, Result, Ok, Err, refl, sym, ap, subst, ◌∙◌, append-nil, append_assoc, length-append, length-set, get_or-set_same, get_or-set_other, take_all, arith}
-use Rattle.std.specs.Prelude.{All, OnOk, OnErr, IfErr, filter_map, option_map, option_and_then}
+use Rattle.std.specs.Prelude.{All, OnOk, OnErr, IfErr, filter_map, option_map, option_and_then, unwrap_or}
 use Rattle.std.proofs.lemmas.Bool.{cases_eq}
 use Rattle.std.proofs.lemmas.List.{map-append, length-map, take_more, get_or_default}
 use Rattle.std.proofs.lemmas.List.Concat.{flat_map-append}
 use Rattle.std.proofs.lemmas.List.Elements.{All-nil, All-cons, All-head, All-tail, All-append, All-weaker, filter_map-append}
-use Rattle.std.proofs.lemmas.Option.{slice_get_within, get_or_from_slice_get, slice_get-get_or, same_Some}
+use Rattle.std.proofs.lemmas.Option.{slice_get_within, get_or_from_slice_get, slice_get-get_or}
 use Rattle.plcr_base.specs.Causes.{Rose}
 use Rattle.plcr_base.specs.Told.{Gains, IfTold, add}
 use Rattle.plcr_base.proofs.Gained.{gains_none, gains_twice}
@@ -274,6 +274,9 @@ module _ {K : Type 0} (faults : K → ℕ) (scripts : List ScriptValue) where
       All-weaker (IsOf k count) (IsDraftOf scripts)
       (λ d one. record { value = script; stands = ap (slice_get scripts) one.0 ∙ stands; within = let less = one.1 in omega (arith, less, few) }) drafts all
 
+some_script : {s t : ScriptValue} → Some s ≡ Some t → s ≡ t
+some_script {s} {t} e = ap (λ (o : Option ScriptValue). unwrap_or o s) e
+
 -- the workers of the first scripts have their outputs, the others are as they were
 pub record MakingAll {K : Type 0} (faults : K → ℕ) (scripts : List ScriptValue) (count : ℕ) (olds news : List (Worker K)) (old now : Told) : Type 0 where
   pub made : HasMade (written_by (take count scripts)) old now
@@ -333,7 +336,7 @@ module _ {K : Type 0} (faults : K → ℕ) (scripts : List ScriptValue) (olds : 
           are = subst (All (IsDraftOf scripts)) (sym outputs) (All-append (IsDraftOf scripts) (outputs_of news) w.drafts.items m.are (drafts_are faults scripts count script (length script.statements) w.drafts.items stands (omega arith) made.0.each));
           each = λ k other s at less below. ⊎_elim
               (λ (e : k ≡ count).
-              let is : s ≡ script = same_Some _ _ (sym at ∙ ap (slice_get scripts) e ∙ stands) in
+              let is : s ≡ script = some_script (sym at ∙ ap (slice_get scripts) e ∙ stands) in
               subst (λ (x : Worker K). AreMade faults k s.statements (length s.statements) x.drafts.items) (sym (ap (λ (n : ℕ). get_or (set news count w) n other) e ∙ here other))
               (subst (λ (t : ScriptValue). AreMade faults k t.statements (length t.statements) w.drafts.items) (sym is) (subst (λ (n : ℕ). AreMade faults n script.statements (length script.statements) w.drafts.items) (sym e) made.0)))
               (λ (d : k ≡ count → ⊥). subst (λ (x : Worker K). AreMade faults k s.statements (length s.statements) x.drafts.items) (sym (others k other d)) (m.each k other s at (let e = set_count in omega (arith, e, less)) (omega (arith, below, (λ (e : k ≡ count). d e)))))

@@ -1,7 +1,6 @@
 -- The lines of a journal are the outcomes of a run.
-use Rattle.std.proofs.Common.{◌≡◌, ℕ, zero, suc, ◌+◌, ◌*◌, ◌≤◌, Bool, true, false, List, [], ◌∷◌, ◌++◌, length, Option, Some, None, Ok, Err, refl, sym, ap, ◌∙◌, subst, append_assoc, append-nil, arith}
+use Rattle.std.proofs.Common.{◌≡◌, ℕ, zero, suc, ◌+◌, ◌*◌, ◌≤◌, Bool, true, false, List, [], ◌∷◌, ◌++◌, length, Option, Some, None, Ok, Err, unwrap_or, refl, sym, ap, ◌∙◌, subst, append_assoc, append-nil, arith}
 use Rattle.std.proofs.lemmas.List.{length-map}
-use Rattle.std.proofs.lemmas.Option.{same_Some}
 use Rattle.plcr_machine.specs.declared.limits.TheConstants.{COUNT_UNIT, MOST_CHANGES}
 use Rattle.plcr_machine.specs.declared.entry.Entry.{Entry}
 use Rattle.plcr_machine.specs.declared.entry.Entry.TheVariants.{Announce, Enter, Leave, Retire, Load, Unload, Count, Look}
@@ -25,7 +24,6 @@ use Rattle.plcr_imagelist.specs.Refusing.{IsFull}
 use Rattle.plcr_imagelist.specs.Listing.{AddsChanges}
 use Rattle.plcr_imagelist.specs.Opening.{opened_writer}
 use Rattle.plcr_imagelist.proofs.Changed.{has_lists}
-use Rattle.plcr_imagelist.proofs.Looking.{went_again}
 use Rattle.plcr_script.specs.declared.statements.Statement.{Statement}
 use Rattle.plcr_script.specs.declared.statements.Statement.TheVariants as statements
 use Rattle.plcr_script.specs.declared.outcomes.Outcome.TheVariants as outcomes
@@ -40,6 +38,7 @@ use Rattle.plcr_turns.specs.declared.lines.Said.TheVariants.{NotImage, Worn, Lon
 use Rattle.plcr_turns.specs.declared.lines.ChangeLine.{ChangeLine}
 use Rattle.plcr_turns.specs.Turns.{TurnState, LoadSays, UnloadSays, Says, changes_by, Applied, IsTurn, NameSaid}
 use Rattle.plcr_turns.specs.Journals.{change_made, changes_made}
+use Rattle.plcr_imagelist.proofs.Looking.{went_again}
 use Rattle.plcr_turns.proofs.Turned.{SameSizes, same_again, same_sizes}
 use Rattle.plcr_turns.proofs.Journaled.{grows_through, sizes_through, change_then, change_by_names, made_later, journal_is}
 use Rattle.plcr_workers.specs.Asking.{asked_in, statement_of, name_in, change_of, accepted_changes}
@@ -136,6 +135,9 @@ unload_comes old new header (Loaded load) says was = absurd says
 unload_comes old new header (Unloaded load) says was =
     ap outcomes.Unloaded says.1.2 ∙ sym (ap whole_outcome (by_changes (λ cs. planned_unload cs header) old _ (unplanned_one old header says.1.0 was (has_lists old was.known was.first) says.0 says.1.1)))
 
+some_asked : {a b : Asked} → Some a ≡ Some b → a ≡ b
+some_asked {a} {b} e = ap (λ (o : Option Asked). unwrap_or o a) e
+
 abbrev is_some_asked : Option Asked → Bool
 is_some_asked None = false
 is_some_asked (Some a) = true
@@ -152,13 +154,13 @@ line_comes : (process : Meanings) (w old new : WriterState) (statement : Stateme
     → Says a other old said new → IsAtRest old → IsAtRest new → AddsChanges old (changes_by a other said) new → SameSizes old w → SameSizes old new
     → ComesTo process w (changes_of old.names old.history) statement said old.history new.history
 line_comes process w old new (statements.Load header name) a other said asks fault long says was rest adds sizes same =
-    let is : asked.Load header ≡ a = same_Some _ _ asks in
+    let is : asked.Load header ≡ a = some_asked asks in
     by_fault (process.fault header) said fault
     (λ kind at told. fault_comes process w old new header name other said kind at told)
     (λ fine none. load_comes process w old new header name other said fine none long (subst (λ x. Says x other old said new) (sym is) says) was rest
     (subst (λ x. AddsChanges old (changes_by x other said) new) (sym is) adds) sizes same)
 line_comes process w old new (statements.Unload header) a other said asks fault long says was rest adds sizes same =
-    unload_comes old new header said (subst (λ x. Says x other old said new) (sym (same_Some _ _ asks)) says) was
+    unload_comes old new header said (subst (λ x. Says x other old said new) (sym (some_asked asks)) says) was
 line_comes process w old new (statements.BeginLoad header name) a other said asks fault long says was rest adds sizes same = none_asked asks
 line_comes process w old new (statements.BeginUnload header) a other said asks fault long says was rest adds sizes same = none_asked asks
 line_comes process w old new (statements.Step most) a other said asks fault long says was rest adds sizes same = none_asked asks

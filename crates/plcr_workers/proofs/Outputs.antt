@@ -1,9 +1,9 @@
 -- How many outputs of a script were taken, as its statements are.
-use Rattle.std.proofs.Common.{◌≡◌, ◌≢◌, inl, inr, ℕ, zero, suc, ◌+◌, ◌<◌, ◌≤◌, List, [], ◌∷◌, ◌++◌, length, take, drop, get_or, slice_get, slice_set, slice_index_or, All, Option, Some, None, eqb, true, false, refl, sym, ap, ◌∙◌, subst, length-append, append-nil, arith}
+use Rattle.std.proofs.Common.{◌≡◌, ◌≢◌, inl, inr, ℕ, zero, suc, ◌+◌, ◌<◌, ◌≤◌, List, [], ◌∷◌, ◌++◌, length, take, drop, get_or, slice_get, slice_set, slice_index_or, All, Option, Some, None, unwrap_or, eqb, true, false, refl, sym, ap, ◌∙◌, subst, length-append, append-nil, arith}
 use Rattle.std.specs.Prelude.{filter_map, is_some, IfSome}
-use Rattle.std.proofs.lemmas.List.{take_more, get_or-set_same, get_or-set_other, length-set, take-append-drop, take_all}
+use Rattle.std.proofs.lemmas.List.{take_more, get_or-set_same, get_or-set_other, length-set, take-append-drop}
 use Rattle.std.proofs.lemmas.List.Elements.{filter_map-append}
-use Rattle.std.proofs.lemmas.Option.{slice_get_within, get_or_from_slice_get, same_Some}
+use Rattle.std.proofs.lemmas.Option.{slice_get_within, get_or_from_slice_get}
 use Rattle.plcr_base.specs.Causes.{Rose}
 use Rattle.plcr_machine.proofs.Cases.{at_or_else, not_both, eqb_same}
 use Rattle.plcr_script.specs.declared.statements.NumberedStatement.{NumberedStatement}
@@ -68,6 +68,9 @@ pub record AreNext {K : Type 0} (faults : K → ℕ) (statements : List Numbered
 pub different : (m n : ℕ) → eqb m n ≡ false → n ≢ m
 different m n f e = not_both (eqb m n) (subst (λ k. eqb m k ≡ true) (sym e) (eqb_same m)) f
 
+some_next : {a b : ℕ} → Some a ≡ Some b → a ≡ b
+some_next {a} {b} e = ap (λ (o : Option ℕ). unwrap_or o a) e
+
 same_places : {K : Type 0} (faults : K → ℕ) (tells : Draft K → Draft K → Type 0) (next : ℕ) (took : Took) (first old new : List (Draft K)) → next < length old → AreSamePlaces first old → WritesNext faults tells next took old new → AreSamePlaces first new
 same_places {K} faults tells next took first old new within s w =
     let long : length new ≡ length old = ap length w.new_is ∙ length-set old next w.is in
@@ -119,14 +122,14 @@ written_of faults tells Silent next more old new o e = absurd o.written
 written_of faults tells (Said Entered) next more old new o e = absurd o.written
 written_of faults tells (Said (Walked met ended)) next more old new o e = absurd o.written
 written_of faults tells (Said (Left met low high)) next more old new o e = absurd o.written
-written_of faults tells (Said (Reported bytes images low high)) next more old new o e = (sym (same_Some _ _ e), o.written.0, o.written.1)
+written_of faults tells (Said (Reported bytes images low high)) next more old new o e = (sym (some_next e), o.written.0, o.written.1)
 written_of faults tells Unwritten next more old new o e = absurd cc
 
 pub no_report_next : (took : Took) (next more : ℕ) → IsNoReport took → next_after took next ≡ Some more → more ≡ next
-no_report_next Silent next more n e = sym (same_Some _ _ e)
-no_report_next (Said Entered) next more n e = sym (same_Some _ _ e)
-no_report_next (Said (Walked met ended)) next more n e = sym (same_Some _ _ e)
-no_report_next (Said (Left met low high)) next more n e = sym (same_Some _ _ e)
+no_report_next Silent next more n e = sym (some_next e)
+no_report_next (Said Entered) next more n e = sym (some_next e)
+no_report_next (Said (Walked met ended)) next more n e = sym (some_next e)
+no_report_next (Said (Left met low high)) next more n e = sym (some_next e)
 no_report_next (Said (Reported bytes images low high)) next more n e = absurd n
 no_report_next Unwritten next more n e = absurd n
 
@@ -170,9 +173,15 @@ done_upto faults zero (d ∷ ds) written failed = inr (failed d (omega arith))
 done_upto faults (suc next) (d ∷ ds) written failed =
     inl (written 0 d (omega arith) (omega arith), done_upto faults next ds (λ k other less below. written (suc k) other (omega (arith, less)) (omega (arith, below))) (λ other less. failed other (omega (arith, less))))
 
+take_past : (n : ℕ) (xs : List NumberedStatement) → length xs ≤ n → take n xs ≡ xs
+take_past zero [] less = refl
+take_past (suc n) [] less = refl
+take_past zero (x ∷ xs) less = absurd (omega (arith, less))
+take_past (suc n) (x ∷ xs) less = ap (λ (l : List NumberedStatement). x ∷ l) (take_past n xs (omega (arith, less)))
+
 pub all_done : {K : Type 0} (faults : K → ℕ) (statements : List NumberedStatement) (at next : ℕ) (first drafts : List (Draft K)) → length drafts ≡ length (files_of statements) → length statements ≤ at → AreNext faults statements at next first drafts → AreDone faults drafts
 all_done faults statements at next first drafts all past s =
-    let counted = s.counted ∙ ap (λ l. length (files_of l)) (take_all at statements past) in
+    let counted = s.counted ∙ ap (λ l. length (files_of l)) (take_past at statements past) in
     done_upto faults next drafts s.up_to.written (λ other less. absurd (omega (arith, less, counted, all)))
 
 rose_some : (a b : ℕ) → Rose a b → a ≡ 0 → 0 < b
@@ -201,7 +210,7 @@ pub record IsCut {K : Type 0} (faults : K → ℕ) (first drafts : List (Draft K
   pub done : AreDone faults drafts
   pub failed : All (λ (d : Draft K). d.progress ≡ Written) drafts → ⊥
 
-pub not_written : {K : Type 0} (draft : Draft K) → draft.progress ≡ Failed → draft.progress ≡ Written → ⊥
+not_written : {K : Type 0} (draft : Draft K) → draft.progress ≡ Failed → draft.progress ≡ Written → ⊥
 not_written draft f w = apart (sym f ∙ w)
   where
     apart : Failed ≡ Written → ⊥

@@ -1,6 +1,5 @@
 -- What a worker knows of the lines of its script, as the journal grows.
 use Rattle.std.proofs.Common.{◌≡◌, ℕ, List, [], ◌∷◌, ◌++◌, Option, Some, None, length, slice_get, refl, sym, ap, ◌∙◌, subst, append-nil, length-append, arith}
-use Rattle.std.proofs.lemmas.Option.{same_Some}
 use Rattle.plcr_machine.specs.declared.entry.Entry.{Entry}
 use Rattle.plcr_machine.specs.Lists.{name_of}
 use Rattle.plcr_nodes.specs.Entries.{WentOn}
@@ -27,7 +26,10 @@ use Rattle.plcr_workers.specs.inner.Own.{HaveOwnLines, CameTo, IsOwnLine, AreOwn
 
 -- the fault that a request has is what its line says
 fault_told : (fault : Option ℕ) (header : ℕ) (request : Request) (said : Said) → fault_in request ≡ fault → FaultSaid request said → asked_by request ≡ asked_by request → ((kind : ℕ) → fault ≡ Some kind → said ≡ NotImage kind)
-fault_told fault header (requests.Load h name (Some k)) said is told same kind e = told ∙ ap NotImage (same_Some _ _ (is ∙ e))
+fault_told fault header (requests.Load h name (Some k)) said is told same kind e = told ∙ ap NotImage (some_kind (is ∙ e))
+  where
+    some_kind : {a b : ℕ} → Some a ≡ Some b → a ≡ b
+    some_kind e = cc
 fault_told fault header (requests.Load h name None) said is told same kind e = absurd (let x = is ∙ e in cc)
 fault_told fault header (requests.Unload h) said is told same kind e = absurd (let x = is ∙ e in cc)
 

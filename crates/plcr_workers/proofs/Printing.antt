@@ -1,9 +1,8 @@
 -- The other lines of scripts, printed script by script.
 use Rattle.std.proofs.Common.{◌≡◌, ℕ, zero, suc, ◌+◌, ◌≤◌, List, [], ◌∷◌, ◌++◌, length, take, get_or, slice_get, Option, Some, sym, ap, subst, ◌∙◌, append-nil, append_assoc, take_all, arith}
-use Rattle.std.specs.Prelude.{Vec}
+use Rattle.std.specs.Prelude.{Vec, unwrap_or}
 use Rattle.std.specs.declared.alloc.Global.{Global}
 use Rattle.std.specs.Io.KnownBytes.{append_known}
-use Rattle.std.proofs.lemmas.Option.{same_Some}
 use Rattle.plcr_base.specs.Told.{AppendsProperFront}
 use Rattle.plcr_base.proofs.Appended.{append_twice, proper_first, proper_second}
 use Rattle.plcr_script.specs.Scripts.{ScriptValue}
@@ -17,12 +16,15 @@ pub record TextAt (number : ℕ) (scripts : List ScriptValue) (others : List (Ve
   pub rest : List ℕ
   pub whole : scripts_text number scripts (items_of others) ≡ scripts_text number (take (suc k) scripts) (items_of (take (suc k) others)) ++ rest
 
+same_script : {s t : ScriptValue} → Some s ≡ Some t → s ≡ t
+same_script {s} {t} e = ap (λ (o : Option ScriptValue). unwrap_or o s) e
+
 pub text_at : (number : ℕ) (scripts : List ScriptValue) (others : List (Vec PassLine Global)) (k : ℕ) (script : ScriptValue) (lines : List PassLine) (o : Vec PassLine Global) → length others ≡ length scripts
     → slice_get scripts k ≡ Some script → (get_or others k o).items ≡ lines → TextAt number scripts others k script lines
 text_at number [] others k script lines o count at is = absurd cc
 text_at number (s ∷ scripts) [] k script lines o count at is = absurd (omega (arith, count))
 text_at number (s ∷ scripts) (v ∷ others) zero script lines o count at is =
-    let same : s ≡ script = same_Some _ _ at in
+    let same : s ≡ script = same_script at in
     record {
       more = append-nil (script_text number s v.items) ∙ (λ i. script_text (plain i) (same i) (is i));
       rest = scripts_text (number + 1) scripts (items_of others);

@@ -20,12 +20,12 @@ use Rattle.plcr_imagelist.proofs.Sees.{met_few}
 use Rattle.plcr_script.specs.Meanings.{Meanings}
 use Rattle.plcr_script.specs.RunTurns.{listed}
 use Rattle.plcr_workers.specs.declared.drafts.Draft.{Draft}
-use Rattle.plcr_workers.specs.declared.drafts.Progress.TheVariants.{Written}
+use Rattle.plcr_workers.specs.declared.drafts.Progress.TheVariants.{Written, Failed}
 use Rattle.plcr_workers.specs.declared.acting.Took.{Took}
 use Rattle.plcr_workers.specs.inner.Drafts.{WritesNext, TakesOutputs, next_after}
 use Rattle.plcr_workers.specs.inner.Places.{PassGoes}
 use Rattle.plcr_workers.specs.inner.Reports.{IsHeldReport, HasReport, AreReports}
-use Rattle.plcr_workers.proofs.Outputs.{here_is, there_is, long_is, written_of, failed_of, different, below_next, no_report_next, no_report_goes, not_written}
+use Rattle.plcr_workers.proofs.Outputs.{here_is, there_is, long_is, written_of, failed_of, different, below_next, no_report_next, no_report_goes}
 use Rattle.plcr_workers.specs.Stays.{lists}
 use Rattle.plcr_workers.specs.Stopped.{IsLawfulReport}
 
@@ -169,6 +169,12 @@ reported_all {K} written report image next first drafts s k other less =
     (λ t. inl (s.same k other (omega (arith, less, many)) (leb-true next k t)))
     (λ f. inr (s.reported k other (omega (arith, less, many)) (leb-false next k f)))
 
+failed_apart : {K : Type 0} (draft : Draft K) → draft.progress ≡ Failed → draft.progress ≡ Written → ⊥
+failed_apart draft f w = apart (sym f ∙ w)
+  where
+    apart : Failed ≡ Written → ⊥
+    apart e = absurd cc
+
 -- where an output failed, those before it are reports, and those behind it are as they were
 pub reported_cut : {K : Type 0} (written : K → Option (List ℕ)) (report : List Listed → List ℕ) (was now : WalkerState) (faults : K → ℕ) (next : ℕ) (file : Option (List ℕ)) (took : Took) (first old new : List (Draft K))
     → PassGoes was now → IfSome file (λ f. next < length old) → AreReported written report was next first old → TakesOutputs faults (HasReport written report now) next file took old new → next_after took next ≡ None
@@ -180,7 +186,7 @@ reported_cut {K} written report was now faults next (Some file) took first old n
     let many = s.count in
     let did = failed_of faults tells took next (slice_index_or old next w.is) w.is (w.did w.is) after in
     at_or_else next k
-    (λ (e : next ≡ k). absurd (not_written w.is did.0 (ap (λ (d : Draft K). d.progress) (sym (here_is faults tells next took old new w other within)) ∙ subst (λ n. (slice_index_or new n other).progress ≡ Written) (sym e) is)))
+    (λ (e : next ≡ k). absurd (failed_apart w.is did.0 (ap (λ (d : Draft K). d.progress) (sym (here_is faults tells next took old new w other within)) ∙ subst (λ n. (slice_index_or new n other).progress ≡ Written) (sym e) is)))
     (λ f.
     let there = there_is faults tells next took old new w k other (different next k f) in
     let was_it = reported_all written report now next first old (reported_later written report was now next first old goes s) k other less in

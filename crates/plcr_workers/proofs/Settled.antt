@@ -18,7 +18,6 @@ use Rattle.plcr_workers.specs.declared.drafts.Draft.{Draft}
 use Rattle.plcr_workers.specs.declared.drafts.Progress.{Progress}
 use Rattle.plcr_workers.specs.declared.drafts.Progress.TheVariants.{Waiting, Written, Failed}
 use Rattle.plcr_workers.specs.inner.Outputs.{name_at, IsDraftOf, AreDone, AreFiles, HasOpenFor, HasKeptAll, HasKeptUpTo, HasDropped, in_order}
-use Rattle.plcr_workers.proofs.Crews.{in_order_more}
 
 pub nothing_none : (old : Told) → TookNothing old old
 nothing_none old = record { files = refl; taken = refl; take_faults = refl; out_faults = omega arith }
@@ -177,9 +176,13 @@ to_none count told h = subst (λ (n : ℕ). HasOpenFor n told) (omega arith) h
 
 -- ---- outputs in lists of which the last is the first
 
-pub all_back : {A : Type 0} (P : A → Type 0) (xs ys : List A) → All P (xs ++ ys) → All P ys
+all_back : {A : Type 0} (P : A → Type 0) (xs ys : List A) → All P (xs ++ ys) → All P ys
 all_back P [] ys all = all
 all_back P (x ∷ xs) ys all = all_back P xs ys (All-tail P x (xs ++ ys) all)
+
+pub in_order_last : {K : Type 0} (all : List (Vec (Draft K) Global)) (drafts : Vec (Draft K) Global) → in_order (all ++ drafts ∷ []) ≡ reverse drafts.items ++ in_order all
+in_order_last [] drafts = sym (append-nil (reverse drafts.items))
+in_order_last (first ∷ all) drafts = ap (λ l. l ++ reverse first.items) (in_order_last all drafts) ∙ append_assoc (reverse drafts.items) (in_order all) (reverse first.items)
 
 pub done_first : {K : Type 0} (faults : K → ℕ) (first second : List (Draft K)) → AreDone faults (first ++ second) → AreDone faults first
 done_first faults [] second h = tt
@@ -308,7 +311,7 @@ one_left all left rest draft old now items start d =
 module _ {K : Type 0} where
   pub in_order_long : (rest : List (Vec (Draft K) Global)) (drafts : Vec (Draft K) Global) → length (in_order (rest ++ drafts ∷ [])) ≡ length (in_order rest) + length drafts.items
   in_order_long rest drafts =
-      let parts = ap length (in_order_more rest drafts) ∙ length-append (reverse drafts.items) (in_order rest) in
+      let parts = ap length (in_order_last rest drafts) ∙ length-append (reverse drafts.items) (in_order rest) in
       let same = length-reverse drafts.items in
       omega (arith, parts, same)
 
@@ -330,7 +333,7 @@ module _ {K : Type 0} (written : K → Option (List ℕ)) (faults : K → ℕ) (
 
   module _ (left rest : List (Vec (Draft K) Global)) (drafts : Vec (Draft K) Global) (items : left ≡ rest ++ drafts ∷ []) (k : KeepingAll written faults scripts all left old now) where
     order : in_order left ≡ reverse drafts.items ++ in_order rest
-    order = ap in_order items ∙ in_order_more rest drafts
+    order = ap in_order items ∙ in_order_last rest drafts
 
     pub last_are : All (IsDraftOf scripts) (reverse drafts.items)
     last_are = all_front (IsDraftOf scripts) (reverse drafts.items) (in_order rest) (subst (All (IsDraftOf scripts)) order k.are)

@@ -4,7 +4,6 @@ use Rattle.std.specs.Prelude.{All, OnOk, IfErr, unwrap_or}
 use Rattle.std.specs.Io.KnownBytes.{append_known}
 use Rattle.std.proofs.lemmas.List.{drop_all, map-append, length-map}
 use Rattle.std.proofs.lemmas.List.Elements.{All-head}
-use Rattle.std.proofs.lemmas.Option.{same_Some}
 use Rattle.plcr_base.specs.Causes.{Rose}
 use Rattle.plcr_base.specs.Told.{IfTold, Gains, AppendsProperFront, Prints}
 use Rattle.plcr_base.proofs.Appended.{append_nothing}
@@ -33,7 +32,8 @@ use Rattle.plcr_workers.specs.Command.{AllApplied, AllKept, IsJournalOf, IsWrite
 use Rattle.plcr_workers.specs.inner.Outputs.{name_at, draft_names, outputs_of, AreFiles, HasKeptAll, HasKeptUpTo, HasDropped, HasOpenFor, IsDraftOf, NotAllMade, StandsAt}
 use Rattle.plcr_workers.specs.inner.Own.{KnowsOwnOf}
 use Rattle.plcr_workers.specs.inner.Stages.{AppliesAll, HasWorked, LeftOf, LogEnds, RunEnds, Settles}
-use Rattle.plcr_workers.proofs.Settled.{nothing_twice, rose_first, all_back}
+use Rattle.plcr_workers.proofs.Settled.{nothing_twice, rose_first}
+use Rattle.plcr_workers.proofs.Worked.{all_behind}
 
 -- the same list, where it is told
 pub gains_same : {A : Type 0} (old new : Option (List A)) → new ≡ old → Gains old new []
@@ -204,7 +204,7 @@ pub cut_stands : {K : Type 0} (written : K → Option (List ℕ)) (faults : K �
     → Worked faults scripts workers old mid made → Settles written scripts drafts made mid new (Err unwritten) → StandsAt scripts unwritten.script unwritten.at
 cut_stands written faults scripts workers drafts same old mid new (Ok ok) unwritten w k =
     let are : All (IsDraftOf scripts) drafts = subst (All (IsDraftOf scripts)) (sym same) w.are in
-    let behind : All (IsDraftOf scripts) (k.draft ∷ k.after) = all_back (IsDraftOf scripts) k.before (k.draft ∷ k.after) (subst (All (IsDraftOf scripts)) k.parts are) in
+    let behind : All (IsDraftOf scripts) (k.draft ∷ k.after) = all_behind (IsDraftOf scripts) k.before (k.draft ∷ k.after) (subst (All (IsDraftOf scripts)) k.parts are) in
     subst (λ (s : ℕ). StandsAt scripts s unwritten.at) k.place.0 (subst (λ (a : ℕ). StandsAt scripts k.draft.script a) k.place.1 (All-head (IsDraftOf scripts) k.draft k.after behind))
 cut_stands written faults scripts workers drafts same old mid new (Err unmade) unwritten w k = subst (λ (u : Unwritten). StandsAt scripts u.script u.at) (sym k.0) w.stands
 
@@ -220,8 +220,11 @@ lent_whole n new items same all =
     let none : drop (length new) items ≡ [] = drop_all (length new) items (omega (arith, same)) in
     ap (λ l. take n (new ++ l)) none ∙ ap (λ l. take n l) (append-nil new) ∙ take_all n new (omega (arith, same, all))
 
+some_writer : {a b : WriterState} → Some a ≡ Some b → a ≡ b
+some_writer {a} {b} e = ap (λ (o : Option WriterState). unwrap_or o a) e
+
 left_of : (job : Job) (w : WriterState) (journal : List ChangeLine) → IsWriterOf job.scripts (Some w) → IsJournalOf (meanings_in job.core job.scripts) job.scripts journal w → LeftOf job (Some w) journal
-left_of job w journal met tells = record { met = met; tells = subst (λ (x : WriterState). IsJournalOf (meanings_in job.core job.scripts) job.scripts journal x) (same_Some _ _ met.is) tells }
+left_of job w journal met tells = record { met = met; tells = subst (λ (x : WriterState). IsJournalOf (meanings_in job.core job.scripts) job.scripts journal x) (some_writer met.is) tells }
 
 module _ {K : Type 0} (written : K → Option (List ℕ)) (faults : K → ℕ) (job : Job) (workers lent : List (Worker K)) (front : lent ≡ workers) (drafts : List (Draft K)) (are : drafts ≡ outputs_of lent) (old mid new : Told) (lines lines' : Option (List ℕ)) (counts counts' : ℕ)
     (made : Result (Unit {0}) Unwritten) (w : WriterState) (journal : List ChangeLine) (worked : Worked faults job.scripts workers old mid made) (own : All (λ x. KnowsOwnOf (meanings_in job.core job.scripts) job.scripts x) workers) (met : IsWriterOf job.scripts (Some w))

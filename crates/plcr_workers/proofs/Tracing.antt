@@ -3,7 +3,7 @@ use Rattle.std.proofs.Common.{◌≡◌, ℕ, suc, ◌+◌, ◌<◌, ◌≤◌, 
 use Rattle.std.specs.List.{cons_option}
 use Rattle.std.specs.Prelude.{IfSome}
 use Rattle.std.specs.Io.KnownBytes.{append_known}
-use Rattle.std.proofs.lemmas.List.{take_more, length-take, get_or_append_left, get_or_push}
+use Rattle.std.proofs.lemmas.List.{take_more, length-take, get_or_append_left}
 use Rattle.std.proofs.lemmas.Option.{slice_get_within, get_or_from_slice_get}
 use Rattle.plcr_machine.proofs.Cases.{at_or_else}
 use Rattle.plcr_macho.specs.Images.{Listed}
@@ -115,13 +115,17 @@ one_list [] e = absurd (omega (arith, e))
 one_list (x ∷ []) e = (x, refl)
 one_list (x ∷ y ∷ xs) e = absurd (omega (arith, e))
 
+last_or : {A : Type 0} (xs : List A) (x d : A) → get_or (xs ++ x ∷ []) (length xs) d ≡ x
+last_or [] x d = refl
+last_or (y ∷ xs) x d = last_or xs x d
+
 gained_more : {K : Type 0} (written : K → Option (List ℕ)) (faults : K → ℕ) (tells : Draft K → Draft K → Type 0) (took : Took) (wrote : List (List ℕ)) (bytes : List ℕ) (next : ℕ) (first old new : List (Draft K)) → length wrote ≡ next → next < length old
     → ((other : Draft K) → slice_index_or old next other ≡ slice_index_or first next other) → WritesNext faults tells next took old new → NextGains written next (bytes ∷ []) old new → HaveGained written wrote first old
     → HaveGained written (wrote ++ bytes ∷ []) first new
 gained_more {K} written faults tells took wrote bytes next first old new count within same w gains gained k d other less =
     at_or_else next k
     (λ (e : next ≡ k).
-    let here : get_or (wrote ++ bytes ∷ []) next d ≡ bytes = get_or_push wrote bytes d next count in
+    let here : get_or (wrote ++ bytes ∷ []) next d ≡ bytes = subst (λ n. get_or (wrote ++ bytes ∷ []) n d ≡ bytes) count (last_or wrote bytes d) in
     subst (λ n. written (slice_index_or new n other).out ≡ append_known (written (slice_index_or first n other).out) (get_or (wrote ++ bytes ∷ []) n d)) e
     (gains other ∙ ap (λ (x : Draft K). append_known (written x.out) bytes) (same other) ∙ ap (append_known (written (slice_index_or first next other).out)) (sym here)))
     (λ f.

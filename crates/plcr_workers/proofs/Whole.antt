@@ -1,7 +1,7 @@
 -- Where all workers ran their scripts whole, their lines and files are those of runs of the scripts over the one history.
-use Rattle.std.proofs.Common.{◌≡◌, ℕ, suc, ◌+◌, List, [], ◌∷◌, ◌++◌, length, map, reverse, slice_get, All, Option, Some, refl, sym, ap, ◌∙◌, subst, length-append, zero-add, arith}
+use Rattle.std.proofs.Common.{◌≡◌, ℕ, zero, suc, ◌+◌, List, [], ◌∷◌, ◌++◌, length, map, reverse, slice_get, All, Option, Some, refl, sym, ap, ◌∙◌, subst, length-append, zero-add, arith}
 use Rattle.std.proofs.lemmas.List.{nil_from_length}
-use Rattle.std.proofs.lemmas.Option.{slice_get_within, get_or_from_slice_get, same_Some}
+use Rattle.std.proofs.lemmas.Option.{slice_get_within, get_or_from_slice_get}
 use Rattle.atomic_table.specs.Seated.{TableId}
 use Rattle.crossbeam_queue.specs.Passes.{view}
 use Rattle.plcr_machine.specs.Lists.{Grows}
@@ -33,7 +33,7 @@ use Rattle.plcr_workers.specs.inner.Places.{walker_of}
 use Rattle.plcr_workers.specs.inner.Stages.{HasMetThese, HaveRun, items_of}
 use Rattle.plcr_workers.specs.inner.Traces.{HaveBytes, IsActed, IsRunnable, Ran}
 use Rattle.plcr_workers.proofs.Freshly.{GoesOnFrom}
-use Rattle.plcr_workers.proofs.Joined.{outputs_each, pass_of, views_at}
+use Rattle.plcr_workers.proofs.Joined.{outputs_each, pass_of, some_same}
 use Rattle.plcr_workers.proofs.Passing.{again}
 use Rattle.plcr_workers.proofs.Running.{Ended, script_ran}
 use Rattle.plcr_workers.proofs.Stayed.{World, out_goes, pairs, ran_goes}
@@ -79,6 +79,11 @@ pub record AllLeft {K : Type 0} (list : TableId) (count : ℕ) (workers : List (
   pub met : HasMetThese images t.writer w
   pub rest : IsAtRest w
 
+view_at : {K : Type 0} (workers : List (Worker K)) (n : ℕ) (w : Worker K) → slice_get workers n ≡ Some w → slice_get (views_of workers) n ≡ Some (view w.turns)
+view_at [] n w at = absurd cc
+view_at (x ∷ workers) zero w at = ap (λ (y : Worker _). Some (view y.turns)) (some_same at)
+view_at (x ∷ workers) (suc n) w at = view_at workers n w at
+
 -- the last journal goes on from what a worker saw, by lines of others
 goes_from : (script : ℕ) (journal : List ChangeLine) (v : View) (rest : List ChangeLine) → v.journal ++ rest ≡ journal → lines_of script journal ≡ lines_of script v.journal → GoesOnFrom script journal v
 goes_from script journal v rest is same =
@@ -93,8 +98,8 @@ one_run : {K : Type 0} (written : K → Option (List ℕ)) (process : Meanings) 
     → IsRunnable script → IsActed written process.report scripts worker → All (λ (d : Draft K). d.progress ≡ Written) worker.drafts.items → OneRun written process w t.journal n script worker
 one_run {K} written process list count scripts workers chief t images w a n script worker at stands number may acted whole =
     let g = acted.gone whole in
-    let same : acted.script ≡ script = same_Some _ _ (sym acted.stands ∙ ap (slice_get scripts) number ∙ stands) in
-    let once = each_once count list (views_of workers) chief t a.gathered a.working a.taken a.turn n (view worker.turns) (views_at workers n worker at) in
+    let same : acted.script ≡ script = some_same (sym acted.stands ∙ ap (slice_get scripts) number ∙ stands) in
+    let once = each_once count list (views_of workers) chief t a.gathered a.working a.taken a.turn n (view worker.turns) (view_at workers n worker at) in
     let ran = subst (λ (s : ScriptValue). Ran process.report worker.script 0 s.statements (Out g.first) g.start worker.lines.items g.wrote g.place (view worker.turns)) same g.ran in
     let W : World = record {
       process = process;

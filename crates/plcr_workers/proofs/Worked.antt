@@ -1,10 +1,10 @@
 -- What workers that have run, or that were only hired, leave.
 use Rattle.std.proofs.Common.{inl, inr, ◌≡◌, ℕ, zero, suc, ◌+◌, ◌-◌, ◌<◌, ◌≤◌, true, List, [], ◌∷◌, ◌++◌, length, map, get_or, slice_get, take_all, Option, Some, refl, sym, ap, subst, ◌∙◌, arith}
-use Rattle.std.specs.Prelude.{All, Vec, reverse}
+use Rattle.std.specs.Prelude.{All, Vec, reverse, unwrap_or}
 use Rattle.std.specs.declared.alloc.Global.{Global}
 use Rattle.std.proofs.lemmas.List.{map-append, length-map}
 use Rattle.std.proofs.lemmas.List.Elements.{All-nil, All-cons, All-head, All-tail, All-append, All-weaker}
-use Rattle.std.proofs.lemmas.Option.{slice_get_within, get_or_from_slice_get, same_Some}
+use Rattle.std.proofs.lemmas.Option.{slice_get_within, get_or_from_slice_get}
 use Rattle.atomic_table.specs.Seated.{TableId}
 use Rattle.crossbeam_queue.specs.Passes.{view}
 use Rattle.plcr_nodes.specs.Entries.{among, WentOn}
@@ -48,9 +48,12 @@ use Rattle.plcr_workers.proofs.Outcomes.{known_journals_are, known_journals_run}
 use Rattle.plcr_workers.proofs.Owned.{nothing_own}
 use Rattle.plcr_workers.specs.inner.Outputs.{AllMade, AreDone, AreMade, AreSameWorkers, IsDraftOf, IsSameWorker, draft_names, name_at, outputs_of}
 use Rattle.plcr_workers.specs.inner.Stages.{AppliesAll, AreLinesOf, HasMetThese, HasWorked}
-use Rattle.plcr_workers.proofs.Settled.{all_back}
 
 -- ---- the outputs
+
+pub all_behind : {A : Type 0} (P : A → Type 0) (xs ys : List A) → All P (xs ++ ys) → All P ys
+all_behind P [] ys all = all
+all_behind P (x ∷ xs) ys all = all_behind P xs ys (All-tail P x (xs ++ ys) all)
 
 done_both : {K : Type 0} (faults : K → ℕ) (first second : List (Draft K)) → AreDone faults first → AreDone faults second → AreDone faults (first ++ second)
 done_both faults [] second a b = b
@@ -91,7 +94,7 @@ outputs_taken faults scripts (o ∷ olds) [] taken all = absurd (let count = tak
 outputs_taken {K = K} faults scripts (o ∷ olds) (n ∷ news) taken all =
     let first : HasTaken faults o n = taken.each 0 o (omega arith) in
     let rest = outputs_taken faults scripts olds news (record { count = (let count = taken.count in omega (arith, count)); each = λ k other less. taken.each (suc k) other (omega (arith, less)) })
-    (all_back (IsDraftOf scripts) o.drafts.items (outputs_of olds) all) in
+    (all_behind (IsDraftOf scripts) o.drafts.items (outputs_of olds) all) in
     let Named : Draft K → List ℕ = λ d. name_at scripts d.script d.at in
     record {
       names = map-append Named n.drafts.items (outputs_of news) ∙ (λ i. same_names scripts o.drafts.items n.drafts.items first.places i ++ rest.names i) ∙ sym (map-append Named o.drafts.items (outputs_of olds));
@@ -134,6 +137,9 @@ left_count : {K : Type 0} (workers : List (Worker K)) → length (lines_left wor
 left_count [] = refl
 left_count (w ∷ workers) = let rest = left_count workers in omega (arith, rest)
 
+some_script : {s t : ScriptValue} → Some s ≡ Some t → s ≡ t
+some_script {s} {t} e = ap (λ (o : Option ScriptValue). unwrap_or o s) e
+
 pub lines_are : {K : Type 0} (queue list : TableId) (scripts : List ScriptValue) (workers : List (Worker K)) → length workers ≡ length scripts → AreNumbered workers → All (λ w. IsGone queue list scripts w) workers → AreLinesOf scripts (lines_left workers)
 lines_are {K = K} queue list scripts workers count numbers gone = record {
   count = left_count workers ∙ count;
@@ -146,7 +152,7 @@ lines_are {K = K} queue list scripts workers count numbers gone = record {
         let l = left_at workers k other within in
         let g : IsGone queue list scripts l.worker = subst (λ (w : Worker K). IsGone queue list scripts w) (l.is l.worker) (gone k l.worker within) in
         let number : l.worker.script ≡ k = ap (λ (w : Worker K). w.script) (sym (l.is l.worker)) ∙ numbers k l.worker within in
-        let same : g.script ≡ script = same_Some _ _ (sym g.stands ∙ ap (slice_get scripts) number ∙ stands) in
+        let same : g.script ≡ script = some_script (sym g.stands ∙ ap (slice_get scripts) number ∙ stands) in
         subst (λ (v : Vec PassLine Global). All (λ (p : PassLine). p.at < length script.statements) v.items) (sym l.lines)
         (subst (λ (s : ScriptValue). All (λ (p : PassLine). p.at < length s.statements) l.worker.lines.items) same g.lines)
 
@@ -294,7 +300,10 @@ pub few_lines : (count : ℕ) (list : TableId) (views : List View) (chief : View
 few_lines count list views chief t gathered taken turn = subst (λ (n : ℕ). All (λ (l : ChangeLine). l.script < n) t.journal) (sym taken.count ∙ gathered.count_is) turn.alone
 
 pub same_table : (count : ℕ) (list : TableId) (views : List View) (chief : View) (t : TurnState) → HasGathered count list views chief → IsTaken chief t → t.writer.table ≡ list
-same_table count list views chief t gathered taken = same_Some _ _ (sym taken.list ∙ gathered.list_is)
+same_table count list views chief t gathered taken = some_table (sym taken.list ∙ gathered.list_is)
+  where
+    some_table : {a b : TableId} → Some a ≡ Some b → a ≡ b
+    some_table {a} {b} e = ap (λ (o : Option TableId). unwrap_or o a) e
 
 -- ---- what the core means to the run
 

@@ -1,6 +1,5 @@
 use Rattle.std.proofs.Common.{◌≡◌, ℕ, ◌+◌, ◌<◌, ◌∙◌, List, ◌∷◌, [], length, All, slice_get, slice_index_or, sym, ap, subst, add-one, refl, arith}
 use Rattle.std.proofs.lemmas.List.{length-map, length-append}
-use Rattle.std.proofs.lemmas.Option.{same_Some}
 use Rattle.crossbeam_queue.specs.Passes.{view}
 use Rattle.plcr_imagelist.specs.Holds.{WalkerState}
 use Rattle.plcr_script.specs.Scripts.{ScriptValue}
@@ -12,7 +11,7 @@ use Rattle.plcr_turns.proofs.Fronts.{all_front, all_last, all_more, all_none}
 use Rattle.plcr_turns.proofs.Gathered.{hands_next}
 use Rattle.plcr_workers.specs.Asking.{change_lines}
 use Rattle.plcr_workers.specs.inner.Hired.{SoFar, IsHired, AreNew, IsNew, AreFromTheLast, totals_in, AreUntouched}
-use Rattle.plcr_workers.proofs.Hires.{fresh_so_far}
+use Rattle.plcr_workers.proofs.Hires.{fresh_so_far, some_value}
 use Rattle.plcr_workers.proofs.Crews.{each_front, each_last, each_more, all_reversed}
 use Rattle.plcr_workers.proofs.Joined.{element}
 use Rattle.plcr_workers.proofs.Reported.{get_or_any}
@@ -102,11 +101,11 @@ loop-script-preserved g c =
             number = sym new_count;
             none = c.in_ok-drafts.ensures.len;
             room = λ s at. (let r = c.in_ok-drafts.ensures.capacity in
-                let same = ap (λ (x : ScriptValue). length (files_of x.statements)) (same_Some _ _ (sym at ∙ ap (slice_get c.args.scripts.now) new_count ∙ script.2)) in
+                let same = ap (λ (x : ScriptValue). length (files_of x.statements)) (some_value (sym at ∙ ap (slice_get c.args.scripts.now) new_count ∙ script.2)) in
                 let l = files_long c.args.scripts.now n c.index-scripts-script.result script.0 c.index-scripts-script.is script.1 less in
                 let m = c.reports_of.ensures in omega (arith, r, l, m, same));
             journal = ap (λ (v : View). v.journal) c.hand_out-turns.ensures.right ∙ next.2.2.journal;
-            untouched = λ i e. (ap (λ (x : WalkerState). x.history) (same_Some _ _ (sym e)) ∙ all_last (λ (x : WalkerState). x.history ≡ []) c.pop.new.self.items c.in-Some.image untouched);
+            untouched = λ i e. (ap (λ (x : WalkerState). x.history) (some_value (sym e)) ∙ all_last (λ (x : WalkerState). x.history ≡ []) c.pop.new.self.items c.in-Some.image untouched);
           }));
       count = (let m = c.push_reserved.ensures.len in omega (arith, m, counted));
       room = (let m = c.push_reserved.ensures.capacity in let r = c.loop-script.invariant.room in omega (arith, m, r));

@@ -1,9 +1,9 @@
 use Rattle.std.proofs.Common.{◌∙◌, refl, subst, sym}
-use Rattle.std.proofs.lemmas.Option.{same_Some}
 use Rattle.crossbeam_queue.specs.Passes.{view}
 use Rattle.plcr_script.specs.Meanings.{meanings}
 use Rattle.plcr_turns.specs.Lines.{lines_of}
 use Rattle.plcr_workers.specs.inner.Places.{PassGoes, walker_of}
+use Rattle.plcr_workers.proofs.Hires.{some_value}
 use Rattle.plcr_workers.proofs.Owned.{own_later}
 use Rattle.plcr_workers.proofs.Reported.{reports_later}
 use Rattle.plcr_workers.proofs.worker.Worker.run.Goals as goal
@@ -11,7 +11,7 @@ use Rattle.plcr_workers.proofs.worker.Worker.run.Goals as goal
 pub returns-clause-reports : goal.returns-clause-reports
 returns-clause-reports g c = λ image e.
     reports_later g.K.Sink.written (g.P.Process.report c.args.process.now c.args.context.now) (walker_of c.take_statements-place.result) image c.args.self.now.drafts.items c.take_statements-place.new.self.drafts.items
-    (subst (PassGoes (walker_of c.take_statements-place.result)) (same_Some _ _ e) c.come_out.ensures.goes) c.take_statements-place.ensures.reports
+    (subst (PassGoes (walker_of c.take_statements-place.result)) (some_value e) c.come_out.ensures.goes) c.take_statements-place.ensures.reports
 
 pub returns-clause-own : goal.returns-clause-own
 returns-clause-own g c =

@@ -5,7 +5,7 @@ use Rattle.plcr_run.proofs.Composed.{numbered_at}
 use Rattle.plcr_turns.specs.Lines.{lines_of}
 use Rattle.plcr_workers.specs.Asking.{change_lines}
 use Rattle.plcr_workers.specs.inner.Places.{walker_of}
-use Rattle.plcr_workers.proofs.Going.{left_if_asked, so_far_next}
+use Rattle.plcr_workers.proofs.Going.{left_if_asked, so_far_next, take_past}
 use Rattle.plcr_script.specs.Reading.{file_of}
 use Rattle.plcr_workers.specs.inner.Reports.{HasReport}
 use Rattle.plcr_workers.proofs.Reported.{none_reported, reported_on, reported_cut, all_reported}
@@ -14,7 +14,7 @@ use Rattle.plcr_workers.proofs.Owned.{own_next, nothing_own}
 use Rattle.plcr_workers.proofs.Passing.{stays, again}
 use Rattle.plcr_workers.proofs.Tracing.{nothing_traced, traced_on}
 use Rattle.plcr_workers.specs.inner.Traces.{HasTraced}
-use Rattle.std.proofs.lemmas.List.{nil_from_length, take_all}
+use Rattle.std.proofs.lemmas.List.{nil_from_length}
 use Rattle.plcr_workers.proofs.worker.Worker.take_statements.Goals as goal
 
 pub take_statement-moved-requires-clause-left : goal.take_statement-moved-requires-clause-left
@@ -78,7 +78,7 @@ returns-in-None-clause-whole g c = λ all.
     (numbered_at c.args.script.now c.loop-at.at c.line.result c.statement.result.now c.line.ensures c.statement.ensures) c.loop-at.invariant.all c.loop-at.invariant.outputs c.take_statement-moved.ensures.outputs (sym c.in-None.ensures.next)).failed all)
 
 pub returns-clause-whole : goal.returns-clause-whole
-returns-clause-whole g c = λ all. c.loop-at.invariant.so_far.lines ∙ ap change_lines (take_all c.loop-at.at c.args.script.now.statements (let past = c.loop-at-test.false in omega arith))
+returns-clause-whole g c = λ all. c.loop-at.invariant.so_far.lines ∙ ap change_lines (take_past c.loop-at.at c.args.script.now.statements (let past = c.loop-at-test.false in omega arith))
 
 pub returns-in-None-clause-traced : goal.returns-in-None-clause-traced
 returns-in-None-clause-traced g c = λ all.
@@ -90,7 +90,7 @@ returns-clause-traced g c = λ all. (
   c.loop-at.next,
   subst (λ n. HasTraced g.K.Sink.written (g.P.Process.report c.args.process.now c.args.context.now) n c.args.script.now.statements c.args.place (view c.args.self.now.turns) c.loop-at.place (view c.loop-at.self.turns) c.loop-at.self.lines.items c.loop-at.next c.args.self.now.drafts.items c.loop-at.self.drafts.items) c.loop-at.invariant.number
       (subst (λ l. HasTraced g.K.Sink.written (g.P.Process.report c.args.process.now c.args.context.now) c.loop-at.self.script l c.args.place (view c.args.self.now.turns) c.loop-at.place (view c.loop-at.self.turns) c.loop-at.self.lines.items c.loop-at.next c.args.self.now.drafts.items c.loop-at.self.drafts.items)
-      (take_all c.loop-at.at c.args.script.now.statements (let past = c.loop-at-test.false in omega arith)) c.loop-at.invariant.traced),
+      (take_past c.loop-at.at c.args.script.now.statements (let past = c.loop-at-test.false in omega arith)) c.loop-at.invariant.traced),
 )
 
 pub returns-in-None-clause-own : goal.returns-in-None-clause-own
