@@ -21,6 +21,7 @@ It judges:
 
 A run opens all files of its reports before its workers start, so it needs as many open files as there are report lines.
 """
+import bisect
 import os
 import random
 import re
@@ -103,9 +104,9 @@ def need(holds, *what):
 
 
 def replay(journal, scripts):
-    """The lists after each change, and for each script the changes before and after each of its lines."""
+    """The lists after each change, and for each script its lines in order, each with the number of changes before and after it."""
     lists, loads, unloads = [[]], 0, 0
-    changes = [{} for _ in scripts]
+    changes = [[] for _ in scripts]
     asked = [iter([k for k, line in enumerate(own, 1) if line.split()[0] in ("load", "unload")]) for own in scripts]
     for number, line, said in journal:
         need(next(asked[number - 1], None) == line, "line out of order", number, line)
@@ -131,7 +132,7 @@ def replay(journal, scripts):
                 unloads += 1
             else:
                 need(said == ["notloaded"], "notloaded", number, line, said)
-        changes[number - 1][line] = (before, len(lists) - 1)
+        changes[number - 1].append((line, before, len(lists) - 1))
     for number, rest in enumerate(asked, 1):
         need(next(rest, None) is None, "lines that are not in the journal", number)
     return lists, changes
@@ -139,9 +140,9 @@ def replay(journal, scripts):
 
 def bounds(changes, enter, leave, last):
     """How many changes a hold saw at least as it went in, and at most as it came out."""
-    low = max([after for line, (_, after) in changes.items() if line < enter], default=0)
-    high = min([before for line, (before, _) in changes.items() if line > leave], default=last)
-    return low, high
+    below = bisect.bisect_left(changes, enter, key=lambda change: change[0])
+    above = bisect.bisect_right(changes, leave, key=lambda change: change[0])
+    return changes[below - 1][2] if below else 0, changes[above][1] if above < len(changes) else last
 
 
 def images_in(data):
